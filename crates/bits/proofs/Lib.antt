@@ -1,0 +1,4 @@
+pub mod BitLaws
+pub mod Table
+pub mod IndexLaws
+pub mod FieldLaws

@@ -1,0 +1,1 @@
+// Bits and fields of numbers: definitions and laws alone, in specs/.

@@ -1,0 +1,223 @@
+-- "One tick", step 1: the access, on the state before any event of this tick.
+-- Assumes nothing.
+use Prim.Native.Nat.{ℕ}
+use mathlib.Core.Bool.{Bool, true, false, cond, not, _&&_, _||_}
+use mathlib.Core.List.{List, [], _∷_}
+use lib.Dec.{eqb}
+use Rattle.bits.specs.Bits.{bit, bitsOf, fits}
+use Rattle.classes.specs.Class.{noClass, phaseCyc}
+use Rattle.classes.specs.declared.Class.{Class}
+use Rattle.rules.specs.Answer.{Case, firstOf}
+use Rattle.rules.specs.Map.{offset, decode, isRegister, bits, writeOnly, readOnly, guard, isLock}
+use Rattle.rules.specs.State.{most, localCount, classCount, local, alert, classAt, localColumn, alertColumn, withInterrupts, withLocals, withAlerts, withClasses, withLocalColumn, withAlertColumn, put}
+use Rattle.rules.specs.declared.Access.{Access}
+use Rattle.rules.specs.declared.Access.the-variants.{Nothing, Read, Write, Malformed}
+use Rattle.rules.specs.declared.Accessed.{Accessed}
+use Rattle.rules.specs.declared.Answer.{Answer}
+use Rattle.rules.specs.declared.Field.{Field}
+use Rattle.rules.specs.declared.Handler.{Handler}
+use Rattle.rules.specs.declared.Refusal.the-variants.{NoRegister, WrongWay, Locked, TooWide, BadRecord}
+use Rattle.rules.specs.declared.Register.{Register}
+use Rattle.rules.specs.declared.Register.the-variants.{IntrState, IntrEnable, IntrTest, Local, Alert, Block, Unassigned}
+use Rattle.rules.specs.declared.Setting.{Setting}
+use Rattle.rules.specs.declared.Setting.the-variants.{Ctrl, ClrRegwen, Clr, AccumCnt, AccumThresh, TimeoutCyc, PhaseCyc, EscCnt}
+use Rattle.rules.specs.declared.Verdict.{Verdict}
+
+-- ── what a register holds ──
+
+abbrev pub settingValue : Setting → Class → ℕ
+settingValue Setting.Regwen c = c .regwen
+settingValue Ctrl c = c .ctrl
+settingValue ClrRegwen c = c .clrwen
+settingValue Clr c = 0
+settingValue AccumCnt c = c .accum
+settingValue AccumThresh c = c .thresh
+settingValue TimeoutCyc c = c .timeout
+settingValue (PhaseCyc p) c = phaseCyc c p
+settingValue EscCnt c = c .count
+settingValue Setting.State c = c .state
+
+-- INTR_TEST, CLR and what is no register hold no value
+unfoldable pub value : Handler → Register → ℕ
+value h IntrState = h .interrupts .state
+value h IntrEnable = h .interrupts .enable
+value h IntrTest = 0
+value h (Local f j) = local h f j
+value h (Alert f i) = alert h f i
+value h (Block s k) = settingValue s (classAt h k)
+value h Unassigned = 0
+
+-- a register is locked while the REGWEN that guards it is 0
+unfoldable pub locked : Handler → Register → Bool
+locked h q = isRegister (guard q) && eqb (value h (guard q)) 0
+
+-- ── the refusals of an access, each by its case ──
+
+abbrev pub malformed : Access → Bool
+malformed Nothing = false
+malformed (Read r) = false
+malformed (Write r v) = false
+malformed Malformed = true
+
+-- 1: no such register
+abbrev pub noRegister : Handler → Access → Bool
+noRegister h Nothing = false
+noRegister h (Read r) = not (isRegister (decode (h .n) r))
+noRegister h (Write r v) = not (isRegister (decode (h .n) r))
+noRegister h Malformed = false
+
+-- 2: read of a write-only or write of a read-only register
+abbrev pub wrongWay : Handler → Access → Bool
+wrongWay h Nothing = false
+wrongWay h (Read r) = writeOnly (decode (h .n) r)
+wrongWay h (Write r v) = readOnly (decode (h .n) r)
+wrongWay h Malformed = false
+
+-- 4: written value has a bit outside the field
+abbrev pub tooWide : Handler → Access → Bool
+tooWide h Nothing = false
+tooWide h (Read r) = false
+tooWide h (Write r v) = not (fits (bits (decode (h .n) r)) v)
+tooWide h Malformed = false
+
+-- 3: register locked; in REGWEN and CLR_REGWEN a 0 is accepted again
+abbrev pub bars : Handler → Register → ℕ → Bool
+bars h q v = locked h q && not (isLock q && eqb v 0)
+
+abbrev pub barred : Handler → Access → Bool
+barred h Nothing = false
+barred h (Read r) = false
+barred h (Write r v) = bars h (decode (h .n) r) v
+barred h Malformed = false
+
+-- for an access the order is 5, 1, 2, 4, 3, after 7
+abbrev pub accessCases : Handler → Access → List Case
+accessCases h x =
+    record { refusal = BadRecord; holds = malformed x }
+    ∷ record { refusal = NoRegister; holds = noRegister h x }
+    ∷ record { refusal = WrongWay; holds = wrongWay h x }
+    ∷ record { refusal = TooWide; holds = tooWide h x }
+    ∷ record { refusal = Locked; holds = barred h x }
+    ∷ []
+
+unfoldable pub verdict : Handler → Access → Verdict
+verdict h x = firstOf (accessCases h x)
+
+-- ── an accepted write ──
+
+-- in CAUSE a written 1 clears
+abbrev pub fieldStored : Field → ℕ → ℕ → ℕ
+fieldStored Field.Regwen old v = v
+fieldStored Field.En old v = v
+fieldStored Field.Class old v = v
+fieldStored Field.Cause old v = cond (eqb v 1) 0 old
+
+-- the lengths, with v at p where PHASEp_CYC is written
+abbrev pub lengthsStored : Setting → ℕ → List ℕ → List ℕ
+lengthsStored Setting.Regwen v ls = ls
+lengthsStored Ctrl v ls = ls
+lengthsStored ClrRegwen v ls = ls
+lengthsStored Clr v ls = ls
+lengthsStored AccumCnt v ls = ls
+lengthsStored AccumThresh v ls = ls
+lengthsStored TimeoutCyc v ls = ls
+lengthsStored (PhaseCyc p) v ls = put 4 ls 0 p v
+lengthsStored EscCnt v ls = ls
+lengthsStored Setting.State v ls = ls
+
+-- a class's block with v written at one register
+abbrev pub withSetting : Setting → ℕ → Class → Class
+withSetting s v c =
+    record {
+      lengths = lengthsStored s v (c .lengths);
+      timeout = cond (eqb (offset s) (offset TimeoutCyc)) v (c .timeout);
+      count = c .count;
+      ctrl = cond (eqb (offset s) (offset Ctrl)) v (c .ctrl);
+      accum = c .accum;
+      thresh = cond (eqb (offset s) (offset AccumThresh)) v (c .thresh);
+      regwen = cond (eqb (offset s) (offset Setting.Regwen)) v (c .regwen);
+      clrwen = cond (eqb (offset s) (offset ClrRegwen)) v (c .clrwen);
+      state = c .state;
+    }
+
+-- INTR_STATE: a 1 clears; INTR_TEST: a 1 sets INTR_STATE
+unfoldable pub store : Handler → Register → ℕ → Handler
+store h IntrState v =
+    withInterrupts (record { state = bitsOf 4 (λ k. bit (h .interrupts .state) k && not (bit v k)); enable = h .interrupts .enable }) h
+store h IntrEnable v = withInterrupts (record { state = h .interrupts .state; enable = v }) h
+store h IntrTest v =
+    withInterrupts (record { state = bitsOf 4 (λ k. bit (h .interrupts .state) k || bit v k); enable = h .interrupts .enable }) h
+store h (Local f j) v =
+    withLocals (withLocalColumn f (put localCount (localColumn f (h .locals)) 0 j (fieldStored f (local h f j) v)) (h .locals)) h
+store h (Alert f i) v =
+    withAlerts (withAlertColumn f (put most (alertColumn f (h .alerts)) 0 i (fieldStored f (alert h f i) v)) (h .alerts)) h
+store h (Block s k) v = withClasses (put classCount (h .classes) noClass k (withSetting s v (classAt h k))) h
+store h Unassigned v = h
+
+-- ── the whole access ──
+
+abbrev pub accepts : Verdict → Bool
+accepts Verdict.Accepted = true
+accepts (Verdict.Refused m) = false
+
+abbrev pub accepted : Handler → Access → Bool
+accepted h x = accepts (verdict h x)
+
+abbrev pub written : Handler → Access → Handler
+written h Nothing = h
+written h (Read r) = h
+written h (Write r v) = store h (decode (h .n) r) v
+written h Malformed = h
+
+-- the state after step 1: a refused access does nothing
+unfoldable pub acted : Handler → Access → Handler
+acted h x = cond (accepted h x) (written h x) h
+
+-- a read gives the value, anything else accepted 0
+abbrev pub given : Handler → Access → Answer
+given h Nothing = Answer.Done
+given h (Read r) = Answer.Value (value h (decode (h .n) r))
+given h (Write r v) = Answer.Done
+given h Malformed = Answer.Done
+
+abbrev pub answerBy : Verdict → Answer → Answer
+answerBy Verdict.Accepted a = a
+answerBy (Verdict.Refused m) a = Answer.Refused m
+
+unfoldable pub answerTo : Handler → Access → Answer
+answerTo h x = answerBy (verdict h x) (given h x)
+
+-- is it the CLR of class k?
+abbrev pub settingIsClr : Setting → Bool
+settingIsClr Setting.Regwen = false
+settingIsClr Ctrl = false
+settingIsClr ClrRegwen = false
+settingIsClr Clr = true
+settingIsClr AccumCnt = false
+settingIsClr AccumThresh = false
+settingIsClr TimeoutCyc = false
+settingIsClr (PhaseCyc p) = false
+settingIsClr EscCnt = false
+settingIsClr Setting.State = false
+
+abbrev pub isClrOf : ℕ → Register → Bool
+isClrOf k IntrState = false
+isClrOf k IntrEnable = false
+isClrOf k IntrTest = false
+isClrOf k (Local f j) = false
+isClrOf k (Alert f i) = false
+isClrOf k (Block s j) = settingIsClr s && eqb j k
+isClrOf k Unassigned = false
+
+abbrev pub writesClr : Handler → Access → ℕ → Bool
+writesClr h Nothing k = false
+writesClr h (Read r) k = false
+writesClr h (Write r v) k = isClrOf k (decode (h .n) r) && eqb v 1
+writesClr h Malformed k = false
+
+-- a write of 1 to CLR is an accepted clear; a 0 does nothing
+unfoldable pub clears : Handler → Access → ℕ → Bool
+clears h x k = accepted h x && writesClr h x k
+
+unfoldable pub accessed : Handler → Access → Accessed
+accessed h x = record { handler = acted h x; answer = answerTo h x; clears = bitsOf 4 (clears h x) }

@@ -1,0 +1,10 @@
+pub mod Answer
+pub mod State
+pub mod Map
+pub mod Valid
+pub mod Access
+pub mod Samples
+pub mod Tick
+pub mod Run
+pub mod Record
+pub mod Batch

@@ -1,0 +1,83 @@
+-- "One tick", step 2: the samples.
+-- Assumes nothing.
+use Prim.Native.Nat.{ℕ, _+_, _*_}
+use mathlib.Core.Bool.{Bool, true, false, cond, not, _&&_, _||_}
+use mathlib.Core.List.{List}
+use lib.Dec.{eqb, ltb}
+use lib.ListN.{getD}
+use Rattle.bits.specs.Bits.{wordOf}
+use Rattle.bits.specs.Index.{each, anyTo, placeIn}
+use Rattle.rules.specs.State.{most, words, localCount, local, alert, armed, withLocals, withAlerts, withReceivers, withLocalColumn, withAlertColumn}
+use Rattle.rules.specs.declared.Field.{Field}
+use Rattle.rules.specs.declared.Handler.{Handler}
+use Rattle.rules.specs.declared.Receivers.{Receivers}
+use Rattle.rules.specs.declared.Wires.{Wires}
+
+-- ── one alert: its wire pair and its receiver ──
+
+-- the pair (1,0), the pair (0,1), equal wires
+abbrev pub rises : Bool → Bool → Bool
+rises p m = p && not m
+
+abbrev pub falls : Bool → Bool → Bool
+falls p m = not p && m
+
+abbrev pub equal : Bool → Bool → Bool
+equal p m = (p && m) || (not p && not m)
+
+-- pair (1,0) on a re-armed alert is an event and disarms it; (0,1) re-arms it; equal wires change no arming
+abbrev pub happens : Bool → Bool → Bool → Bool
+happens arm p m = arm && rises p m
+
+abbrev pub armedAfter : Bool → Bool → Bool → Bool
+armedAfter arm p m = cond (rises p m) false (cond (falls p m) true arm)
+
+-- ── alert i of handler g, by the wires w; samples at N and above count for nothing ──
+
+abbrev pub positive : Wires → ℕ → Bool
+positive w i = placeIn (w .pos) i
+
+abbrev pub negative : Wires → ℕ → Bool
+negative w i = placeIn (w .neg) i
+
+abbrev pub alertEnabled : Handler → ℕ → Bool
+alertEnabled g i = eqb (alert g Field.En i) 1
+
+-- an enabled alert's event
+unfoldable pub alertEvent : Handler → Wires → ℕ → Bool
+alertEvent g w i = ltb i (g .n) && (happens (armed g i) (positive w i) (negative w i) && alertEnabled g i)
+
+-- an enabled alert has equal wires
+unfoldable pub alertBroken : Handler → Wires → ℕ → Bool
+alertBroken g w i = ltb i (g .n) && (equal (positive w i) (negative w i) && alertEnabled g i)
+
+unfoldable pub rearmed : Handler → Wires → ℕ → Bool
+rearmed g w i = cond (ltb i (g .n)) (armedAfter (armed g i) (positive w i) (negative w i)) (armed g i)
+
+-- ── local alert j ──
+
+-- local 2 is raised if any enabled alert has equal wires; in the base no other is
+unfoldable pub raised : Handler → Wires → ℕ → Bool
+raised g w j = eqb j 2 && anyTo (alertBroken g w) (g .n)
+
+-- a disabled local alert never occurs
+unfoldable pub occurs : Handler → Wires → ℕ → Bool
+occurs g w j = raised g w j && eqb (local g Field.En j) 1
+
+-- ── the state after step 2, and what is assigned to a class ──
+
+-- an event sets its cause
+abbrev pub marked : Bool → ℕ → ℕ
+marked on cause = cond on 1 cause
+
+unfoldable pub sampled : Handler → Wires → Handler
+sampled g w =
+    withReceivers (record { armed = each words (λ v. wordOf 64 (λ b. rearmed g w (v * 64 + b))) })
+    (withAlerts (withAlertColumn Field.Cause (each most (λ i. marked (alertEvent g w i) (alert g Field.Cause i))) (g .alerts))
+    (withLocals (withLocalColumn Field.Cause (each localCount (λ j. marked (occurs g w j) (local g Field.Cause j))) (g .locals)) g))
+
+-- an enabled alert's event or an occurring local alert is assigned to class k
+unfoldable pub assigned : Handler → Wires → ℕ → Bool
+assigned g w k =
+    anyTo (λ i. alertEvent g w i && eqb (alert g Field.Class i) k) (g .n)
+    || anyTo (λ j. occurs g w j && eqb (local g Field.Class j) k) localCount

@@ -1,0 +1,158 @@
+-- The state by index, and a new handler ("What the stations need").
+-- Assumes nothing.
+use Prim.Native.Nat.{ℕ, _-_, _^_}
+use mathlib.Core.Bool.{Bool, cond, _||_}
+use mathlib.Core.List.{List, [], _∷_}
+use lib.Dec.{eqb, ltb}
+use lib.IntN.{ℤ}
+use lib.ListN.{getD, replicate}
+use Rattle.bits.specs.Index.{each, placeIn}
+use Rattle.classes.specs.Class.{noClass}
+use Rattle.classes.specs.declared.Class.{Class}
+use Rattle.rules.specs.Answer.{number}
+use Rattle.rules.specs.declared.Alerts.{Alerts}
+use Rattle.rules.specs.declared.Answer.{Answer}
+use Rattle.rules.specs.declared.Field.{Field}
+use Rattle.rules.specs.declared.Handler.{Handler}
+use Rattle.rules.specs.declared.Interrupts.{Interrupts}
+use Rattle.rules.specs.declared.Locals.{Locals}
+use Rattle.rules.specs.declared.Made.{Made}
+use Rattle.rules.specs.declared.Receivers.{Receivers}
+use Rattle.rules.specs.declared.Refusal.the-variants.{BadCount}
+
+-- ── sizes ──
+
+-- the most alerts, and the words of 64 that hold a bit of each
+abbrev pub most : ℕ
+most = 64
+
+abbrev pub words : ℕ
+words = 1
+
+-- local alerts and classes
+abbrev pub localCount : ℕ
+localCount = 7
+
+abbrev pub classCount : ℕ
+classCount = 4
+
+-- ── what it holds, by index ──
+
+-- the map's order of an alert's registers: REGWEN, EN, CLASS, CAUSE
+abbrev pub fieldIndex : Field → ℕ
+fieldIndex Field.Regwen = 0
+fieldIndex Field.En = 1
+fieldIndex Field.Class = 2
+fieldIndex Field.Cause = 3
+
+abbrev pub localColumn : Field → Locals → List ℕ
+localColumn Field.Regwen l = l .regwen
+localColumn Field.En l = l .en
+localColumn Field.Class l = l .class
+localColumn Field.Cause l = l .cause
+
+abbrev pub alertColumn : Field → Alerts → List ℕ
+alertColumn Field.Regwen a = a .regwen
+alertColumn Field.En a = a .en
+alertColumn Field.Class a = a .class
+alertColumn Field.Cause a = a .cause
+
+-- register f of local alert j, and of alert i
+abbrev pub local : Handler → Field → ℕ → ℕ
+local h f j = getD (localColumn f (h .locals)) j 0
+
+abbrev pub alert : Handler → Field → ℕ → ℕ
+alert h f i = getD (alertColumn f (h .alerts)) i 0
+
+abbrev pub classAt : Handler → ℕ → Class
+classAt h k = getD (h .classes) k noClass
+
+-- alert i is re-armed
+abbrev pub armed : Handler → ℕ → Bool
+armed h i = placeIn (h .receivers .armed) i
+
+-- ── the state with a part of it anew ──
+
+abbrev pub withInterrupts : Interrupts → Handler → Handler
+withInterrupts x h =
+    record { n = h .n; receivers = h .receivers; classes = h .classes; alerts = h .alerts; locals = h .locals; interrupts = x }
+
+abbrev pub withLocals : Locals → Handler → Handler
+withLocals x h =
+    record { n = h .n; receivers = h .receivers; classes = h .classes; alerts = h .alerts; locals = x; interrupts = h .interrupts }
+
+abbrev pub withAlerts : Alerts → Handler → Handler
+withAlerts x h =
+    record { n = h .n; receivers = h .receivers; classes = h .classes; alerts = x; locals = h .locals; interrupts = h .interrupts }
+
+abbrev pub withReceivers : Receivers → Handler → Handler
+withReceivers x h =
+    record { n = h .n; receivers = x; classes = h .classes; alerts = h .alerts; locals = h .locals; interrupts = h .interrupts }
+
+abbrev pub withClasses : List Class → Handler → Handler
+withClasses x h =
+    record { n = h .n; receivers = h .receivers; classes = x; alerts = h .alerts; locals = h .locals; interrupts = h .interrupts }
+
+abbrev pub withLocalColumn : Field → List ℕ → Locals → Locals
+withLocalColumn f x l =
+    record {
+      regwen = cond (eqb (fieldIndex f) 0) x (l .regwen);
+      en = cond (eqb (fieldIndex f) 1) x (l .en);
+      class = cond (eqb (fieldIndex f) 2) x (l .class);
+      cause = cond (eqb (fieldIndex f) 3) x (l .cause);
+    }
+
+abbrev pub withAlertColumn : Field → List ℕ → Alerts → Alerts
+withAlertColumn f x a =
+    record {
+      regwen = cond (eqb (fieldIndex f) 0) x (a .regwen);
+      en = cond (eqb (fieldIndex f) 1) x (a .en);
+      class = cond (eqb (fieldIndex f) 2) x (a .class);
+      cause = cond (eqb (fieldIndex f) 3) x (a .cause);
+    }
+
+-- the n entries of a list, with v at i
+unfoldable pub put {ℓ} : {A : Type ℓ} → ℕ → List A → A → ℕ → A → List A
+put n xs d i v = each n (λ j. cond (eqb j i) v (getD xs j d))
+
+-- ── a new handler: all REGWEN and CLR_REGWEN start at 1, all CTRL at 0x393C, every other register at 0, classes Idle, alerts re-armed ──
+
+abbrev pub resetClass : Class
+resetClass =
+    record {
+      lengths = replicate 4 0;
+      timeout = 0;
+      count = 0;
+      ctrl = 0x393C;
+      accum = 0;
+      thresh = 0;
+      regwen = 1;
+      clrwen = 1;
+      state = 0;
+    }
+
+unfoldable pub newHandler : ℕ → Handler
+newHandler n =
+    record {
+      n = n;
+      receivers = record { armed = replicate words (2 ^ 64 - 1) };
+      classes = replicate classCount resetClass;
+      alerts = record { regwen = replicate most 1; en = replicate most 0; class = replicate most 0; cause = replicate most 0 };
+      locals =
+          record {
+            regwen = replicate localCount 1;
+            en = replicate localCount 0;
+            class = replicate localCount 0;
+            cause = replicate localCount 0;
+          };
+      interrupts = record { state = 0; enable = 0 };
+    }
+
+-- refusal 6: N is 0 or over the most; it leaves a handler of no alerts, otherwise as new
+abbrev pub badCount : ℕ → Bool
+badCount n = eqb n 0 || ltb most n
+
+unfoldable pub made : ℕ → Made
+made n =
+    cond (badCount n) (record { handler = newHandler 0; answer = number (Answer.Refused BadCount) })
+    (record { handler = newHandler n; answer = number Answer.Done })

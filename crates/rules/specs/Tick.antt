@@ -1,0 +1,75 @@
+-- "One tick, in order": steps 3 to 5, and the whole tick.
+-- Assumes nothing.
+use Prim.Native.Nat.{ℕ}
+use mathlib.Core.Bool.{Bool, true, false, cond, _&&_, _||_}
+use mathlib.Core.List.{List}
+use Rattle.bits.specs.Bits.{bit, bitsOf}
+use Rattle.bits.specs.Index.{each, anyTo}
+use Rattle.classes.specs.Class.{drives}
+use Rattle.classes.specs.Step.{classEvent, classStep}
+use Rattle.classes.specs.declared.Class.{Class}
+use Rattle.classes.specs.declared.Signals.{Signals}
+use Rattle.rules.specs.Access.{acted, answerTo, clears}
+use Rattle.rules.specs.Samples.{assigned, sampled}
+use Rattle.rules.specs.State.{classCount, classAt, withInterrupts, withClasses}
+use Rattle.rules.specs.Valid.{valid}
+use Rattle.rules.specs.declared.Access.{Access}
+use Rattle.rules.specs.declared.Answer.{Answer}
+use Rattle.rules.specs.declared.Handler.{Handler}
+use Rattle.rules.specs.declared.Input.{Input}
+use Rattle.rules.specs.declared.Interrupts.{Interrupts}
+use Rattle.rules.specs.declared.Output.{Output}
+use Rattle.rules.specs.declared.Refusal.the-variants.{BadState}
+use Rattle.rules.specs.declared.Ticked.{Ticked}
+use Rattle.rules.specs.declared.Wires.{Wires}
+
+-- ── steps 3 and 4, of the handler g after step 1, the wires w and the classes with an accepted clear ──
+
+-- class k has an event
+unfoldable pub event : Handler → Wires → ℕ → Bool
+event g w k = classEvent (assigned g w k) (classAt g k)
+
+-- it sets the interrupt bit, after any clearing in step 1
+unfoldable pub interruptNow : Handler → Wires → ℕ → Bool
+interruptNow g w k = bit (g .interrupts .state) k || event g w k
+
+-- what class k meets
+unfoldable pub signals : Handler → Wires → (ℕ → Bool) → ℕ → Signals
+signals g w clear k = record { event = event g w k; interrupt = interruptNow g w k; clear = clear k }
+
+-- the state after steps 2 to 4
+unfoldable pub stepped : Handler → Wires → (ℕ → Bool) → Handler
+stepped g w clear =
+    withClasses (each classCount (λ k. classStep (signals g w clear k) (classAt g k)))
+    (withInterrupts (record { state = bitsOf 4 (interruptNow g w); enable = g .interrupts .enable }) (sampled g w))
+
+-- ── step 5: outputs from the state now reached ──
+
+-- interrupts are INTR_STATE and INTR_ENABLE, bit by bit
+unfoldable pub interrupts : Handler → ℕ
+interrupts h = bitsOf 4 (λ k. bit (h .interrupts .state) k && bit (h .interrupts .enable) k)
+
+-- a line is on if any class drives it
+unfoldable pub lines : Handler → ℕ
+lines h = bitsOf 4 (λ e. anyTo (λ k. drives (classAt h k) e) classCount)
+
+unfoldable pub outputOf : Handler → Output
+outputOf h = record { interrupts = interrupts h; lines = lines h }
+
+-- refusal 7: interrupts and lines 0
+abbrev pub noOutput : Output
+noOutput = record { interrupts = 0; lines = 0 }
+
+-- ── the tick ──
+
+-- the state after steps 1 to 4
+unfoldable pub after : Handler → Input → Handler
+after h x = stepped (acted h (x .access)) (x .sample .alerts) (clears h (x .access))
+
+-- steps 1 to 5
+unfoldable pub tick : Handler → Input → Ticked
+tick h x = let g = after h x in record { handler = g; answer = answerTo h (x .access); output = outputOf g }
+
+-- refusal 7 comes first: state unchanged, tick not run
+unfoldable pub ticked : Handler → Input → Ticked
+ticked h x = cond (valid h) (tick h x) (record { handler = h; answer = Answer.Refused BadState; output = noOutput })

@@ -1,0 +1,36 @@
+-- "Numbers that come back": the rule of refusal 7.
+-- Assumes nothing.
+use Prim.Native.Nat.{ℕ}
+use mathlib.Core.Bool.{Bool, _&&_}
+use mathlib.Core.List.{List}
+use lib.Dec.{leb}
+use lib.ListN.{getD}
+use Rattle.bits.specs.Bits.{fits}
+use Rattle.bits.specs.Index.{allTo}
+use Rattle.classes.specs.Class.{classFits}
+use Rattle.rules.specs.Map.{fieldBits}
+use Rattle.rules.specs.State.{most, localCount, classCount, localColumn, alertColumn, classAt}
+use Rattle.rules.specs.declared.Field.{Field}
+use Rattle.rules.specs.declared.Handler.{Handler}
+
+-- the first n registers of a column hold no more than b bits each
+abbrev pub columnFits : ℕ → List ℕ → ℕ → Bool
+columnFits b xs n = allTo (λ i. fits b (getD xs i 0)) n
+
+-- the four columns of the local alerts, and of the alerts below N
+abbrev pub columnsFit : (Field → List ℕ) → ℕ → Bool
+columnsFit column n =
+    columnFits (fieldBits Field.Regwen) (column Field.Regwen) n
+    && (columnFits (fieldBits Field.En) (column Field.En) n
+    && (columnFits (fieldBits Field.Class) (column Field.Class) n
+    && columnFits (fieldBits Field.Cause) (column Field.Cause) n))
+
+-- Refusal 7 means: N over 64, any register holding more than its field's bits, a STATE of 2, or a class count that is not 0
+-- in Idle or Terminal or is 0 in Timeout or a phase. This is its opposite. It does not look at entries at N and above.
+unfoldable pub valid : Handler → Bool
+valid h =
+    leb (h .n) most
+    && (fits 4 (h .interrupts .state)
+    && (fits 4 (h .interrupts .enable)
+    && (columnsFit (λ f. localColumn f (h .locals)) localCount
+    && (columnsFit (λ f. alertColumn f (h .alerts)) (h .n) && allTo (λ k. classFits (classAt h k)) classCount))))

@@ -1,0 +1,162 @@
+// The types of the handler. Its rules, document 01 section by section, are the definitions in specs/.
+use classes::Class;
+
+// The most alerts that a handler is made for, and the words of 64 that hold a bit of each.
+pub const MOST: usize = 64;
+
+pub const WORDS: usize = 1;
+
+// ---- The state. Integers alone, so that any bytes that come in are a value and refusal 7 judges them. ----
+
+#[repr(C)]
+pub struct Interrupts {
+    // INTR_STATE and INTR_ENABLE: class 0 is the lowest bit
+    pub state: u8,
+    pub enable: u8,
+}
+
+#[repr(C)]
+pub struct Locals {
+    pub regwen: [u8; 7],
+    pub en: [u8; 7],
+    pub class: [u8; 7],
+    pub cause: [u8; 7],
+}
+
+#[repr(C)]
+pub struct Alerts {
+    pub regwen: [u8; MOST],
+    pub en: [u8; MOST],
+    pub class: [u8; MOST],
+    pub cause: [u8; MOST],
+}
+
+// Alert i is re-armed if bit 63 - i % 64 of word i / 64 is 1.
+#[repr(C)]
+pub struct Receivers {
+    pub armed: [u64; WORDS],
+}
+
+#[repr(C)]
+pub struct Handler {
+    pub n: usize,
+    pub receivers: Receivers,
+    pub classes: [Class; 4],
+    pub alerts: Alerts,
+    pub locals: Locals,
+    pub interrupts: Interrupts,
+}
+
+// ---- Registers: a register number decoded into kind and index. ----
+
+// The registers of an alert or a local alert.
+pub enum Field {
+    Regwen,
+    En,
+    Class,
+    Cause,
+}
+
+// The registers of a class's block.
+pub enum Setting {
+    Regwen,
+    Ctrl,
+    ClrRegwen,
+    Clr,
+    AccumCnt,
+    AccumThresh,
+    TimeoutCyc,
+    PhaseCyc(usize),
+    EscCnt,
+    State,
+}
+
+pub enum Register {
+    IntrState,
+    IntrEnable,
+    IntrTest,
+    Local(Field, usize),
+    Alert(Field, usize),
+    Block(Setting, usize),
+    Unassigned,
+}
+
+// ---- What goes in. ----
+
+pub enum Access {
+    Nothing,
+    Read(u16),
+    Write(u16, u32),
+    // what a malformed trace record holds
+    Malformed,
+}
+
+// The wire pair of alert i is at bit 63 - i % 64 of words i / 64.
+#[repr(C)]
+pub struct Wires {
+    pub pos: [u64; WORDS],
+    pub neg: [u64; WORDS],
+}
+
+#[repr(C)]
+pub struct Sample {
+    pub alerts: Wires,
+}
+
+pub struct Input {
+    pub access: Access,
+    pub sample: Sample,
+}
+
+// ---- What comes out. ----
+
+pub enum Refusal {
+    NoRegister,
+    WrongWay,
+    Locked,
+    TooWide,
+    BadRecord,
+    BadCount,
+    BadState,
+    BadLength,
+    ShortList,
+}
+
+pub enum Verdict {
+    Accepted,
+    Refused(Refusal),
+}
+
+// An answer, before it becomes one signed number.
+pub enum Answer {
+    Done,
+    Value(u32),
+    Refused(Refusal),
+}
+
+// Interrupts and lines: class and line 0 are the lowest bits.
+#[repr(C)]
+pub struct Output {
+    pub interrupts: u8,
+    pub lines: u8,
+}
+
+// A handler that was made, and the signed number that answers.
+#[repr(C)]
+pub struct Made {
+    pub handler: Handler,
+    pub answer: i64,
+}
+
+// The state after step 1, the answer, and the classes with an accepted clear, class 0 at the lowest bit.
+pub struct Accessed {
+    pub handler: Handler,
+    pub answer: Answer,
+    pub clears: u8,
+}
+
+pub struct Ticked {
+    pub handler: Handler,
+    pub answer: Answer,
+    pub output: Output,
+}
