@@ -2,14 +2,16 @@
 -- Assumes nothing.
 use Prim.Native.Nat.{ℕ, zero, suc, _-_, _^_}
 use mathlib.Core.List.{List, [], _∷_}
-use lib.IntN.{ℤ}
+use lib.IntN.{ℤ, pos, negℤ}
+use lib.ListN.{set, replicate}
 use Rattle.bits.specs.Bits.{bit, bitsOf, wordOf}
 use Rattle.bits.specs.Index.{eachFrom, anyTo, allTo}
 use Rattle.bits.specs.Fields.{pack, unpack}
+use Rattle.classes.specs.declared.Class.{Class}
 use Rattle.classes.specs.Class.{stateOf, drives, classFits}
 use Rattle.classes.specs.Step.{counted, startsFrom, movedFrom, classStep}
 use Rattle.rules.specs.Answer.{number, firstOf}
-use Rattle.rules.specs.State.{put, newHandler, made}
+use Rattle.rules.specs.State.{put, newHandler, made, resetClass, withAlerts, withClasses}
 use Rattle.rules.specs.Map.{blockAt, decode, numberOf, bits, writeOnly, readOnly, guard, isLock}
 use Rattle.rules.specs.Valid.{valid}
 use Rattle.rules.specs.Access.{value, locked, verdict, store, acted, answerTo, clears, accessed}
@@ -22,22 +24,81 @@ use Rattle.rules.specs.Batch.{inputsOf, batchVerdict, batchOf, batch}
 use Rattle.rules.specs.declared.Access.{Access}
 use Rattle.rules.specs.declared.Handler.{Handler}
 use Rattle.rules.specs.declared.Input.{Input}
+use Rattle.rules.specs.declared.Register.{Register}
 
 -- names every definition that an example computes with: `unfolding rules` opens them all
 unfoldable pub rules : ℕ → ℕ
 unfolding bit bitsOf wordOf eachFrom anyTo allTo pack unpack stateOf drives classFits counted startsFrom movedFrom classStep number firstOf put newHandler made blockAt decode numberOf bits writeOnly readOnly guard isLock valid value locked verdict store acted answerTo clears accessed alertEvent alertBroken rearmed raised occurs sampled assigned event interruptNow signals stepped interrupts lines outputOf after tick ticked run ticks accessOf inputOf Record.wordOf inputsOf batchVerdict batchOf batch
 rules n = n
 
--- the access with all wires at (0,1)
-abbrev pub still : Access → Input
-still x = record { access = x; sample = record { alerts = record { pos = 0 ∷ []; neg = (2 ^ 64 - 1) ∷ [] } } }
+-- ── inputs ──
 
--- the access with alert i's wires at (1,0)
-abbrev pub rising : ℕ → Access → Input
-rising i x = record { access = x; sample = record { alerts = record { pos = 2 ^ (63 - i) ∷ []; neg = (2 ^ 64 - 1 - 2 ^ (63 - i)) ∷ [] } } }
+abbrev pub ones : ℕ
+ones = 2 ^ 64 - 1
 
-abbrev pub write : ℕ → ℕ → Input
-write r v = still (Access.Write r v)
+-- an access with these positive and negative wires
+abbrev pub wired : ℕ → ℕ → Access → Input
+wired p m x = record { access = x; sample = record { alerts = record { pos = p ∷ []; neg = m ∷ [] } } }
 
-abbrev pub read : ℕ → Input
-read r = still (Access.Read r)
+-- alert i's place in a word of wires
+abbrev pub wire : ℕ → ℕ
+wire i = 2 ^ (63 - i)
+
+-- all wires at (0,1)
+abbrev pub rest : Access → Input
+rest x = wired 0 ones x
+
+-- alert i at (1,0), the others at (0,1)
+abbrev pub raise : ℕ → Access → Input
+raise i x = wired (wire i) (ones - wire i) x
+
+-- alert i at (1,1) or at (0,0), the others at (0,1)
+abbrev pub bothHigh : ℕ → Access → Input
+bothHigh i x = wired (wire i) ones x
+
+abbrev pub bothLow : ℕ → Access → Input
+bothLow i x = wired 0 (ones - wire i) x
+
+abbrev pub none : Access
+none = Access.Nothing
+
+abbrev pub write : Register → ℕ → Access
+write q v = Access.Write (numberOf q) v
+
+abbrev pub read : Register → Access
+read q = Access.Read (numberOf q)
+
+-- ── what is seen ──
+
+abbrev pub gives : Handler → Input → ℤ
+gives h x = number (ticked h x .answer)
+
+abbrev pub refused : ℕ → ℤ
+refused m = negℤ (pos m)
+
+-- the state after an access with all wires at (0,1)
+abbrev pub then : Handler → Access → Handler
+then h x = ticked h (rest x) .handler
+
+-- ── handlers ──
+
+-- an Idle class with this CTRL, ACCUM_THRESH, TIMEOUT_CYC and lengths
+abbrev pub settings : ℕ → ℕ → ℕ → List ℕ → Class
+settings ctrl thresh timeout lengths =
+    record { lengths = lengths; timeout = timeout; count = 0; ctrl = ctrl; accum = 0; thresh = thresh; regwen = 1; clrwen = 1; state = 0 }
+
+abbrev pub zeros : List ℕ
+zeros = replicate 4 0
+
+-- a new handler of n alerts but for these EN and CLASS columns and class k
+abbrev pub station : ℕ → List ℕ → List ℕ → ℕ → Class → Handler
+station n ens classes k c =
+    withClasses (set (replicate 4 resetClass) k c)
+    (withAlerts (record { regwen = replicate 64 1; en = ens; class = classes; cause = replicate 64 0 }) (newHandler n))
+
+-- two alerts, both enabled in class 0, which has EN, LOCK, all lines and these settings
+abbrev pub pair : ℕ → ℕ → List ℕ → Handler
+pair thresh timeout lengths = station 2 (1 ∷ 1 ∷ replicate 62 0) (replicate 64 0) 0 (settings 0x393F thresh timeout lengths)
+
+abbrev pub ready : ℕ → Handler
+ready thresh = pair thresh 0 zeros

@@ -14,4 +14,4 @@ run h (x ∷ xs) = run (ticked h x .handler) xs
 -- what each of them gives
 unfoldable pub ticks : Handler → List Input → List Ticked
 ticks h [] = []
-ticks h (x ∷ xs) = ticked h x ∷ ticks (ticked h x .handler) xs
+ticks h (x ∷ xs) = let t = ticked h x in t ∷ ticks (t .handler) xs

@@ -1,0 +1,171 @@
+-- What a store changes, by index: a list's entry, a column of the alerts, a class's block.
+-- Assumes nothing.
+use Prim.Native.Nat.{ℕ, zero, suc, _+_, _<_}
+use mathlib.Core.Path.{_≡_, refl, sym, ap, _∙_, subst}
+use mathlib.Core.Logic.{_⊎_, inl, inr, ⊎-elim}
+use mathlib.Core.Bool.{Bool, true, false, cond, _&&_}
+use mathlib.Core.List.{List}
+use native.Mathlib.Omega.{arith}
+use native.Mathlib.Decide.{ℕ-discrete}
+use borrow.Author.Tests.{eqb-true, ltb-true, eq-eqb, ne-eqb}
+use lib.Dec.{eqb}
+use lib.ListN.{getD}
+use Rattle.bits.proofs.IndexLaws.{at-each}
+use Rattle.classes.specs.declared.Class.{Class}
+use Rattle.rules.specs.Access.{fieldStored, settingValue, lengthsStored, withSetting}
+use Rattle.rules.specs.Map.{offset}
+use Rattle.rules.specs.State.{fieldIndex, localColumn, alertColumn, withLocalColumn, withAlertColumn, put}
+use Rattle.rules.specs.declared.Alerts.{Alerts}
+use Rattle.rules.specs.declared.Field.{Field}
+use Rattle.rules.specs.declared.Locals.{Locals}
+use Rattle.rules.specs.declared.Register.{Register}
+use Rattle.rules.specs.declared.Register.the-variants.{IntrState, IntrEnable, IntrTest, Local, Alert, Block, Unassigned}
+use Rattle.rules.specs.declared.Setting.{Setting}
+use Rattle.rules.specs.declared.Setting.the-variants.{Ctrl, ClrRegwen, Clr, AccumCnt, AccumThresh, TimeoutCyc, PhaseCyc, EscCnt}
+use Rattle.laws.specs.Assigned.{settingExists}
+use Rattle.laws.specs.RegisterFile.{settingStored}
+
+-- ── cases ──
+
+-- what holds of each kind of register holds of a register
+pub by-kind : (P : Register → Type 0) → P IntrState → P IntrEnable → P IntrTest → ((f : Field) (j : ℕ) → P (Local f j))
+    → ((f : Field) (i : ℕ) → P (Alert f i)) → ((s : Setting) (k : ℕ) → P (Block s k)) → P Unassigned → (q : Register) → P q
+by-kind P a b c l r s u IntrState = a
+by-kind P a b c l r s u IntrEnable = b
+by-kind P a b c l r s u IntrTest = c
+by-kind P a b c l r s u (Local f j) = l f j
+by-kind P a b c l r s u (Alert f i) = r f i
+by-kind P a b c l r s u (Block t k) = s t k
+by-kind P a b c l r s u Unassigned = u
+
+-- of each field of an alert, and of each register of a block
+pub by-field : (P : Field → Type 0) → P Field.Regwen → P Field.En → P Field.Class → P Field.Cause → (f : Field) → P f
+by-field P a b c d Field.Regwen = a
+by-field P a b c d Field.En = b
+by-field P a b c d Field.Class = c
+by-field P a b c d Field.Cause = d
+
+-- of each register of a block
+pub by-setting : (P : Setting → Type 0) → P Setting.Regwen → P Ctrl → P ClrRegwen → P Clr → P AccumCnt → P AccumThresh → P TimeoutCyc
+    → ((p : ℕ) → P (PhaseCyc p)) → P EscCnt → P Setting.State → (s : Setting) → P s
+by-setting P a b c d e f g h i j Setting.Regwen = a
+by-setting P a b c d e f g h i j Ctrl = b
+by-setting P a b c d e f g h i j ClrRegwen = c
+by-setting P a b c d e f g h i j Clr = d
+by-setting P a b c d e f g h i j AccumCnt = e
+by-setting P a b c d e f g h i j AccumThresh = f
+by-setting P a b c d e f g h i j TimeoutCyc = g
+by-setting P a b c d e f g h i j (PhaseCyc p) = h p
+by-setting P a b c d e f g h i j EscCnt = i
+by-setting P a b c d e f g h i j Setting.State = j
+
+-- a test of which both ways are one
+pub cond-same : {A : Type 0} (b : Bool) (x : A) → x ≡ cond b x x
+cond-same true x = refl
+cond-same false x = refl
+
+-- ── an entry of a list ──
+
+module _ {A : Type 0} (n : ℕ) (xs : List A) (d : A) (i j : ℕ) (h : j < n) where
+  -- entry j, with v put at i
+  pub at-put : (v : A) → getD (put n xs d i v) j d ≡ cond (eqb j i) v (getD xs j d)
+  unfolding put
+  at-put v = at-each n (λ m. cond (eqb m i) v (getD xs m d)) j d h
+
+  -- an entry made of the old one
+  pub at-changed : (f : A → A) → getD (put n xs d i (f (getD xs i d))) j d ≡ cond (eqb j i) (f (getD xs j d)) (getD xs j d)
+  at-changed f = at-put (f (getD xs i d)) ∙ go (eqb j i) refl
+    where
+      go : (b : Bool) → eqb j i ≡ b → cond b (f (getD xs i d)) (getD xs j d) ≡ cond b (f (getD xs j d)) (getD xs j d)
+      go true e = ap (λ (m : ℕ). f (getD xs m d)) (sym (eqb-true j i e))
+      go false e = refl
+
+-- ── a column of the alerts ──
+
+-- the field of an index, and back
+fieldAt : ℕ → Field
+fieldAt zero = Field.Regwen
+fieldAt (suc zero) = Field.En
+fieldAt (suc (suc zero)) = Field.Class
+fieldAt (suc (suc (suc m))) = Field.Cause
+
+field-at : (f : Field) → fieldAt (fieldIndex f) ≡ f
+unfolding fieldAt
+field-at Field.Regwen = refl
+field-at Field.En = refl
+field-at Field.Class = refl
+field-at Field.Cause = refl
+
+-- fields of one index are one
+pub field-eq : (f g : Field) → fieldIndex f ≡ fieldIndex g → f ≡ g
+field-eq f g e = sym (field-at f) ∙ ap fieldAt e ∙ field-at g
+
+-- a column of the local alerts, once that of field f is x
+pub local-column : (f g : Field) (x : List ℕ) (l : Locals)
+    → localColumn g (withLocalColumn f x l) ≡ cond (eqb (fieldIndex f) (fieldIndex g)) x (localColumn g l)
+local-column f Field.Regwen x l = refl
+local-column f Field.En x l = refl
+local-column f Field.Class x l = refl
+local-column f Field.Cause x l = refl
+
+-- the same of the alerts
+pub alert-column : (f g : Field) (x : List ℕ) (a : Alerts)
+    → alertColumn g (withAlertColumn f x a) ≡ cond (eqb (fieldIndex f) (fieldIndex g)) x (alertColumn g a)
+alert-column f Field.Regwen x a = refl
+alert-column f Field.En x a = refl
+alert-column f Field.Class x a = refl
+alert-column f Field.Cause x a = refl
+
+-- of columns by field, that of field f with v stored at j
+pub column-stored : (column : Field → List ℕ) (n : ℕ) (f g : Field) (j i v : ℕ) → i < n
+    → getD (cond (eqb (fieldIndex f) (fieldIndex g)) (put n (column f) 0 j (fieldStored f (getD (column f) j 0) v)) (column g)) i 0
+    ≡ cond (eqb (fieldIndex f) (fieldIndex g) && eqb i j) (fieldStored g (getD (column g) i 0) v) (getD (column g) i 0)
+column-stored column n f g j i v l = go (eqb (fieldIndex f) (fieldIndex g)) refl
+  where
+    go : (b : Bool) → eqb (fieldIndex f) (fieldIndex g) ≡ b
+        → getD (cond b (put n (column f) 0 j (fieldStored f (getD (column f) j 0) v)) (column g)) i 0
+        ≡ cond (b && eqb i j) (fieldStored g (getD (column g) i 0) v) (getD (column g) i 0)
+    go true e =
+        subst
+        (λ (x : Field). getD (put n (column f) 0 j (fieldStored f (getD (column f) j 0) v)) i 0
+        ≡ cond (eqb i j) (fieldStored x (getD (column x) i 0) v) (getD (column x) i 0))
+        (field-eq f g (eqb-true (fieldIndex f) (fieldIndex g) e)) (at-changed n (column f) 0 j i l (λ old. fieldStored f old v))
+    go false e = refl
+
+-- ── a class's block ──
+
+-- the length of phase p after a store
+module _ (v : ℕ) (ls : List ℕ) (p : ℕ) (h : p < 4) where
+  -- a register of the block that is no length
+  elsewhere : (o : ℕ) → (o < 7) ⊎ (10 < o) → getD ls p 0 ≡ cond (eqb o (7 + p)) v (getD ls p 0)
+  elsewhere o l = ap (λ (t : Bool). cond t v (getD ls p 0)) (sym (ne-eqb o (7 + p) (λ (e : o ≡ 7 + p). ⊎-elim (λ (m : o < 7). omega arith) (λ (m : 10 < o). omega arith) l)))
+
+  length-stored : (s : Setting) → getD (lengthsStored s v ls) p 0 ≡ cond (eqb (offset s) (7 + p)) v (getD ls p 0)
+  length-stored Setting.Regwen = elsewhere 0 (inl (omega arith))
+  length-stored Ctrl = elsewhere 1 (inl (omega arith))
+  length-stored ClrRegwen = elsewhere 2 (inl (omega arith))
+  length-stored Clr = elsewhere 3 (inl (omega arith))
+  length-stored AccumCnt = elsewhere 4 (inl (omega arith))
+  length-stored AccumThresh = elsewhere 5 (inl (omega arith))
+  length-stored TimeoutCyc = elsewhere 6 (inl (omega arith))
+  length-stored (PhaseCyc i) = at-put 4 ls 0 i p h v ∙ ap (λ (t : Bool). cond t v (getD ls p 0)) (go (ℕ-discrete p i))
+    where
+      go : Dec (p ≡ i) → eqb p i ≡ eqb (7 + i) (7 + p)
+      go (yes e) = eq-eqb p i e ∙ sym (eq-eqb (7 + i) (7 + p) (omega arith))
+      go (no e) = ne-eqb p i e ∙ sym (ne-eqb (7 + i) (7 + p) (λ (d : 7 + i ≡ 7 + p). e (omega arith)))
+  length-stored EscCnt = elsewhere 11 (inr (omega arith))
+  length-stored Setting.State = elsewhere 12 (inr (omega arith))
+
+-- register t of the block, once v is stored at s
+pub setting-value : (s t : Setting) (v : ℕ) (c : Class) → settingExists t ≡ true
+    → settingValue t (withSetting s v c) ≡ cond (eqb (offset s) (offset t)) (settingStored t (settingValue t c) v) (settingValue t c)
+setting-value s Setting.Regwen v c e = refl
+setting-value s Ctrl v c e = refl
+setting-value s ClrRegwen v c e = refl
+setting-value s Clr v c e = cond-same (eqb (offset s) 3) 0
+setting-value s AccumCnt v c e = cond-same (eqb (offset s) 4) (c .accum)
+setting-value s AccumThresh v c e = refl
+setting-value s TimeoutCyc v c e = refl
+setting-value s (PhaseCyc p) v c e = length-stored v (c .lengths) p (ltb-true p 4 e) s
+setting-value s EscCnt v c e = cond-same (eqb (offset s) 11) (c .count)
+setting-value s Setting.State v c e = cond-same (eqb (offset s) 12) (c .state)

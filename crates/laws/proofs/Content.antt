@@ -1,0 +1,168 @@
+-- What a tick makes of one class, its interrupt bit and the lines: by the class, the access to its block and its signals alone.
+-- Assumes nothing.
+use Prim.Native.Nat.{ℕ, _<_}
+use mathlib.Core.Path.{_≡_, refl, sym, ap, ap₂, _∙_, subst}
+use mathlib.Core.Logic.{_↔_}
+use mathlib.Core.Bool
+use mathlib.Core.Bool.{Bool, true, false, cond, not, _&&_, _||_}
+use borrow.Author.Tests.{ltb-true, eq-eqb}
+use lib.Dec.{eqb, ltb}
+use Rattle.bits.specs.Bits.{bit, fits}
+use Rattle.bits.specs.Index.{anyTo}
+use Rattle.bits.proofs.BitLaws.{bit-bitsOf}
+use Rattle.bits.proofs.IndexLaws.{and-true, any-at, any-some}
+use Rattle.classes.specs.Class.{drives}
+use Rattle.classes.specs.Step.{classStep}
+use Rattle.classes.specs.declared.Class.{Class}
+use Rattle.rules.specs.Access.{value, locked, bars, withSetting, store, accepted, acted, settingIsClr, isClrOf, clears}
+use Rattle.rules.specs.Map.{decode, isRegister, settingBits, bits, settingReadOnly, readOnly, guard, settingLocks, isLock}
+use Rattle.rules.specs.State.{classCount, classAt}
+use Rattle.rules.specs.Tick.{event, interruptNow, signals, stepped, lines, after}
+use Rattle.rules.specs.declared.Access.{Access}
+use Rattle.rules.specs.declared.Access.the-variants.{Nothing, Read, Write, Malformed}
+use Rattle.rules.specs.declared.Handler.{Handler}
+use Rattle.rules.specs.declared.Input.{Input}
+use Rattle.rules.specs.declared.Register.{Register}
+use Rattle.rules.specs.declared.Register.the-variants.{Block}
+use Rattle.rules.specs.declared.Setting.{Setting}
+use Rattle.laws.specs.Assigned.{assigned, settingExists}
+use Rattle.laws.specs.Block.{classStored, settingLocked, blockAccepts, blockWritten, blockClears, ofBlock, writesBlock, Unmoved}
+use Rattle.laws.proofs.Clears.{clears-by}
+use Rattle.laws.proofs.ColumnLaws.{by-kind, by-setting, cond-same}
+use Rattle.laws.proofs.Frame.{stepped-class}
+use Rattle.laws.proofs.MapLaws.{decode-assigned}
+use Rattle.laws.proofs.RegisterFile.{class-stored}
+use Rattle.laws.proofs.Refusals.{accepted-write}
+
+-- ── steps 2 to 4 ──
+
+-- class k after the tick: its step, by its signals, from what the access left
+pub after-class : (h : Handler) (x : Input) (k : ℕ) → k < classCount
+    → classAt (after h x) k
+    ≡ classStep (signals (acted h (x .access)) (x .sample .alerts) (clears h (x .access)) k) (classAt (acted h (x .access)) k)
+unfolding after
+after-class h x k l = stepped-class (acted h (x .access)) (x .sample .alerts) (clears h (x .access)) k l
+
+-- its interrupt bit: as the access left it, or set by an event
+pub after-bit : (h : Handler) (x : Input) (k : ℕ) → k < classCount
+    → bit (after h x .interrupts .state) k
+    ≡ (bit (acted h (x .access) .interrupts .state) k || event (acted h (x .access)) (x .sample .alerts) k)
+unfolding after stepped interruptNow
+after-bit h x k l = bit-bitsOf 4 (interruptNow (acted h (x .access)) (x .sample .alerts)) k l
+
+-- a line is on where a class drives it
+pub line-is : (h : Handler) (e : ℕ) → e < 4 → (bit (lines h) e ≡ true) ↔ ((k : ℕ) × (k < classCount) × (drives (classAt h k) e ≡ true))
+unfolding lines
+line-is h e l = (λ b. any-some on classCount (sym is ∙ b), λ d. is ∙ any-at on classCount (d .0) (d .1) (d .2))
+  where
+    on : ℕ → Bool
+    on k = drives (classAt h k) e
+
+    is : bit (lines h) e ≡ anyTo on classCount
+    is = bit-bitsOf 4 (λ e. anyTo (λ k. drives (classAt h k) e) classCount) e l
+
+-- ── step 1 ──
+
+module _ (h : Handler) (r v k : ℕ) where
+  -- class k after a write
+  acted-class : k < classCount → classAt (acted h (Write r v)) k ≡ cond (accepted h (Write r v)) (classStored (decode (h .n) r) v k (classAt h k)) (classAt h k)
+  unfolding acted
+  acted-class l = go (accepted h (Write r v))
+    where
+      go : (b : Bool) → classAt (cond b (store h (decode (h .n) r) v) h) k ≡ cond b (classStored (decode (h .n) r) v k (classAt h k)) (classAt h k)
+      go true = class-stored h (decode (h .n) r) v k l
+      go false = refl
+
+  module _ (s : Setting) (e : decode (h .n) r ≡ Block s k) where
+    -- a decoded class is one of the four
+    block-lt : k < classCount
+    block-lt =
+        let a : assigned (h .n) (Block s k) ≡ true =
+        ap (assigned (h .n)) (sym e) ∙ decode-assigned (h .n) r (ap isRegister e) in
+        ltb-true k classCount (and-true (ltb k classCount) (settingExists s) a .0)
+
+    -- a register of the block is locked by the block
+    block-locked : locked h (Block s k) ≡ settingLocked s (classAt h k)
+    unfolding locked guard value
+    block-locked =
+        by-setting (λ s. locked h (Block s k) ≡ settingLocked s (classAt h k)) refl refl refl refl refl refl refl (λ p. refl) refl refl s
+
+    -- and a write to it is accepted by the block
+    block-accepted : accepted h (Write r v) ≡ blockAccepts s v (classAt h k)
+    unfolding blockAccepts readOnly bits isLock
+    block-accepted =
+        accepted-write h r v
+        ∙ ap (λ (q : Register). isRegister q && (not (readOnly q) && (fits (bits q) v && not (bars h q v)))) e
+        ∙ ap (λ (b : Bool). not (settingReadOnly s) && (fits (settingBits s) v && not (b && not (settingLocks s && eqb v 0)))) block-locked
+
+    -- a write to class k's block, by the block alone
+    pub acted-class-own : classAt (acted h (Write r v)) k ≡ blockWritten s v (classAt h k)
+    unfolding blockWritten
+    acted-class-own =
+        acted-class block-lt
+        ∙ ap₂ (λ (b : Bool) (q : Register). cond b (classStored q v k (classAt h k)) (classAt h k)) block-accepted e
+        ∙ ap (λ (t : Bool). cond (blockAccepts s v (classAt h k)) (cond t (withSetting s v (classAt h k)) (classAt h k)) (classAt h k))
+        (eq-eqb k k refl)
+
+    -- and whether it is an accepted clear
+    pub clears-own : clears h (Write r v) k ≡ blockClears s v (classAt h k)
+    unfolding clears blockClears
+    clears-own =
+        ap₂ _&&_ block-accepted
+        (ap (λ (q : Register). isClrOf k q && eqb v 1) e
+        ∙ ap (λ (t : Bool). settingIsClr s && t && eqb v 1) (eq-eqb k k refl)
+        ∙ ap (λ (t : Bool). t && eqb v 1) (mathlib.Core.Bool.and-true (settingIsClr s)))
+
+-- a store at no register of class k's block
+stored-other : (q : Register) (v k : ℕ) (c : Class) → ofBlock k q ≡ false → classStored q v k c ≡ c
+stored-other q v k c =
+    by-kind (λ q. ofBlock k q ≡ false → classStored q v k c ≡ c) (λ e. refl) (λ e. refl) (λ e. refl) (λ f j e. refl) (λ f i e. refl)
+    (λ s j e. ap (λ (t : Bool). cond t (withSetting s v c) c) e) (λ e. refl) q
+
+-- an access that does not write class k's block leaves it
+pub acted-class-other : (h : Handler) (x : Access) (k : ℕ) → k < classCount → writesBlock h x k ≡ false → classAt (acted h x) k ≡ classAt h k
+unfolding acted
+acted-class-other h Nothing k l e = ap (λ (g : Handler). classAt g k) (sym (cond-same (accepted h Nothing) h))
+acted-class-other h (Read r) k l e = ap (λ (g : Handler). classAt g k) (sym (cond-same (accepted h (Read r)) h))
+acted-class-other h (Write r v) k l e =
+    acted-class h r v k l
+    ∙ ap (λ (c : Class). cond (accepted h (Write r v)) c (classAt h k)) (stored-other (decode (h .n) r) v k (classAt h k) e)
+    ∙ sym (cond-same (accepted h (Write r v)) (classAt h k))
+acted-class-other h Malformed k l e = ap (λ (g : Handler). classAt g k) (sym (cond-same (accepted h Malformed) h))
+
+-- or clears it
+pub clears-other : (h : Handler) (x : Access) (k : ℕ) → writesBlock h x k ≡ false → clears h x k ≡ false
+clears-other h x k e = go (clears h x k) refl
+  where
+    go : (b : Bool) → clears h x k ≡ b → b ≡ false
+    go true d =
+        let c = clears-by h x k d in
+        sym (eq-eqb k k refl) ∙ sym (ap (ofBlock k) (c .names)) ∙ ap (λ (y : Access). writesBlock h y k) (sym (c .access)) ∙ e
+    go false d = refl
+
+-- equal classes
+same : {c d : Class} → d ≡ c → Unmoved c d
+same e = (ap (λ (c : Class). c .state) e, ap (λ (c : Class). c .count) e, ap (λ (c : Class). c .accum) e)
+
+-- a store does not move STATE, ESC_CNT and ACCUM_CNT
+stored-place : (q : Register) (v k : ℕ) (c : Class) → Unmoved c (classStored q v k c)
+stored-place q v k c =
+    by-kind (λ q. Unmoved c (classStored q v k c)) still still still (λ f j. still) (λ f i. still) (λ s j. go s (eqb k j)) still q
+  where
+    still : Unmoved c c
+    still = (refl, refl, refl)
+
+    go : (s : Setting) (b : Bool) → Unmoved c (cond b (withSetting s v c) c)
+    go s true = (refl, refl, refl)
+    go s false = still
+
+-- nor does an access
+pub acted-place : (h : Handler) (x : Access) (k : ℕ) → k < classCount → Unmoved (classAt h k) (classAt (acted h x) k)
+acted-place h Nothing k l = same (acted-class-other h Nothing k l refl)
+acted-place h (Read r) k l = same (acted-class-other h (Read r) k l refl)
+acted-place h (Write r v) k l = subst (Unmoved (classAt h k)) (sym (acted-class h r v k l)) (go (accepted h (Write r v)))
+  where
+    go : (b : Bool) → Unmoved (classAt h k) (cond b (classStored (decode (h .n) r) v k (classAt h k)) (classAt h k))
+    go true = stored-place (decode (h .n) r) v k (classAt h k)
+    go false = (refl, refl, refl)
+acted-place h Malformed k l = same (acted-class-other h Malformed k l refl)

@@ -1,0 +1,147 @@
+-- A tick never leads to a state that refusal 7 would meet: a new handler is valid, and every step of a tick keeps it so.
+-- Assumes nothing.
+use Prim.Native.Nat.{ℕ, _^_, _≤_, _<_}
+use mathlib.Core.Path.{_≡_, refl, sym, subst}
+use mathlib.Core.Bool.{Bool, true, false, false≢true, _&&_, _||_}
+use mathlib.Core.List.{List, [], _∷_}
+use native.Mathlib.Omega.{arith}
+use borrow.Author.Tests.{ltb-false}
+use lib.Dec.{eqb, ltb}
+use lib.ListN.{getD, replicate, getD-replicate}
+use Rattle.bits.proofs.BitLaws.{bitsOf-lt}
+use Rattle.bits.proofs.IndexLaws.{at-each}
+use Rattle.classes.specs.Class.{noClass, stateOf}
+use Rattle.classes.specs.Step.{classStep}
+use Rattle.rules.specs.Access.{acted, clears}
+use Rattle.rules.specs.Batch.{batch, batchOf, batchInputs, batchVerdict}
+use Rattle.rules.specs.Map.{fieldBits}
+use Rattle.rules.specs.Run.{run}
+use Rattle.rules.specs.Samples.{sampled, marked, alertEvent, occurs}
+use Rattle.rules.specs.State.{most, localCount, classCount, local, alert, classAt, resetClass, newHandler, badCount, made}
+use Rattle.rules.specs.Tick.{signals, stepped, after, tick, ticked}
+use Rattle.rules.specs.Valid.{valid}
+use Rattle.rules.specs.declared.Field.{Field}
+use Rattle.rules.specs.declared.Handler.{Handler}
+use Rattle.rules.specs.declared.Input.{Input}
+use Rattle.rules.specs.declared.Made.{Made}
+use Rattle.rules.specs.declared.Ticked.{Ticked}
+use Rattle.rules.specs.declared.Wires.{Wires}
+use Rattle.laws.specs.Columns.{sameField}
+use Rattle.laws.specs.Facts.{ClassValid, Valid}
+use Rattle.laws.proofs.Columns.{pick, local-sampled, alert-sampled}
+use Rattle.laws.proofs.KeepsAccess.{acted-valid}
+use Rattle.laws.proofs.KeepsClass.{step-valid}
+use Rattle.laws.proofs.ValidLaws.{facts, is-valid}
+
+-- ── steps 2 to 4 ──
+
+-- a CAUSE that is set fits
+marked-fits : (f : Field) (on : Bool) (x : ℕ) → x < 2 ^ fieldBits f → marked (sameField Field.Cause f && on) x < 2 ^ fieldBits f
+marked-fits Field.Regwen on x l = l
+marked-fits Field.En on x l = l
+marked-fits Field.Class on x l = l
+marked-fits Field.Cause on x l = pick (λ n. n < 2) on 1 x (λ _. omega arith) (λ _. l)
+
+stepped-facts : (g : Handler) (w : Wires) (clear : ℕ → Bool) → Valid g → Valid (stepped g w clear)
+unfolding stepped sampled
+stepped-facts g w clear t =
+    record {
+      n = t .n;
+      state = bitsOf-lt 4 _;
+      enable = t .enable;
+      locals = λ f j b. rw (local-sampled g w f j b) (marked-fits f (occurs g w j) (local g f j) (t .locals f j b));
+      alerts = λ f i b. rw (alert-sampled g w f i (omega (arith, t .n))) (marked-fits f (alertEvent g w i) (alert g f i) (t .alerts f i b));
+      classes = λ k b. rw (at-each classCount (λ j. classStep (signals g w clear j) (classAt g j)) k noClass b) (step-valid (signals g w clear k) (classAt g k) (t .classes k b));
+    }
+
+-- steps 2 to 4 keep a state valid, whatever the wires and the clears
+pub stepped-valid : (g : Handler) (w : Wires) (clear : ℕ → Bool) → valid g ≡ true → valid (stepped g w clear) ≡ true
+stepped-valid g w clear e = is-valid (stepped g w clear) (stepped-facts g w clear (facts g e))
+
+-- ── ticks ──
+
+-- steps 1 to 4
+pub after-valid : (h : Handler) (x : Input) → valid h ≡ true → valid (after h x) ≡ true
+unfolding after
+after-valid h x e = stepped-valid (acted h (x .access)) (x .sample .alerts) (clears h (x .access)) (acted-valid h (x .access) e)
+
+-- a tick
+pub ticked-valid : (h : Handler) (x : Input) → valid h ≡ true → valid (ticked h x .handler) ≡ true
+unfolding ticked tick
+ticked-valid h x e = pick (λ (t : Ticked). valid (t .handler) ≡ true) (valid h) _ _ (λ _. after-valid h x e) (λ _. e)
+
+-- any number of ticks
+pub run-valid : (h : Handler) (xs : List Input) → valid h ≡ true → valid (run h xs) ≡ true
+unfolding run
+run-valid h [] e = e
+run-valid h (x ∷ xs) e = run-valid (ticked h x .handler) xs (ticked-valid h x e)
+
+-- a batch, refused or not
+pub batch-valid : (h : Handler) (bytes out : List ℕ) → valid h ≡ true → valid (batch h bytes out .handler) ≡ true
+unfolding batch batchOf
+batch-valid h bytes out e = run-valid h (batchInputs (batchVerdict h bytes out) bytes) e
+
+-- ── a new handler ──
+
+-- a list of one value
+same-fits : (n a b i : ℕ) → a < b → i < n → getD (replicate n a) i 0 < b
+same-fits n a b i l h = subst (λ (x : ℕ). x < b) (sym (getD-replicate n i a 0 h)) l
+
+-- a class at reset
+reset-valid : ClassValid resetClass
+unfolding stateOf
+reset-valid =
+    record {
+      regwen = omega arith;
+      ctrl = omega arith;
+      clrwen = omega arith;
+      accum = omega arith;
+      thresh = omega arith;
+      timeout = omega arith;
+      lengths = λ p h. same-fits 4 0 (2 ^ 32) p (omega arith) h;
+      count = omega arith;
+      state = refl;
+      suits = refl;
+    }
+
+new-locals : (n : ℕ) (f : Field) (j : ℕ) → j < localCount → local (newHandler n) f j < 2 ^ fieldBits f
+unfolding newHandler
+new-locals n Field.Regwen j = same-fits localCount 1 2 j (omega arith)
+new-locals n Field.En j = same-fits localCount 0 2 j (omega arith)
+new-locals n Field.Class j = same-fits localCount 0 4 j (omega arith)
+new-locals n Field.Cause j = same-fits localCount 0 2 j (omega arith)
+
+new-alerts : (n : ℕ) (f : Field) (i : ℕ) → i < most → alert (newHandler n) f i < 2 ^ fieldBits f
+unfolding newHandler
+new-alerts n Field.Regwen i = same-fits most 1 2 i (omega arith)
+new-alerts n Field.En i = same-fits most 0 2 i (omega arith)
+new-alerts n Field.Class i = same-fits most 0 4 i (omega arith)
+new-alerts n Field.Cause i = same-fits most 0 2 i (omega arith)
+
+new-facts : (n : ℕ) → n ≤ most → Valid (newHandler n)
+unfolding newHandler
+new-facts n l =
+    record {
+      n = l;
+      state = omega arith;
+      enable = omega arith;
+      locals = new-locals n;
+      alerts = λ f i h. new-alerts n f i (omega arith);
+      classes = λ k h. subst ClassValid (sym (getD-replicate classCount k resetClass noClass h)) reset-valid;
+    }
+
+-- a count that refusal 6 does not meet
+below-most : (n : ℕ) → badCount n ≡ false → n ≤ most
+below-most n e = go (eqb n 0) e
+  where
+    go : (b : Bool) → (b || ltb most n) ≡ false → n ≤ most
+    go true e = absurd (false≢true (sym e))
+    go false e = ltb-false most n e
+
+-- what is made is valid, also where refusal 6 is met
+pub made-valid : (n : ℕ) → valid (made n .handler) ≡ true
+unfolding made
+made-valid n =
+    pick (λ (m : Made). valid (m .handler) ≡ true) (badCount n) _ _
+    (λ _. is-valid (newHandler 0) (new-facts 0 (omega arith)))
+    (λ e. is-valid (newHandler n) (new-facts n (below-most n e)))

@@ -1,0 +1,225 @@
+-- Refusals: the first case that holds is given, and a refused access is as no access.
+-- Assumes nothing.
+use Prim.Native.Nat.{ℕ, zero, suc, _^_, _≤_, _<_}
+use mathlib.Core.Path.{_≡_, refl, sym, ap, ap₂, _∙_, subst, fun-ext}
+use mathlib.Core.Logic.{_↔_, inl, inr}
+use mathlib.Core.Bool.{Bool, true, false, false≢true, cond, not, _&&_}
+use mathlib.Core.List.{List, [], _∷_}
+use native.Mathlib.Omega.{arith}
+use lib.IntN.{pos, negℤ, negℤ-negℤ}
+use lib.ListN.{getD, length}
+use Rattle.bits.specs.Bits.{fits}
+use Rattle.rules.specs.Access.{value, bars, accessCases, verdict, accepts, accepted, written, acted, given, answerBy, answerTo, writesClr, clears}
+use Rattle.rules.specs.Answer.{refusalNumber, number, Case, firstOf}
+use Rattle.rules.specs.Map.{decode, isRegister, bits, readOnly}
+use Rattle.rules.specs.Tick.{stepped, outputOf, noOutput, after, tick, ticked}
+use Rattle.rules.specs.Valid.{valid}
+use Rattle.rules.specs.declared.Access.{Access}
+use Rattle.rules.specs.declared.Answer.{Answer}
+use Rattle.rules.specs.declared.Handler.{Handler}
+use Rattle.rules.specs.declared.Refusal.{Refusal}
+use Rattle.rules.specs.declared.Sample.{Sample}
+use Rattle.rules.specs.declared.Ticked.{Ticked}
+use Rattle.rules.specs.declared.Verdict.{Verdict}
+use Rattle.laws.specs.Refusals.{First, Unrefused, AccessNumber}
+
+-- ── the first case, of any list of cases ──
+
+module _ (d : Case) (m : Refusal) where
+  -- from the refusal to its case, and back
+  to-first : (cs : List Case) → firstOf cs ≡ Verdict.Refused m → First cs d m
+  unfolding firstOf
+  to-first [] e = absurd (let z : _≡_ {A = ℕ} 0 1 = cc in omega arith)
+  to-first (c ∷ cs) e = go (c .holds) refl e (to-first cs)
+    where
+      later : c .holds ≡ false → (f : First cs d m) (j : ℕ) → j < suc (f .place) → getD (c ∷ cs) j d .holds ≡ false
+      later p f zero l = p
+      later p f (suc j) l = f .alone j (omega arith)
+
+      go : (b : Bool) → c .holds ≡ b → cond b (Verdict.Refused (c .refusal)) (firstOf cs) ≡ Verdict.Refused m
+          → (firstOf cs ≡ Verdict.Refused m → First cs d m) → First (c ∷ cs) d m
+      go true p e g = record { place = 0; inside = omega arith; names = cc; occurs = p; alone = λ j l. absurd (omega arith) }
+      go false p e g =
+          let f = g e in
+          record { place = suc (f .place); inside = omega (arith, f .inside); names = f .names; occurs = f .occurs; alone = later p f }
+
+  from-first : (cs : List Case) → First cs d m → firstOf cs ≡ Verdict.Refused m
+  unfolding firstOf
+  from-first [] f = absurd (omega (arith, f .inside))
+  from-first (c ∷ cs) f = go (f .place) (f .inside) (f .names) (f .occurs) (f .alone) (from-first cs)
+    where
+      go : (i : ℕ) → i < length (c ∷ cs) → getD (c ∷ cs) i d .refusal ≡ m → getD (c ∷ cs) i d .holds ≡ true
+          → ((j : ℕ) → j < i → getD (c ∷ cs) j d .holds ≡ false) → (First cs d m → firstOf cs ≡ Verdict.Refused m)
+          → firstOf (c ∷ cs) ≡ Verdict.Refused m
+      go zero l n o a g = rw o (ap Verdict.Refused n)
+      go (suc i) l n o a g =
+          rw (a 0 (omega arith)) (g (record { place = i; inside = omega arith; names = n; occurs = o; alone = λ j k. a (suc j) (omega arith) }))
+
+-- m is given exactly where its case is the first that holds
+pub first-is : (cs : List Case) (d : Case) (m : Refusal) → firstOf cs ≡ Verdict.Refused m ↔ First cs d m
+first-is cs d m = (to-first d m cs, from-first d m cs)
+
+module _ (d : Case) where
+  -- from an acceptance to the cases, and back
+  none-holds : (cs : List Case) → firstOf cs ≡ Verdict.Accepted → (i : ℕ) → i < length cs → getD cs i d .holds ≡ false
+  unfolding firstOf
+  none-holds [] e i l = absurd (omega arith)
+  none-holds (c ∷ cs) e i l = go (c .holds) refl e i l (none-holds cs)
+    where
+      go : (b : Bool) → c .holds ≡ b → cond b (Verdict.Refused (c .refusal)) (firstOf cs) ≡ Verdict.Accepted → (i : ℕ) → i < length (c ∷ cs)
+          → (firstOf cs ≡ Verdict.Accepted → (i : ℕ) → i < length cs → getD cs i d .holds ≡ false) → getD (c ∷ cs) i d .holds ≡ false
+      go true p e i l g = absurd (let z : _≡_ {A = ℕ} 0 1 = cc in omega arith)
+      go false p e zero l g = p
+      go false p e (suc i) l g = g e i (omega arith)
+
+  none-refuses : (cs : List Case) → ((i : ℕ) → i < length cs → getD cs i d .holds ≡ false) → firstOf cs ≡ Verdict.Accepted
+  unfolding firstOf
+  none-refuses [] f = refl
+  none-refuses (c ∷ cs) f = rw (f 0 (omega arith)) (none-refuses cs (λ i l. f (suc i) (omega arith)))
+
+-- accepted is what no case refuses
+pub first-accepts : (cs : List Case) (d : Case)
+    → firstOf cs ≡ Verdict.Accepted ↔ ((i : ℕ) → i < length cs → getD cs i d .holds ≡ false)
+first-accepts cs d = (none-holds d cs, none-refuses d cs)
+
+-- ── an access ──
+
+-- past the end of the list
+none : Case
+none = record { refusal = Refusal.BadRecord; holds = false }
+
+-- accepted by the verdict
+accepts-is : (t : Verdict) → accepts t ≡ true → t ≡ Verdict.Accepted
+accepts-is Verdict.Accepted e = refl
+accepts-is (Verdict.Refused m) e = absurd (false≢true e)
+
+-- an accepted access meets no case
+pub unrefused : (h : Handler) (x : Access) → accepted h x ≡ true → Unrefused h x
+unfolding verdict
+unrefused h x e =
+    record {
+      formed = clear 0 (omega arith);
+      exists = clear 1 (omega arith);
+      way = clear 2 (omega arith);
+      width = clear 3 (omega arith);
+      free = clear 4 (omega arith);
+    }
+  where
+    clear : (i : ℕ) → i < 5 → getD (accessCases h x) i none .holds ≡ false
+    clear = first-accepts (accessCases h x) none .0 (accepts-is (verdict h x) e)
+
+-- and what meets no case is accepted
+pub is-accepted : (h : Handler) (x : Access) → Unrefused h x → accepted h x ≡ true
+unfolding verdict firstOf
+is-accepted h x u = rw (u .formed, u .exists, u .way, u .width, u .free)
+
+-- a write is accepted if its number is a register's, which is not read only, holds the value and is not locked
+pub accepted-write : (h : Handler) (r v : ℕ)
+    → accepted h (Access.Write r v)
+    ≡ (isRegister (decode (h .n) r) && (not (readOnly (decode (h .n) r)) && (fits (bits (decode (h .n) r)) v && not (bars h (decode (h .n) r) v))))
+unfolding verdict firstOf
+accepted-write h r v = go (isRegister (decode (h .n) r)) (readOnly (decode (h .n) r)) (fits (bits (decode (h .n) r)) v) (bars h (decode (h .n) r) v)
+  where
+    go : (a b c d : Bool)
+        → accepts (cond (not a) (Verdict.Refused Refusal.NoRegister) (cond b (Verdict.Refused Refusal.WrongWay)
+        (cond (not c) (Verdict.Refused Refusal.TooWide) (cond d (Verdict.Refused Refusal.Locked) Verdict.Accepted))))
+        ≡ (a && (not b && (c && not d)))
+    go false b c d = refl
+    go true true c d = refl
+    go true false false d = refl
+    go true false true true = refl
+    go true false true false = refl
+
+-- ── a refused access is as no access ──
+
+module _ (h : Handler) where
+  -- the access changes nothing
+  pub acted-refused : (x : Access) → accepted h x ≡ false → acted h x ≡ h
+  unfolding acted
+  acted-refused x e = ap (λ (b : Bool). cond b (written h x) h) e
+
+  -- no more does none
+  acted-nothing : acted h Access.Nothing ≡ h
+  unfolding acted verdict firstOf
+  acted-nothing = refl
+
+  -- and clears nothing
+  clears-refused : (x : Access) → accepted h x ≡ false → clears h x ≡ clears h Access.Nothing
+  unfolding clears verdict firstOf
+  clears-refused x e = fun-ext (λ (k : ℕ). ap (λ (b : Bool). b && writesClr h x k) e)
+
+  module _ (x : Access) (s : Sample) (e : accepted h x ≡ false) where
+    -- the state after the tick
+    pub refused-as-none : after h (record { access = x; sample = s }) ≡ after h (record { access = Access.Nothing; sample = s })
+    unfolding after
+    refused-as-none =
+        ap₂ (λ (g : Handler) (c : ℕ → Bool). stepped g (s .alerts) c) (acted-refused x e ∙ sym acted-nothing) (clears-refused x e)
+
+    -- and its outputs
+    pub refused-output : tick h (record { access = x; sample = s }) .output ≡ tick h (record { access = Access.Nothing; sample = s }) .output
+    unfolding tick
+    refused-output = ap outputOf refused-as-none
+
+    -- so too where refusal 7 is asked first
+    pub refused-ticked : (ticked h (record { access = x; sample = s }) .handler ≡ ticked h (record { access = Access.Nothing; sample = s }) .handler)
+        × (ticked h (record { access = x; sample = s }) .output ≡ ticked h (record { access = Access.Nothing; sample = s }) .output)
+    unfolding ticked tick
+    refused-ticked = go (valid h)
+      where
+        refused : Ticked
+        refused = record { handler = h; answer = Answer.Refused Refusal.BadState; output = noOutput }
+
+        go : (b : Bool)
+            → (cond b (tick h (record { access = x; sample = s })) refused .handler ≡ cond b (tick h (record { access = Access.Nothing; sample = s })) refused .handler)
+            × (cond b (tick h (record { access = x; sample = s })) refused .output ≡ cond b (tick h (record { access = Access.Nothing; sample = s })) refused .output)
+        go true = (refused-as-none, refused-output)
+        go false = (refl, refl)
+
+-- ── the numbers that come back ──
+
+-- the five refusals of an access
+access-refusal : (h : Handler) (x : Access) (m : Refusal) → verdict h x ≡ Verdict.Refused m → (1 ≤ refusalNumber m) × (refusalNumber m ≤ 5)
+unfolding verdict
+access-refusal h x m e = let f = first-is (accessCases h x) none m .0 e in subst P (f .names) (small (f .place) (f .inside))
+  where
+    P : Refusal → Type 0
+    P m = (1 ≤ refusalNumber m) × (refusalNumber m ≤ 5)
+
+    small : (i : ℕ) → i < 5 → P (getD (accessCases h x) i none .refusal)
+    small zero l = (omega arith, omega arith)
+    small (suc zero) l = (omega arith, omega arith)
+    small (suc (suc zero)) l = (omega arith, omega arith)
+    small (suc (suc (suc zero))) l = (omega arith, omega arith)
+    small (suc (suc (suc (suc zero)))) l = (omega arith, omega arith)
+    small (suc (suc (suc (suc (suc i))))) l = absurd (omega arith)
+
+-- a read gives 0 to 4,294,967,295, anything else accepted 0, and a refusal -1 to -5
+pub answer-number : (h : Handler) (x : Access) → ((r : ℕ) → value h (decode (h .n) r) < 2 ^ 32) → AccessNumber (number (answerTo h x))
+unfolding answerTo number
+answer-number h x w = go (verdict h x) refl x
+  where
+    go : (t : Verdict) → verdict h x ≡ t → (y : Access) → AccessNumber (number (answerBy t (given h y)))
+    go Verdict.Accepted e Access.Nothing = inl (0, omega arith, refl)
+    go Verdict.Accepted e (Access.Read r) = inl (value h (decode (h .n) r), omega (arith, w r), refl)
+    go Verdict.Accepted e (Access.Write r v) = inl (0, omega arith, refl)
+    go Verdict.Accepted e Access.Malformed = inl (0, omega arith, refl)
+    go (Verdict.Refused m) e y = let b = access-refusal h x m e in inr (refusalNumber m, b .0, b .1, refl)
+
+-- so no access answers -6, which a new handler answers alone
+pub answer-refusal : (h : Handler) (x : Access) (m : ℕ) → number (answerTo h x) ≡ negℤ (pos m) → m ≤ 5
+unfolding answerTo number
+answer-refusal h x m = go (verdict h x) refl x
+  where
+    value-least : (v m : ℕ) → pos v ≡ negℤ (pos m) → m ≤ 5
+    value-least v zero e = omega arith
+    value-least v (suc m) e = absurd (let z : _≡_ {A = ℕ} 0 1 = cc in omega arith)
+
+    go : (t : Verdict) → verdict h x ≡ t → (y : Access) → number (answerBy t (given h y)) ≡ negℤ (pos m) → m ≤ 5
+    go Verdict.Accepted e Access.Nothing d = value-least 0 m d
+    go Verdict.Accepted e (Access.Read r) d = value-least (value h (decode (h .n) r)) m d
+    go Verdict.Accepted e (Access.Write r v) d = value-least 0 m d
+    go Verdict.Accepted e Access.Malformed d = value-least 0 m d
+    go (Verdict.Refused r) e y d =
+        let i : pos (refusalNumber r) ≡ pos m = sym (negℤ-negℤ (pos (refusalNumber r))) ∙ ap negℤ d ∙ negℤ-negℤ (pos m) in
+        let j : refusalNumber r ≡ m = cc in
+        omega (arith, access-refusal h x r e .1)

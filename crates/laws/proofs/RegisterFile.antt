@@ -1,0 +1,246 @@
+-- The registers as one file: an accepted write changes the register that it names, by its rule, and no other.
+-- Assumes nothing.
+use Prim.Native.Nat.{ℕ, _≤_, _<_}
+use mathlib.Core.Path.{_≡_, refl, sym, ap, _∙_, subst}
+use mathlib.Core.List.{List}
+use mathlib.Core.Bool.{Bool, true, false, false≢true, cond, _&&_}
+use native.Mathlib.Omega.{arith}
+use borrow.Author.Tests.{eqb-true, eqb-false, ltb-true, not-false, eq-eqb}
+use lib.Dec.{eqb, ltb}
+use lib.ListN.{getD}
+use Rattle.bits.proofs.IndexLaws.{and-true}
+use Rattle.classes.specs.Class.{noClass}
+use Rattle.rules.specs.Access.{settingValue, value, fieldStored, withSetting, store, verdict, accepted, written, acted, answerTo}
+use Rattle.rules.specs.Answer.{firstOf}
+use Rattle.rules.specs.Map.{decode, numberOf, isRegister, settingWriteOnly, writeOnly, offset}
+use Rattle.rules.specs.State.{most, localCount, classCount, fieldIndex, local, alert, classAt, localColumn, alertColumn}
+use Rattle.rules.specs.declared.Access.{Access}
+use Rattle.rules.specs.declared.Access.the-variants.{Nothing, Read, Write, Malformed}
+use Rattle.rules.specs.declared.Answer.{Answer}
+use Rattle.rules.specs.declared.Field.{Field}
+use Rattle.rules.specs.declared.Handler.{Handler}
+use Rattle.rules.specs.declared.Register.{Register}
+use Rattle.rules.specs.declared.Register.the-variants.{IntrState, IntrEnable, IntrTest, Local, Alert, Block, Unassigned}
+use Rattle.rules.specs.declared.Setting.{Setting}
+use Rattle.laws.specs.Assigned.{assigned, settingExists}
+use Rattle.laws.specs.Block.{classStored}
+use Rattle.laws.specs.RegisterFile.{settingStored, target, newValue, writes, commits, committed, fieldPlain, settingPlain, plain}
+use Rattle.laws.proofs.ColumnLaws.{by-kind, by-setting, cond-same, at-changed, column-stored, local-column, alert-column, setting-value}
+use Rattle.laws.proofs.MapLaws.{decode-assigned, number-eq}
+use Rattle.laws.proofs.Refusals.{unrefused}
+
+-- ── what a store makes of each part ──
+
+-- N stays
+pub store-n : (h : Handler) (q : Register) (v : ℕ) → store h q v .n ≡ h .n
+unfolding store
+store-n h q v = by-kind (λ q. store h q v .n ≡ h .n) refl refl refl (λ f j. refl) (λ f i. refl) (λ s k. refl) refl q
+
+-- class k
+pub class-stored : (h : Handler) (q : Register) (v k : ℕ) → k < classCount → classAt (store h q v) k ≡ classStored q v k (classAt h k)
+unfolding store
+class-stored h q v k l =
+    by-kind (λ q. classAt (store h q v) k ≡ classStored q v k (classAt h k)) refl refl refl (λ f j. refl) (λ f i. refl)
+    (λ s j. at-changed classCount (h .classes) noClass j k l (withSetting s v)) refl q
+
+module _ (h : Handler) (f g : Field) (j i v : ℕ) where
+  -- field g of alert i
+  local-stored : i < localCount
+      → local (store h (Local f j) v) g i ≡ cond (eqb (fieldIndex f) (fieldIndex g) && eqb i j) (fieldStored g (local h g i) v) (local h g i)
+  unfolding store
+  local-stored l =
+      ap (λ (xs : List ℕ). getD xs i 0) (local-column f g _ (h .locals))
+      ∙ column-stored (λ e. localColumn e (h .locals)) localCount f g j i v l
+
+  alert-stored : i < most
+      → alert (store h (Alert f j) v) g i ≡ cond (eqb (fieldIndex f) (fieldIndex g) && eqb i j) (fieldStored g (alert h g i) v) (alert h g i)
+  unfolding store
+  alert-stored l =
+      ap (λ (xs : List ℕ). getD xs i 0) (alert-column f g _ (h .alerts))
+      ∙ column-stored (λ e. alertColumn e (h .alerts)) most f g j i v l
+
+-- ── what it makes of each register ──
+
+-- a number is itself
+same : (a : ℕ) → eqb a a ≡ true
+same a = eq-eqb a a refl
+
+-- the register that is written
+own : (h : Handler) (q : Register) (v : ℕ) → h .n ≤ most → assigned (h .n) q ≡ true
+    → value (store h q v) (target q) ≡ newValue q (value h (target q)) v
+unfolding store value
+own h IntrState v m a = refl
+own h IntrEnable v m a = refl
+own h IntrTest v m a = refl
+own h (Local f j) v m a =
+    local-stored h f f j j v (ltb-true j localCount a) ∙ simp (same (fieldIndex f), same j)
+own h (Alert f i) v m a =
+    alert-stored h f f i i v (omega (arith, ltb-true i (h .n) a)) ∙ simp (same (fieldIndex f), same i)
+own h (Block s k) v m a =
+    let b = and-true (ltb k classCount) (settingExists s) a in
+    ap (settingValue s) (class-stored h (Block s k) v k (ltb-true k classCount (b .0)) ∙ simp (same k))
+    ∙ setting-value s s v (classAt h k) (b .1) ∙ simp (same (offset s))
+own h Unassigned v m a = refl
+
+-- the entry that is read is not the one that is written
+unlike : (a : Bool) (x y : ℕ) → (a ≡ true → ⊥) → cond a x y ≡ y
+unlike true x y e = absurd (e refl)
+unlike false x y e = refl
+
+-- another field or another alert
+apart : (f g : Field) (i j x y : ℕ) → (fieldIndex f ≡ fieldIndex g → i ≡ j → ⊥) → cond (eqb (fieldIndex f) (fieldIndex g) && eqb i j) x y ≡ y
+apart f g i j x y d =
+    unlike (eqb (fieldIndex f) (fieldIndex g) && eqb i j) x y
+    (λ e. let b = and-true (eqb (fieldIndex f) (fieldIndex g)) (eqb i j) e in
+    d (eqb-true (fieldIndex f) (fieldIndex g) (b .0)) (eqb-true i j (b .1)))
+
+module _ (h : Handler) (v : ℕ) where
+  -- another register of a block
+  block-other : (s t : Setting) (j k : ℕ) → k < classCount → settingExists t ≡ true
+      → (numberOf (Block s j) ≡ numberOf (Block t k) → ⊥) → value (store h (Block s j) v) (Block t k) ≡ value h (Block t k)
+  unfolding store value numberOf
+  block-other s t j k l x d = ap (settingValue t) (class-stored h (Block s j) v k l) ∙ go (eqb k j) refl
+    where
+      go : (b : Bool) → eqb k j ≡ b → settingValue t (cond b (withSetting s v (classAt h k)) (classAt h k)) ≡ settingValue t (classAt h k)
+      go true e =
+          setting-value s t v (classAt h k) x
+          ∙ unlike (eqb (offset s) (offset t)) _ _
+          (λ o. let i : k ≡ j = eqb-true k j e in let g : offset s ≡ offset t = eqb-true (offset s) (offset t) o in d (omega arith))
+      go false e = refl
+
+  -- any other register
+  other : (q p : Register) → h .n ≤ most → assigned (h .n) p ≡ true → (numberOf (target q) ≡ numberOf p → ⊥)
+      → value (store h q v) p ≡ value h p
+  unfolding store value numberOf
+  other q IntrState m a =
+      by-kind (λ q. (numberOf (target q) ≡ 0 → ⊥) → store h q v .interrupts .state ≡ h .interrupts .state)
+      (λ d. absurd (d refl)) (λ d. refl) (λ d. absurd (d refl)) (λ f j d. refl) (λ f i d. refl) (λ s k d. refl) (λ d. refl) q
+  other q IntrEnable m a =
+      by-kind (λ q. (numberOf (target q) ≡ 1 → ⊥) → store h q v .interrupts .enable ≡ h .interrupts .enable)
+      (λ d. refl) (λ d. absurd (d refl)) (λ d. refl) (λ f j d. refl) (λ f i d. refl) (λ s k d. refl) (λ d. refl) q
+  other q IntrTest m a = λ d. refl
+  other q (Local g i) m a =
+      by-kind (λ q. (numberOf (target q) ≡ numberOf (Local g i) → ⊥) → local (store h q v) g i ≡ local h g i)
+      (λ d. refl) (λ d. refl) (λ d. refl)
+      (λ f j d. local-stored h f g j i v (ltb-true i localCount a) ∙ apart f g i j _ _ (λ e k. d (omega arith)))
+      (λ f i d. refl) (λ s k d. refl) (λ d. refl) q
+  other q (Alert g i) m a =
+      by-kind (λ q. (numberOf (target q) ≡ numberOf (Alert g i) → ⊥) → alert (store h q v) g i ≡ alert h g i)
+      (λ d. refl) (λ d. refl) (λ d. refl) (λ f i d. refl)
+      (λ f j d. alert-stored h f g j i v (omega (arith, ltb-true i (h .n) a)) ∙ apart f g i j _ _ (λ e k. d (omega arith)))
+      (λ s k d. refl) (λ d. refl) q
+  other q (Block t k) m a =
+      let b = and-true (ltb k classCount) (settingExists t) a in
+      by-kind (λ q. (numberOf (target q) ≡ numberOf (Block t k) → ⊥) → value (store h q v) (Block t k) ≡ value h (Block t k))
+      (λ d. refl) (λ d. refl) (λ d. refl) (λ f i d. refl) (λ f i d. refl)
+      (λ s j. block-other s t j k (ltb-true k classCount (b .0)) (b .1)) (λ d. refl) q
+  other q Unassigned m a = λ d. refl
+
+-- a handler that has q has what q writes
+pub target-assigned : (n : ℕ) (q : Register) → assigned n q ≡ true → assigned n (target q) ≡ true
+target-assigned n q =
+    by-kind (λ q. assigned n q ≡ true → assigned n (target q) ≡ true)
+    (λ a. a) (λ a. a) (λ a. a) (λ f j a. a) (λ f i a. a) (λ s k a. a) (λ a. a) q
+
+-- v stored at q makes newValue of what q writes, and leaves every other register
+pub value-stored : (h : Handler) (q p : Register) (v : ℕ) → h .n ≤ most → assigned (h .n) q ≡ true → assigned (h .n) p ≡ true
+    → value (store h q v) p ≡ cond (writes q p) (newValue q (value h p) v) (value h p)
+value-stored h q p v m a b = go (writes q p) refl
+  where
+    go : (w : Bool) → writes q p ≡ w → value (store h q v) p ≡ cond w (newValue q (value h p) v) (value h p)
+    go true e =
+        subst (λ (x : Register). value (store h q v) x ≡ newValue q (value h x) v)
+        (number-eq (h .n) (target q) p m (target-assigned (h .n) q a) b (eqb-true (numberOf (target q)) (numberOf p) e)) (own h q v m a)
+    go false e = other h v q p m b (eqb-false (numberOf (target q)) (numberOf p) e)
+
+-- ── the access ──
+
+-- a register of which an accepted write tells
+pub accepted-assigned : (h : Handler) (r v : ℕ) → accepted h (Write r v) ≡ true → assigned (h .n) (decode (h .n) r) ≡ true
+accepted-assigned h r v e = decode-assigned (h .n) r (not-false (isRegister (decode (h .n) r)) (unrefused h (Write r v) e .exists))
+
+-- an access changes what an accepted write writes, and no other register; a refused one changes none
+pub acted-value : (h : Handler) (x : Access) (p : Register) → h .n ≤ most → assigned (h .n) p ≡ true
+    → value (acted h x) p ≡ cond (commits h x p) (committed h x (value h p)) (value h p)
+unfolding acted
+acted-value h Nothing p m a = ap (λ (g : Handler). value g p) (sym (cond-same (accepted h Nothing) h))
+acted-value h (Read r) p m a = ap (λ (g : Handler). value g p) (sym (cond-same (accepted h (Read r)) h))
+acted-value h (Write r v) p m a = go (accepted h (Write r v)) refl
+  where
+    q : Register
+    q = decode (h .n) r
+
+    go : (b : Bool) → accepted h (Write r v) ≡ b
+        → value (cond b (store h q v) h) p ≡ cond (b && writes q p) (newValue q (value h p) v) (value h p)
+    go true e = value-stored h q p v m (accepted-assigned h r v e) a
+    go false e = refl
+acted-value h Malformed p m a = ap (λ (g : Handler). value g p) (sym (cond-same (accepted h Malformed) h))
+
+-- N stays in an access
+pub acted-n : (h : Handler) (x : Access) → acted h x .n ≡ h .n
+unfolding acted
+acted-n h x = go (accepted h x) x
+  where
+    go : (b : Bool) (x : Access) → cond b (written h x) h .n ≡ h .n
+    go false x = refl
+    go true Nothing = refl
+    go true (Read r) = refl
+    go true (Write r v) = store-n h (decode (h .n) r) v
+    go true Malformed = refl
+
+-- ── what follows ──
+
+-- what the access does not write is as before
+pub acted-other : (h : Handler) (x : Access) (p : Register) → h .n ≤ most → assigned (h .n) p ≡ true → commits h x p ≡ false
+    → value (acted h x) p ≡ value h p
+acted-other h x p m a e =
+    acted-value h x p m a ∙ ap (λ (b : Bool). cond b (committed h x (value h p)) (value h p)) e
+
+-- an accepted write gives the register that it writes its new value
+pub acted-target : (h : Handler) (r v : ℕ) → h .n ≤ most → accepted h (Write r v) ≡ true
+    → value (acted h (Write r v)) (target (decode (h .n) r)) ≡ newValue (decode (h .n) r) (value h (target (decode (h .n) r))) v
+unfolding acted
+acted-target h r v m e =
+    ap (λ (b : Bool). value (cond b (store h (decode (h .n) r) v) h) (target (decode (h .n) r))) e
+    ∙ own h (decode (h .n) r) v m (accepted-assigned h r v e)
+
+-- what a plain register holds once it is written
+field-plain : (f : Field) → fieldPlain f ≡ true → (old v : ℕ) → fieldStored f old v ≡ v
+field-plain Field.Regwen e = λ old v. refl
+field-plain Field.En e = λ old v. refl
+field-plain Field.Class e = λ old v. refl
+field-plain Field.Cause e = absurd (false≢true e)
+
+setting-plain : (s : Setting) → settingPlain s ≡ true → (settingWriteOnly s ≡ false) × ((old v : ℕ) → settingStored s old v ≡ v)
+setting-plain s =
+    by-setting (λ s. settingPlain s ≡ true → (settingWriteOnly s ≡ false) × ((old v : ℕ) → settingStored s old v ≡ v))
+    (λ e. (refl, λ o v. refl)) (λ e. (refl, λ o v. refl)) (λ e. (refl, λ o v. refl)) (λ e. absurd (false≢true e)) (λ e. absurd (false≢true e))
+    (λ e. (refl, λ o v. refl)) (λ e. (refl, λ o v. refl)) (λ p e. (refl, λ o v. refl)) (λ e. absurd (false≢true e)) (λ e. absurd (false≢true e)) s
+
+-- a plain register reads as what is written
+plain-takes : (q : Register) → plain q ≡ true → (isRegister q ≡ true) × (writeOnly q ≡ false) × (target q ≡ q) × ((old v : ℕ) → newValue q old v ≡ v)
+unfolding writeOnly
+plain-takes IntrState e = absurd (false≢true e)
+plain-takes IntrEnable e = (refl, refl, refl, λ old v. refl)
+plain-takes IntrTest e = absurd (false≢true e)
+plain-takes (Local f j) e = (refl, refl, refl, field-plain f e)
+plain-takes (Alert f i) e = (refl, refl, refl, field-plain f e)
+plain-takes (Block s k) e = let b = setting-plain s e in (refl, b .0, refl, b .1)
+plain-takes Unassigned e = absurd (false≢true e)
+
+-- an accepted read gives the value
+pub read-answer : (h : Handler) (r : ℕ) → isRegister (decode (h .n) r) ≡ true → writeOnly (decode (h .n) r) ≡ false
+    → answerTo h (Read r) ≡ Answer.Value (value h (decode (h .n) r))
+unfolding answerTo verdict firstOf
+read-answer h r a b = rw (a, b)
+
+-- write, then read: the value comes back
+pub write-read : (h : Handler) (r v : ℕ) → h .n ≤ most → accepted h (Write r v) ≡ true → plain (decode (h .n) r) ≡ true
+    → answerTo (acted h (Write r v)) (Read r) ≡ Answer.Value v
+write-read h r v m e f =
+    let g : Handler = acted h (Write r v) in
+    let q : Register = decode (h .n) r in
+    let t = plain-takes q f in
+    let d : decode (g .n) r ≡ q = ap (λ (n : ℕ). decode n r) (acted-n h (Write r v)) in
+    read-answer g r (ap isRegister d ∙ t .0) (ap writeOnly d ∙ t .1)
+    ∙ ap Answer.Value (ap (value g) (d ∙ sym (t .2)) ∙ acted-target h r v m e ∙ t .3 (value h (target q)) v)

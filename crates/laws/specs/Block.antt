@@ -1,0 +1,74 @@
+-- What a write makes of a class's block.
+-- Assumes nothing.
+use Prim.Native.Nat.{ℕ}
+use mathlib.Core.Path.{_≡_}
+use mathlib.Core.Bool.{Bool, false, cond, not, _&&_}
+use lib.Dec.{eqb}
+use Rattle.classes.specs.declared.Class.{Class}
+use Rattle.bits.specs.Bits.{fits}
+use Rattle.rules.specs.Access.{withSetting, settingIsClr}
+use Rattle.rules.specs.Map.{decode, settingBits, settingReadOnly, settingLocks}
+use Rattle.rules.specs.declared.Access.{Access}
+use Rattle.rules.specs.declared.Access.the-variants.{Nothing, Read, Write, Malformed}
+use Rattle.rules.specs.declared.Handler.{Handler}
+use Rattle.rules.specs.declared.Register.{Register}
+use Rattle.rules.specs.declared.Register.the-variants.{IntrState, IntrEnable, IntrTest, Local, Alert, Block, Unassigned}
+use Rattle.rules.specs.declared.Setting.{Setting}
+use Rattle.rules.specs.declared.Setting.the-variants.{Ctrl, ClrRegwen, Clr, AccumCnt, AccumThresh, TimeoutCyc, PhaseCyc, EscCnt}
+
+-- what v stored at q makes of class k
+abbrev pub classStored : Register → ℕ → ℕ → Class → Class
+classStored IntrState v k c = c
+classStored IntrEnable v k c = c
+classStored IntrTest v k c = c
+classStored (Local f j) v k c = c
+classStored (Alert f i) v k c = c
+classStored (Block s j) v k c = cond (eqb k j) (withSetting s v c) c
+classStored Unassigned v k c = c
+
+-- a register of the block is locked: its REGWEN, or CLR_REGWEN for itself and CLR, is 0
+abbrev pub settingLocked : Setting → Class → Bool
+settingLocked Setting.Regwen c = eqb (c .regwen) 0
+settingLocked Ctrl c = eqb (c .regwen) 0
+settingLocked ClrRegwen c = eqb (c .clrwen) 0
+settingLocked Clr c = eqb (c .clrwen) 0
+settingLocked AccumCnt c = false
+settingLocked AccumThresh c = eqb (c .regwen) 0
+settingLocked TimeoutCyc c = eqb (c .regwen) 0
+settingLocked (PhaseCyc p) c = eqb (c .regwen) 0
+settingLocked EscCnt c = false
+settingLocked Setting.State c = false
+
+-- a write of v at a register of the block is accepted: not read only, not too wide, not locked
+unfoldable pub blockAccepts : Setting → ℕ → Class → Bool
+blockAccepts s v c =
+    not (settingReadOnly s) && (fits (settingBits s) v && not (settingLocked s c && not (settingLocks s && eqb v 0)))
+
+-- the block after the access
+unfoldable pub blockWritten : Setting → ℕ → Class → Class
+blockWritten s v c = cond (blockAccepts s v c) (withSetting s v c) c
+
+-- it is an accepted clear
+unfoldable pub blockClears : Setting → ℕ → Class → Bool
+blockClears s v c = blockAccepts s v c && (settingIsClr s && eqb v 1)
+
+-- is it a register of class k's block?
+abbrev pub ofBlock : ℕ → Register → Bool
+ofBlock k IntrState = false
+ofBlock k IntrEnable = false
+ofBlock k IntrTest = false
+ofBlock k (Local f j) = false
+ofBlock k (Alert f i) = false
+ofBlock k (Block s j) = eqb k j
+ofBlock k Unassigned = false
+
+-- the access is a write to class k's block
+abbrev pub writesBlock : Handler → Access → ℕ → Bool
+writesBlock h Nothing k = false
+writesBlock h (Read r) k = false
+writesBlock h (Write r v) k = ofBlock k (decode (h .n) r)
+writesBlock h Malformed k = false
+
+-- STATE, ESC_CNT and ACCUM_CNT of d are those of c
+abbrev pub Unmoved : Class → Class → Type 0
+Unmoved c d = (d .state ≡ c .state) × (d .count ≡ c .count) × (d .accum ≡ c .accum)

@@ -1,0 +1,33 @@
+-- "Numbers that come back": what the opposite of refusal 7 says of each register.
+-- Assumes nothing.
+use Prim.Native.Nat.{ℕ, _^_, _≤_, _<_}
+use mathlib.Core.Path.{_≡_}
+use mathlib.Core.Bool.{true}
+use Rattle.classes.specs.Class.{phaseCyc, stateOf, stateFits, countFits}
+use Rattle.classes.specs.declared.Class.{Class}
+use Rattle.rules.specs.Map.{fieldBits}
+use Rattle.rules.specs.State.{most, localCount, classCount, local, alert, classAt}
+use Rattle.rules.specs.declared.Field.{Field}
+use Rattle.rules.specs.declared.Handler.{Handler}
+
+-- a class's registers hold no more than their fields' bits, STATE is a state's number, and the count suits the state
+pub record ClassValid (c : Class) : Type 0 where
+  pub regwen : c .regwen < 2
+  pub ctrl : c .ctrl < 2 ^ 14
+  pub clrwen : c .clrwen < 2
+  pub accum : c .accum < 2 ^ 16
+  pub thresh : c .thresh < 2 ^ 16
+  pub timeout : c .timeout < 2 ^ 32
+  pub lengths : (p : ℕ) → p < 4 → phaseCyc c p < 2 ^ 32
+  pub count : c .count < 2 ^ 32
+  pub state : stateFits (c .state) ≡ true
+  pub suits : countFits (stateOf (c .state)) (c .count) ≡ true
+
+-- N is at most the most, and every register of the handler holds what its field can
+pub record Valid (h : Handler) : Type 0 where
+  pub n : h .n ≤ most
+  pub state : h .interrupts .state < 16
+  pub enable : h .interrupts .enable < 16
+  pub locals : (f : Field) (j : ℕ) → j < localCount → local h f j < 2 ^ fieldBits f
+  pub alerts : (f : Field) (i : ℕ) → i < h .n → alert h f i < 2 ^ fieldBits f
+  pub classes : (k : ℕ) → k < classCount → ClassValid (classAt h k)

@@ -1,0 +1,11 @@
+pub mod Assigned
+pub mod Facts
+pub mod RegisterFile
+pub mod Refusals
+pub mod Frame
+pub mod Above
+pub mod ClearedBy
+pub mod Block
+pub mod Unchecked
+pub mod Batches
+pub mod Columns

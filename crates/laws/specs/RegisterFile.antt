@@ -1,0 +1,95 @@
+-- The registers as one file: what a write makes of each ("Register map", and step 1 of "One tick").
+-- Assumes nothing.
+use Prim.Native.Nat.{ℕ}
+use mathlib.Core.Bool.{Bool, true, false, not, _&&_, _||_}
+use lib.Dec.{eqb}
+use Rattle.bits.specs.Bits.{bit, bitsOf}
+use Rattle.rules.specs.Access.{accepted, fieldStored}
+use Rattle.rules.specs.Map.{decode, numberOf}
+use Rattle.rules.specs.declared.Access.{Access}
+use Rattle.rules.specs.declared.Access.the-variants.{Nothing, Read, Write, Malformed}
+use Rattle.rules.specs.declared.Field.{Field}
+use Rattle.rules.specs.declared.Handler.{Handler}
+use Rattle.rules.specs.declared.Register.{Register}
+use Rattle.rules.specs.declared.Register.the-variants.{IntrState, IntrEnable, IntrTest, Local, Alert, Block, Unassigned}
+use Rattle.rules.specs.declared.Setting.{Setting}
+use Rattle.rules.specs.declared.Setting.the-variants.{Ctrl, ClrRegwen, Clr, AccumCnt, AccumThresh, TimeoutCyc, PhaseCyc, EscCnt}
+
+-- what a register of a block holds once v is stored: CLR holds nothing, and no write is accepted at a read-only one
+abbrev pub settingStored : Setting → ℕ → ℕ → ℕ
+settingStored Setting.Regwen old v = v
+settingStored Ctrl old v = v
+settingStored ClrRegwen old v = v
+settingStored Clr old v = old
+settingStored AccumCnt old v = old
+settingStored AccumThresh old v = v
+settingStored TimeoutCyc old v = v
+settingStored (PhaseCyc p) old v = v
+settingStored EscCnt old v = old
+settingStored Setting.State old v = old
+
+-- the register that a write at q changes: INTR_TEST writes INTR_STATE, every other one itself
+abbrev pub target : Register → Register
+target IntrState = IntrState
+target IntrEnable = IntrEnable
+target IntrTest = IntrState
+target (Local f j) = Local f j
+target (Alert f i) = Alert f i
+target (Block s k) = Block s k
+target Unassigned = Unassigned
+
+-- what it holds once v is written at q: in INTR_STATE and CAUSE a 1 clears, in INTR_TEST a 1 sets
+abbrev pub newValue : Register → ℕ → ℕ → ℕ
+newValue IntrState old v = bitsOf 4 (λ k. bit old k && not (bit v k))
+newValue IntrEnable old v = v
+newValue IntrTest old v = bitsOf 4 (λ k. bit old k || bit v k)
+newValue (Local f j) old v = fieldStored f old v
+newValue (Alert f i) old v = fieldStored f old v
+newValue (Block s k) old v = settingStored s old v
+newValue Unassigned old v = old
+
+-- a write at q changes p: registers are told apart by their numbers
+abbrev pub writes : Register → Register → Bool
+writes q p = eqb (numberOf (target q)) (numberOf p)
+
+-- the access changes p
+abbrev pub commits : Handler → Access → Register → Bool
+commits h Nothing p = false
+commits h (Read r) p = false
+commits h (Write r v) p = accepted h (Write r v) && writes (decode (h .n) r) p
+commits h Malformed p = false
+
+-- what a register that held old then holds
+abbrev pub committed : Handler → Access → ℕ → ℕ
+committed h Nothing old = old
+committed h (Read r) old = old
+committed h (Write r v) old = newValue (decode (h .n) r) old v
+committed h Malformed old = old
+
+-- a register that reads as what is written: not write only, not read only, and no 1 clears in it
+abbrev pub fieldPlain : Field → Bool
+fieldPlain Field.Regwen = true
+fieldPlain Field.En = true
+fieldPlain Field.Class = true
+fieldPlain Field.Cause = false
+
+abbrev pub settingPlain : Setting → Bool
+settingPlain Setting.Regwen = true
+settingPlain Ctrl = true
+settingPlain ClrRegwen = true
+settingPlain Clr = false
+settingPlain AccumCnt = false
+settingPlain AccumThresh = true
+settingPlain TimeoutCyc = true
+settingPlain (PhaseCyc p) = true
+settingPlain EscCnt = false
+settingPlain Setting.State = false
+
+abbrev pub plain : Register → Bool
+plain IntrState = false
+plain IntrEnable = true
+plain IntrTest = false
+plain (Local f j) = fieldPlain f
+plain (Alert f i) = fieldPlain f
+plain (Block s k) = settingPlain s
+plain Unassigned = false

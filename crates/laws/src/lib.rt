@@ -1,0 +1,1 @@
+// Laws of the rules: definitions and theorems alone, in specs/ and proofs/.

@@ -1,0 +1,112 @@
+-- Worked examples that pin step 1, the access, by computation.
+-- Assumes nothing.
+use Prim.Native.Nat.{ℕ, _^_}
+use mathlib.Core.Path.{_≡_, refl}
+use mathlib.Core.Bool.{Bool, true, false}
+use mathlib.Core.List.{List, [], _∷_, map}
+use lib.IntN.{ℤ, pos}
+use Rattle.rules.specs.Access.{value, acted, clears, accessed}
+use Rattle.rules.specs.Map.{decode}
+use Rattle.rules.specs.Run.{run}
+use Rattle.rules.specs.State.{newHandler, withInterrupts}
+use Rattle.rules.specs.Tick.{ticked}
+use Rattle.rules.specs.declared.Access.{Access}
+use Rattle.rules.specs.declared.Answer.{Answer}
+use Rattle.rules.specs.declared.Field.{Field}
+use Rattle.rules.specs.declared.Handler.{Handler}
+use Rattle.rules.specs.declared.Register.{Register}
+use Rattle.rules.specs.declared.Register.the-variants.{IntrState, IntrEnable, IntrTest, Local, Alert, Block}
+use Rattle.rules.specs.declared.Setting.{Setting}
+use Rattle.rules.specs.declared.Setting.the-variants.{Ctrl, ClrRegwen, Clr, AccumCnt, AccumThresh, TimeoutCyc, PhaseCyc, EscCnt}
+use Rattle.rules.proofs.Scenes.{rules, rest, raise, read, write, then, gives, refused, ready}
+
+-- a handler whose registers all differ where they can
+abbrev full : Handler
+full =
+    run (newHandler 64)
+    (map rest
+    (write (Block TimeoutCyc 2) 4294967295
+    ∷ write (Block (PhaseCyc 0) 2) 10
+    ∷ write (Block (PhaseCyc 1) 2) 11
+    ∷ write (Block (PhaseCyc 2) 2) 12
+    ∷ write (Block (PhaseCyc 3) 2) 13
+    ∷ write (Block AccumThresh 2) 65535
+    ∷ write (Block Ctrl 2) 0x3FFF
+    ∷ write (Alert Field.En 63) 1
+    ∷ write (Alert Field.Class 63) 3
+    ∷ write (Local Field.En 6) 1
+    ∷ write (Local Field.Class 6) 2
+    ∷ write IntrEnable 9
+    ∷ write (Alert Field.Regwen 62) 0
+    ∷ write (Local Field.Regwen 5) 0
+    ∷ write (Block ClrRegwen 3) 0
+    ∷ write (Block Setting.Regwen 1) 0
+    ∷ []))
+
+abbrev reads : Handler → ℕ → ℤ
+reads h r = gives h (rest (Access.Read r))
+
+-- what reads of these registers give, and what writes of v
+abbrev allRead : List ℕ → List ℤ
+allRead rs = let h = full in map (reads h) rs
+
+abbrev allWritten : ℕ → List ℕ → List ℤ
+allWritten v rs = let h = full in map (λ (r : ℕ). gives h (rest (Access.Write r v))) rs
+
+-- an accepted write reads back, by document 01's numbers, and the registers beside it are as they were
+reads-back : (allRead (352 ∷ 353 ∷ 354 ∷ 356 ∷ 357 ∷ 358 ∷ []) ≡ pos 1 ∷ pos 0x3FFF ∷ pos 1 ∷ pos 0 ∷ pos 65535 ∷ pos 4294967295 ∷ [])
+    × (allRead (359 ∷ 360 ∷ 361 ∷ 362 ∷ 363 ∷ 364 ∷ []) ≡ pos 10 ∷ pos 11 ∷ pos 12 ∷ pos 13 ∷ pos 0 ∷ pos 0 ∷ [])
+    × (allRead (127 ∷ 126 ∷ 190 ∷ 191 ∷ 254 ∷ 255 ∷ 318 ∷ 319 ∷ [])
+    ≡ pos 1 ∷ pos 0 ∷ pos 0 ∷ pos 1 ∷ pos 0 ∷ pos 3 ∷ pos 0 ∷ pos 0 ∷ [])
+    × (allRead (21 ∷ 22 ∷ 29 ∷ 30 ∷ 37 ∷ 38 ∷ 45 ∷ 46 ∷ []) ≡ pos 0 ∷ pos 1 ∷ pos 0 ∷ pos 1 ∷ pos 0 ∷ pos 2 ∷ pos 0 ∷ pos 0 ∷ [])
+    × (allRead (0 ∷ 1 ∷ 336 ∷ 337 ∷ 338 ∷ 368 ∷ 369 ∷ 370 ∷ 385 ∷ [])
+    ≡ pos 0 ∷ pos 9 ∷ pos 0 ∷ pos 0x393C ∷ pos 1 ∷ pos 1 ∷ pos 0x393C ∷ pos 0 ∷ refused 1 ∷ [])
+unfolding rules
+reads-back = (refl, refl, refl, refl, refl)
+
+-- "INTR_STATE, a 1 clears", "INTR_TEST .. a 1 sets INTR_STATE"
+abbrev pending : ℕ → Handler
+pending s = withInterrupts (record { state = s; enable = 0 }) (newHandler 1)
+
+intr : (acted (pending 13) (Access.Write 0 5) .interrupts .state ≡ 8)
+    × (acted (pending 13) (Access.Write 0 2) .interrupts .state ≡ 13)
+    × (acted (pending 4) (Access.Write 2 9) .interrupts .state ≡ 13)
+    × (acted (pending 4) (Access.Write 2 9) .interrupts .enable ≡ 0)
+    × (acted (pending 4) (Access.Write 1 9) .interrupts .state ≡ 4)
+unfolding rules
+intr = (refl, refl, refl, refl, refl)
+
+-- "In CAUSE a written 1 clears": a 0 leaves it
+abbrev caused : Handler
+caused = ticked (ready 9) (raise 0 Access.Nothing) .handler
+
+cause : (reads caused 256 ≡ pos 1) × (reads (then caused (Access.Write 256 0)) 256 ≡ pos 1) × (reads (then caused (Access.Write 256 1)) 256 ≡ pos 0)
+unfolding rules
+cause = (refl, refl, refl)
+
+-- "a written 1 on a locked one is refused with 3, a 0 is accepted again"; "A register is locked while the REGWEN that guards it is 0"
+locks : (allWritten 0 (126 ∷ 190 ∷ 254 ∷ 318 ∷ []) ≡ pos 0 ∷ refused 3 ∷ refused 3 ∷ pos 0 ∷ [])
+    × (allWritten 0 (21 ∷ 29 ∷ 37 ∷ 45 ∷ []) ≡ pos 0 ∷ refused 3 ∷ refused 3 ∷ pos 0 ∷ [])
+    × (allWritten 1 (126 ∷ 21 ∷ 336 ∷ 370 ∷ []) ≡ refused 3 ∷ refused 3 ∷ refused 3 ∷ refused 3 ∷ [])
+    × (allWritten 0 (337 ∷ 341 ∷ 342 ∷ 343 ∷ 344 ∷ 345 ∷ 346 ∷ [])
+    ≡ refused 3 ∷ refused 3 ∷ refused 3 ∷ refused 3 ∷ refused 3 ∷ refused 3 ∷ refused 3 ∷ [])
+    × (allWritten 1 (127 ∷ 22 ∷ 320 ∷ 322 ∷ []) ≡ pos 0 ∷ pos 0 ∷ pos 0 ∷ pos 0 ∷ [])
+unfolding rules
+locks = (refl, refl, refl, refl, refl)
+
+-- REGWEN 0 with CLR_REGWEN 1: a clear is accepted; REGWEN 1 with CLR_REGWEN 0: a length is writable and a clear, a 0 too, is refused
+clr : (map (clears full (Access.Write 339 1)) (0 ∷ 1 ∷ 2 ∷ 3 ∷ []) ≡ false ∷ true ∷ false ∷ false ∷ [])
+    × (clears full (Access.Write 339 0) 1 ≡ false)
+    × (clears full (Access.Write 371 1) 3 ≡ false)
+    × (gives full (rest (Access.Write 371 1)) ≡ refused 3)
+    × (gives full (rest (Access.Write 371 0)) ≡ refused 3)
+    × (gives full (rest (Access.Write 375 7)) ≡ pos 0)
+    × (accessed full (Access.Write 339 1) .clears ≡ 2)
+    × (accessed full (Access.Write 371 1) .clears ≡ 0)
+unfolding rules
+clr = (refl, refl, refl, refl, refl, refl, refl, refl)
+
+-- each access answers on the state before any event of its tick
+before-events : gives (ready 9) (raise 0 (Access.Read 256)) ≡ pos 0
+unfolding rules
+before-events = refl

@@ -1,0 +1,109 @@
+-- Worked examples that pin "Numbers that come back", by computation.
+-- Assumes nothing.
+use Prim.Native.Nat.{ℕ, _^_, _-_}
+use mathlib.Core.Path.{_≡_, refl}
+use mathlib.Core.Bool.{true, false}
+use mathlib.Core.List.{List, [], _∷_}
+use lib.IntN.{ℤ, pos, negsuc, negℤ}
+use lib.ListN.{replicate}
+use Rattle.rules.specs.Access.{value, acted}
+use Rattle.rules.specs.Answer.{number, firstOf, refusalNumber}
+use Rattle.rules.specs.State.{newHandler, made, classAt, resetClass, withClasses}
+use Rattle.rules.specs.Tick.{ticked}
+use Rattle.rules.specs.declared.Access.{Access}
+use Rattle.rules.specs.declared.Answer.{Answer}
+use Rattle.rules.specs.declared.Handler.{Handler}
+use Rattle.rules.specs.declared.Refusal.the-variants.{NoRegister, WrongWay, Locked, TooWide, BadRecord, BadCount, BadState, BadLength, ShortList}
+use Rattle.rules.specs.declared.Register.the-variants.{IntrState, IntrEnable, Block}
+use Rattle.rules.specs.declared.Setting.{Setting}
+use Rattle.rules.specs.declared.Setting.the-variants.{Ctrl, AccumThresh}
+use Rattle.rules.proofs.Scenes.{rules, rest, then, gives, refused, write}
+
+-- "a read gives 0 to 4,294,967,295, anything else accepted gives 0, and a refusal gives the negated refusal number"
+numbers : (number (Answer.Value 4294967295) ≡ pos 4294967295)
+    × (number (Answer.Value 0) ≡ pos 0)
+    × (number Answer.Done ≡ pos 0)
+    × (number (Answer.Refused NoRegister) ≡ negsuc 0)
+    × (number (Answer.Refused WrongWay) ≡ negsuc 1)
+    × (number (Answer.Refused Locked) ≡ negsuc 2)
+    × (number (Answer.Refused TooWide) ≡ negsuc 3)
+    × (number (Answer.Refused BadRecord) ≡ negsuc 4)
+    × (number (Answer.Refused BadCount) ≡ negsuc 5)
+    × (number (Answer.Refused BadState) ≡ negsuc 6)
+    × (number (Answer.Refused BadLength) ≡ negsuc 7)
+    × (number (Answer.Refused ShortList) ≡ negsuc 8)
+unfolding rules
+numbers = (refl, refl, refl, refl, refl, refl, refl, refl, refl, refl, refl, refl)
+
+-- "N is 0 or over 64: a handler of no alerts, otherwise as new"
+makes : (made 0 ≡ record { handler = newHandler 0; answer = refused 6 })
+    × (made 1 ≡ record { handler = newHandler 1; answer = pos 0 })
+    × (made 64 ≡ record { handler = newHandler 64; answer = pos 0 })
+    × (made 65 ≡ record { handler = newHandler 0; answer = refused 6 })
+    × (made 256 ≡ record { handler = newHandler 0; answer = refused 6 })
+    × (made (2 ^ 32) ≡ record { handler = newHandler 0; answer = refused 6 })
+unfolding rules
+makes = (refl, refl, refl, refl, refl, refl)
+
+-- the handler that refusal 6 leaves takes its ticks
+no-alerts : gives (newHandler 0) (rest (Access.Read 321)) ≡ pos 0x393C
+unfolding rules
+no-alerts = refl
+
+-- "All REGWEN and CLR_REGWEN start at 1, all CTRL at 0x393C, every other register at 0, classes Idle, alerts re-armed"
+new : newHandler 1
+    ≡ record {
+      n = 1;
+      receivers = record { armed = 18446744073709551615 ∷ [] };
+      classes =
+          replicate 4
+          (record {
+            lengths = 0 ∷ 0 ∷ 0 ∷ 0 ∷ [];
+            timeout = 0;
+            count = 0;
+            ctrl = 14652;
+            accum = 0;
+            thresh = 0;
+            regwen = 1;
+            clrwen = 1;
+            state = 0;
+          });
+      alerts = record { regwen = replicate 64 1; en = replicate 64 0; class = replicate 64 0; cause = replicate 64 0 };
+      locals = record { regwen = replicate 7 1; en = replicate 7 0; class = replicate 7 0; cause = replicate 7 0 };
+      interrupts = record { state = 0; enable = 0 };
+    }
+unfolding rules
+new = refl
+
+-- "For an access the order is 7, 5, 1, 2, 4, 3"
+abbrev locked0 : Handler
+locked0 = then (newHandler 1) (Access.Write 320 0)
+
+abbrev bad : Handler
+bad = withClasses [] (newHandler 65)
+
+order : (gives locked0 (rest (Access.Write 325 65536)) ≡ refused 4)
+    × (gives locked0 (rest (Access.Write 325 65535)) ≡ refused 3)
+    × (gives locked0 (rest (Access.Write 320 2)) ≡ refused 4)
+    × (gives locked0 (rest (Access.Write 320 1)) ≡ refused 3)
+    × (gives locked0 (rest (Access.Write 320 0)) ≡ pos 0)
+    × (gives locked0 (rest (Access.Write 324 1)) ≡ refused 2)
+    × (gives locked0 (rest (Access.Write 324 4294967295)) ≡ refused 2)
+    × (gives locked0 (rest (Access.Write 333 4294967295)) ≡ refused 1)
+    × (gives locked0 (rest Access.Malformed) ≡ refused 5)
+    × (gives bad (rest Access.Malformed) ≡ refused 7)
+unfolding rules
+order = (refl, refl, refl, refl, refl, refl, refl, refl, refl, refl)
+
+-- "Read 333: -1. Read 323, write 324: -2. Write 16 to 1: -4."
+cases : (gives (newHandler 1) (rest (Access.Read 333)) ≡ refused 1)
+    × (gives (newHandler 1) (rest (Access.Read 323)) ≡ refused 2)
+    × (gives (newHandler 1) (rest (Access.Read 2)) ≡ refused 2)
+    × (gives (newHandler 1) (rest (Access.Write 324 0)) ≡ refused 2)
+    × (gives (newHandler 1) (rest (Access.Write 331 0)) ≡ refused 2)
+    × (gives (newHandler 1) (rest (Access.Write 332 0)) ≡ refused 2)
+    × (gives (newHandler 1) (rest (Access.Write 1 16)) ≡ refused 4)
+    × (gives (newHandler 1) (rest (Access.Write 1 15)) ≡ pos 0)
+    × (gives (newHandler 1) (rest Access.Nothing) ≡ pos 0)
+unfolding rules
+cases = (refl, refl, refl, refl, refl, refl, refl, refl, refl)

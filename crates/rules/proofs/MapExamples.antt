@@ -1,0 +1,99 @@
+-- Worked examples that pin "Register map" in document 01's own numbers, by computation.
+-- Assumes nothing.
+use Prim.Native.Nat.{ℕ, _+_, _*_}
+use mathlib.Core.Path.{_≡_, refl}
+use mathlib.Core.Bool.{Bool, true, false}
+use mathlib.Core.List.{List, [], _∷_, map}
+use Rattle.rules.specs.Map.{decode, numberOf, bits, readOnly, writeOnly, guard, isLock, isRegister}
+use Rattle.rules.specs.declared.Field.{Field}
+use Rattle.rules.specs.declared.Register.{Register}
+use Rattle.rules.specs.declared.Register.the-variants.{IntrState, IntrEnable, IntrTest, Local, Alert, Block, Unassigned}
+use Rattle.rules.specs.declared.Setting.{Setting}
+use Rattle.rules.specs.declared.Setting.the-variants.{Ctrl, ClrRegwen, Clr, AccumCnt, AccumThresh, TimeoutCyc, PhaseCyc, EscCnt}
+use Rattle.rules.proofs.Scenes.{rules}
+
+-- the table's first column, at the ends of each range
+fixed : (map (decode 64) (0 ∷ 1 ∷ 2 ∷ []) ≡ IntrState ∷ IntrEnable ∷ IntrTest ∷ [])
+    × (map (decode 64) (16 ∷ 22 ∷ 24 ∷ 30 ∷ []) ≡ Local Field.Regwen 0 ∷ Local Field.Regwen 6 ∷ Local Field.En 0 ∷ Local Field.En 6 ∷ [])
+    × (map (decode 64) (32 ∷ 38 ∷ 40 ∷ 46 ∷ []) ≡ Local Field.Class 0 ∷ Local Field.Class 6 ∷ Local Field.Cause 0 ∷ Local Field.Cause 6 ∷ [])
+    × (map (decode 64) (64 ∷ 127 ∷ 128 ∷ 191 ∷ []) ≡ Alert Field.Regwen 0 ∷ Alert Field.Regwen 63 ∷ Alert Field.En 0 ∷ Alert Field.En 63 ∷ [])
+    × (map (decode 64) (192 ∷ 255 ∷ 256 ∷ 319 ∷ [])
+    ≡ Alert Field.Class 0 ∷ Alert Field.Class 63 ∷ Alert Field.Cause 0 ∷ Alert Field.Cause 63 ∷ [])
+unfolding rules
+fixed = (refl, refl, refl, refl, refl)
+
+abbrev block : ℕ → List Register
+block k = map (λ o. decode 1 (320 + 16 * k + o)) (0 ∷ 1 ∷ 2 ∷ 3 ∷ 4 ∷ 5 ∷ 6 ∷ 7 ∷ 8 ∷ 9 ∷ 10 ∷ 11 ∷ 12 ∷ 13 ∷ 15 ∷ [])
+
+abbrev blockOf : ℕ → List Register
+blockOf k =
+    Block Setting.Regwen k
+    ∷ Block Ctrl k
+    ∷ Block ClrRegwen k
+    ∷ Block Clr k
+    ∷ Block AccumCnt k
+    ∷ Block AccumThresh k
+    ∷ Block TimeoutCyc k
+    ∷ Block (PhaseCyc 0) k
+    ∷ Block (PhaseCyc 1) k
+    ∷ Block (PhaseCyc 2) k
+    ∷ Block (PhaseCyc 3) k
+    ∷ Block EscCnt k
+    ∷ Block Setting.State k
+    ∷ Unassigned
+    ∷ Unassigned
+    ∷ []
+
+-- "320+16k+0 class REGWEN, +1 CTRL .. +11, +12 ESC_CNT, STATE"
+blocks : (block 0 ≡ blockOf 0) × (block 1 ≡ blockOf 1) × (block 2 ≡ blockOf 2) × (block 3 ≡ blockOf 3)
+unfolding rules
+blocks = (refl, refl, refl, refl)
+
+-- "all other numbers are unassigned. Alert i exists for i below N"
+unassigned : (map (λ r. isRegister (decode 64 r)) (3 ∷ 15 ∷ 23 ∷ 31 ∷ 39 ∷ 47 ∷ 63 ∷ 384 ∷ 1023 ∷ [])
+    ≡ false ∷ false ∷ false ∷ false ∷ false ∷ false ∷ false ∷ false ∷ false ∷ [])
+    × (map (λ r. isRegister (decode 5 r)) (68 ∷ 69 ∷ 132 ∷ 133 ∷ 196 ∷ 197 ∷ 260 ∷ 261 ∷ [])
+    ≡ true ∷ false ∷ true ∷ false ∷ true ∷ false ∷ true ∷ false ∷ [])
+    × (map (λ r. isRegister (decode 0 r)) (64 ∷ 128 ∷ 192 ∷ 256 ∷ []) ≡ false ∷ false ∷ false ∷ false ∷ [])
+unfolding rules
+unassigned = (refl, refl, refl)
+
+-- a register's number in the table's own form
+numbered : (map numberOf (IntrState ∷ IntrEnable ∷ IntrTest ∷ []) ≡ 0 ∷ 1 ∷ 2 ∷ [])
+    × (map (λ f. numberOf (Local f 5)) (Field.Regwen ∷ Field.En ∷ Field.Class ∷ Field.Cause ∷ []) ≡ 21 ∷ 29 ∷ 37 ∷ 45 ∷ [])
+    × (map (λ f. numberOf (Alert f 5)) (Field.Regwen ∷ Field.En ∷ Field.Class ∷ Field.Cause ∷ []) ≡ 69 ∷ 133 ∷ 197 ∷ 261 ∷ [])
+    × (map numberOf (blockOf 2) ≡ 352 ∷ 353 ∷ 354 ∷ 355 ∷ 356 ∷ 357 ∷ 358 ∷ 359 ∷ 360 ∷ 361 ∷ 362 ∷ 363 ∷ 364 ∷ 3 ∷ 3 ∷ [])
+unfolding rules
+numbered = (refl, refl, refl, refl)
+
+-- the table's last column
+widths : (map (λ r. bits (decode 64 r)) (0 ∷ 1 ∷ 2 ∷ 16 ∷ 24 ∷ 32 ∷ 40 ∷ 64 ∷ 128 ∷ 192 ∷ 256 ∷ []) ≡ 4 ∷ 4 ∷ 4 ∷ 1 ∷ 1 ∷ 2 ∷ 1 ∷ 1 ∷ 1 ∷ 2 ∷ 1 ∷ [])
+    × (map bits (blockOf 0) ≡ 1 ∷ 14 ∷ 1 ∷ 1 ∷ 16 ∷ 16 ∷ 32 ∷ 32 ∷ 32 ∷ 32 ∷ 32 ∷ 32 ∷ 3 ∷ 0 ∷ 0 ∷ [])
+unfolding rules
+widths = (refl, refl)
+
+-- "write only": INTR_TEST, CLR; "read only": ACCUM_CNT, ESC_CNT, STATE
+ways : (map writeOnly (IntrState ∷ IntrEnable ∷ IntrTest ∷ Local Field.Cause 0 ∷ Alert Field.Cause 0 ∷ []) ≡ false ∷ false ∷ true ∷ false ∷ false ∷ [])
+    × (map writeOnly (blockOf 0)
+    ≡ false ∷ false ∷ false ∷ true ∷ false ∷ false ∷ false ∷ false ∷ false ∷ false ∷ false ∷ false ∷ false ∷ false ∷ false ∷ [])
+    × (map readOnly (blockOf 0)
+    ≡ false ∷ false ∷ false ∷ false ∷ true ∷ false ∷ false ∷ false ∷ false ∷ false ∷ false ∷ true ∷ true ∷ false ∷ false ∷ [])
+    × (map readOnly (IntrState ∷ IntrTest ∷ Local Field.Cause 0 ∷ Alert Field.Cause 0 ∷ []) ≡ false ∷ false ∷ false ∷ false ∷ [])
+unfolding rules
+ways = (refl, refl, refl, refl)
+
+-- "Alert and local REGWEN guard their EN and CLASS; class REGWEN guards CTRL, ACCUM_THRESH, TIMEOUT_CYC and the phase lengths; CLR_REGWEN
+-- guards CLR", by number: 3 where nothing guards
+guards : (map (λ r. numberOf (guard (decode 64 r))) (69 ∷ 133 ∷ 197 ∷ 261 ∷ []) ≡ 69 ∷ 69 ∷ 69 ∷ 3 ∷ [])
+    × (map (λ r. numberOf (guard (decode 64 r))) (18 ∷ 26 ∷ 34 ∷ 42 ∷ []) ≡ 18 ∷ 18 ∷ 18 ∷ 3 ∷ [])
+    × (map (λ q. numberOf (guard q)) (blockOf 1) ≡ 336 ∷ 336 ∷ 338 ∷ 338 ∷ 3 ∷ 336 ∷ 336 ∷ 336 ∷ 336 ∷ 336 ∷ 336 ∷ 3 ∷ 3 ∷ 3 ∷ 3 ∷ [])
+    × (map (λ q. numberOf (guard q)) (IntrState ∷ IntrEnable ∷ IntrTest ∷ []) ≡ 3 ∷ 3 ∷ 3 ∷ [])
+unfolding rules
+guards = (refl, refl, refl, refl)
+
+-- the REGWEN and CLR_REGWEN
+lock-registers : (map (λ r. isLock (decode 64 r)) (0 ∷ 18 ∷ 26 ∷ 69 ∷ 133 ∷ []) ≡ false ∷ true ∷ false ∷ true ∷ false ∷ [])
+    × (map isLock (blockOf 0)
+    ≡ true ∷ false ∷ true ∷ false ∷ false ∷ false ∷ false ∷ false ∷ false ∷ false ∷ false ∷ false ∷ false ∷ false ∷ false ∷ [])
+unfolding rules
+lock-registers = (refl, refl)

@@ -1,0 +1,128 @@
+-- Worked examples that pin step 2, the samples, by computation.
+-- Assumes nothing.
+use Prim.Native.Nat.{ℕ, _+_, _-_, _^_}
+use mathlib.Core.Path.{_≡_, refl}
+use mathlib.Core.Bool.{Bool, true, false}
+use mathlib.Core.List.{List, [], _∷_}
+use lib.IntN.{ℤ, pos}
+use lib.ListN.{set, replicate}
+use Rattle.rules.specs.Access.{value}
+use Rattle.rules.specs.Run.{run}
+use Rattle.rules.specs.State.{newHandler, armed, withLocals}
+use Rattle.rules.specs.declared.Access.{Access}
+use Rattle.rules.specs.declared.Field.{Field}
+use Rattle.rules.specs.declared.Handler.{Handler}
+use Rattle.rules.specs.declared.Input.{Input}
+use Rattle.rules.specs.declared.Register.{Register}
+use Rattle.rules.specs.declared.Register.the-variants.{IntrState, Local, Alert, Block}
+use Rattle.rules.specs.declared.Setting.the-variants.{AccumCnt}
+use Rattle.rules.proofs.Scenes.{rules, ones, wired, wire, rest, raise, bothHigh, bothLow, none, write, gives, settings, zeros, station, ready}
+
+abbrev holds : Handler → List Input → Register → ℕ
+holds h xs q = value (run h xs) q
+
+abbrev accum : Handler → List Input → ℕ
+accum h xs = holds h xs (Block AccumCnt 0)
+
+-- "Pair (1,0) on a re-armed alert is an event and disarms it; (0,1) re-arms it; equal wires change no arming"
+arming : (accum (ready 9) (raise 0 none ∷ []) ≡ 1)
+    × (accum (ready 9) (raise 0 none ∷ raise 0 none ∷ []) ≡ 1)
+    × (accum (ready 9) (raise 0 none ∷ rest none ∷ raise 0 none ∷ []) ≡ 2)
+    × (accum (ready 9) (raise 0 none ∷ bothHigh 0 none ∷ raise 0 none ∷ []) ≡ 1)
+    × (accum (ready 9) (raise 0 none ∷ bothLow 0 none ∷ raise 0 none ∷ []) ≡ 1)
+    × (accum (ready 9) (bothHigh 0 none ∷ raise 0 none ∷ []) ≡ 1)
+    × (accum (ready 9) (wired 0 ones none ∷ wired 0 ones none ∷ []) ≡ 0)
+unfolding rules
+arming = (refl, refl, refl, refl, refl, refl, refl)
+
+-- a disabled alert at (1,0) disarms, so enabling it with the wire still high gives no event
+abbrev off : Handler
+off = station 1 (replicate 64 0) (replicate 64 0) 0 (settings 0x393F 0 0 zeros)
+
+disabled : (armed (run off (raise 0 none ∷ [])) 0 ≡ false)
+    × (holds off (raise 0 none ∷ raise 0 (write (Alert Field.En 0) 1) ∷ []) (Alert Field.Cause 0) ≡ 0)
+    × (holds off (raise 0 (write (Alert Field.En 0) 1) ∷ []) (Alert Field.Cause 0) ≡ 1)
+    × (accum off (raise 0 none ∷ raise 0 (write (Alert Field.En 0) 1) ∷ []) ≡ 0)
+    × (holds off (raise 0 none ∷ []) (Alert Field.Cause 0) ≡ 0)
+unfolding rules
+disabled = (refl, refl, refl, refl, refl)
+
+-- "however many, it is one event": two alerts of a class in one tick
+together : (accum (ready 9) (wired (wire 0 + wire 1) (ones - wire 0 - wire 1) none ∷ []) ≡ 1)
+    × (holds (ready 9) (wired (wire 0 + wire 1) (ones - wire 0 - wire 1) none ∷ []) (Alert Field.Cause 1) ≡ 1)
+unfolding rules
+together = (refl, refl)
+
+-- an alert's event with its class off sets its cause, and no interrupt
+class-off : (holds (newHandler 1) (raise 0 (write (Alert Field.En 0) 1) ∷ []) (Alert Field.Cause 0) ≡ 1)
+    × (holds (newHandler 1) (raise 0 (write (Alert Field.En 0) 1) ∷ []) IntrState ≡ 0)
+    × (accum (newHandler 1) (raise 0 (write (Alert Field.En 0) 1) ∷ []) ≡ 0)
+unfolding rules
+class-off = (refl, refl, refl)
+
+-- N = 64: alert 63 is at the last bit, positive wires first; the two swapped are a fall
+abbrev last : Handler
+last = station 64 (set (replicate 64 0) 63 1) (set (replicate 64 0) 63 2) 2 (settings 1 0 0 zeros)
+
+places : (holds last (wired 1 (ones - 1) none ∷ []) (Alert Field.Cause 63) ≡ 1)
+    × (holds last (wired 1 (ones - 1) none ∷ []) IntrState ≡ 4)
+    × (holds last (wired (ones - 1) 1 none ∷ []) (Alert Field.Cause 63) ≡ 0)
+    × (holds last (wired 2 (ones - 2) none ∷ []) (Alert Field.Cause 63) ≡ 0)
+    × (holds last (wired (2 ^ 63) (ones - 2 ^ 63) none ∷ []) (Alert Field.Cause 63) ≡ 0)
+    × (run last (wired 1 (ones - 1) none ∷ []) .receivers .armed ≡ (ones - 1) ∷ [])
+unfolding rules
+places = (refl, refl, refl, refl, refl, refl)
+
+-- the state with local 2 enabled in class k
+abbrev locals2 : ℕ → Handler → Handler
+locals2 k h =
+    withLocals (record { regwen = replicate 7 1; en = set (replicate 7 0) 2 1; class = set (replicate 7 0) 2 k; cause = replicate 7 0 }) h
+
+-- "Samples at N and above count for nothing", and a new handler's arming is all ones for every N
+abbrev two : Handler
+two = locals2 0 (station 2 (replicate 64 1) (replicate 64 0) 0 (settings 1 0 0 zeros))
+
+above : (run two (wired ones 0 none ∷ []) .receivers .armed ≡ (ones - 2 ^ 63 - 2 ^ 62) ∷ [])
+    × (run two (wired (wire 2) (ones - wire 2) none ∷ []) ≡ run two (rest none ∷ []))
+    × (run two (wired (ones - wire 0 - wire 1) ones none ∷ []) ≡ run two (rest none ∷ []))
+    × (newHandler 0 .receivers .armed ≡ ones ∷ [])
+    × (newHandler 64 .receivers .armed ≡ ones ∷ [])
+unfolding rules
+above = (refl, refl, refl, refl, refl)
+
+-- "If any enabled alert has equal wires and local 2 is enabled, local 2 occurs and sets its cause. A disabled local alert never occurs."
+abbrev integrity : Handler
+integrity = locals2 1 (station 2 (0 ∷ 1 ∷ replicate 62 0) (replicate 64 0) 0 (settings 0x393C 0 0 zeros))
+
+abbrev on1 : Handler
+on1 = locals2 1 (station 2 (0 ∷ 1 ∷ replicate 62 0) (replicate 64 0) 1 (settings 1 0 0 zeros))
+
+locals : (holds integrity (bothHigh 1 none ∷ []) (Local Field.Cause 2) ≡ 1)
+    × (holds integrity (bothLow 1 none ∷ []) (Local Field.Cause 2) ≡ 1)
+    × (holds integrity (bothHigh 0 none ∷ []) (Local Field.Cause 2) ≡ 0)
+    × (holds integrity (bothHigh 1 none ∷ []) (Alert Field.Cause 1) ≡ 0)
+    × (holds integrity (bothHigh 1 none ∷ []) IntrState ≡ 0)
+    × (holds on1 (bothHigh 1 none ∷ []) IntrState ≡ 2)
+    × (holds on1 (bothHigh 1 none ∷ []) (Block AccumCnt 1) ≡ 1)
+    × (holds on1 (raise 1 none ∷ []) (Local Field.Cause 2) ≡ 0)
+    × (holds on1 (bothHigh 1 (write (Local Field.En 2) 0) ∷ []) (Local Field.Cause 2) ≡ 0)
+unfolding rules
+locals = (refl, refl, refl, refl, refl, refl, refl, refl, refl)
+
+-- "Only 2 can occur in the base": all local alerts enabled, all causes but that of 2 stay 0
+abbrev all7 : Handler
+all7 =
+    withLocals (record { regwen = replicate 7 1; en = replicate 7 1; class = replicate 7 0; cause = replicate 7 0 })
+    (station 1 (1 ∷ replicate 63 0) (replicate 64 0) 0 (settings 1 0 0 zeros))
+
+only-2 : run all7 (bothHigh 0 none ∷ []) .locals .cause ≡ 0 ∷ 0 ∷ 1 ∷ 0 ∷ 0 ∷ 0 ∷ 0 ∷ []
+unfolding rules
+only-2 = refl
+
+-- P11: "Wires (1,1) on enabled alert 0, local 2 enabled in enabled class 1: register 42 reads 1 next tick"
+abbrev seal : Handler
+seal = locals2 1 (station 1 (1 ∷ replicate 63 0) (replicate 64 0) 1 (settings 1 0 0 zeros))
+
+next-tick : (gives seal (bothHigh 0 (Access.Read 42)) ≡ pos 0) × (gives (run seal (bothHigh 0 none ∷ [])) (rest (Access.Read 42)) ≡ pos 1)
+unfolding rules
+next-tick = (refl, refl)

@@ -1,0 +1,151 @@
+-- Worked examples that pin steps 3 to 5 and the order of a tick's steps, by computation.
+-- Assumes nothing.
+use Prim.Native.Nat.{ℕ, _+_, _-_, _^_}
+use mathlib.Core.Path.{_≡_, refl}
+use mathlib.Core.Bool.{Bool, true, false}
+use mathlib.Core.List.{List, [], _∷_, _++_, map}
+use lib.IntN.{ℤ, pos}
+use lib.ListN.{replicate}
+use Rattle.rules.specs.Access.{value}
+use Rattle.rules.specs.Run.{run, ticks}
+use Rattle.classes.specs.declared.Class.{Class}
+use Rattle.rules.specs.State.{newHandler, classAt, resetClass, withInterrupts, withClasses}
+use Rattle.rules.specs.Tick.{ticked, interrupts, lines}
+use Rattle.rules.specs.declared.Access.{Access}
+use Rattle.rules.specs.declared.Field.{Field}
+use Rattle.rules.specs.declared.Handler.{Handler}
+use Rattle.rules.specs.declared.Input.{Input}
+use Rattle.rules.specs.declared.Register.{Register}
+use Rattle.rules.specs.declared.Register.the-variants.{IntrState, IntrEnable, IntrTest, Alert, Block}
+use Rattle.rules.specs.declared.Setting.{Setting}
+use Rattle.rules.specs.declared.Setting.the-variants.{Ctrl, ClrRegwen, Clr, AccumCnt, AccumThresh, TimeoutCyc, PhaseCyc, EscCnt}
+use Rattle.rules.specs.declared.Ticked.{Ticked}
+use Rattle.rules.proofs.Scenes.{rules, rest, raise, none, write, gives, refused, settings, zeros, station, pair, ready}
+
+abbrev holds : Handler → List Input → Register → ℕ
+holds h xs q = value (run h xs) q
+
+abbrev state : Handler → List Input → ℕ
+state h xs = holds h xs (Block Setting.State 0)
+
+-- "It sets the interrupt bit, after any clearing in step 1": a bit cleared and set in one tick ends at 1, and so does a CAUSE
+abbrev fired : Handler
+fired = run (ready 9) (raise 0 none ∷ rest none ∷ [])
+
+sets-after-clearing : (holds fired (raise 0 (write IntrState 1) ∷ []) IntrState ≡ 1)
+    × (holds fired (rest (write IntrState 1) ∷ []) IntrState ≡ 0)
+    × (holds fired (raise 0 (write (Alert Field.Cause 0) 1) ∷ []) (Alert Field.Cause 0) ≡ 1)
+unfolding rules
+sets-after-clearing = (refl, refl, refl)
+
+-- "Threshold 2, ACCUM_CNT 0, Idle: the third event starts Phase 0, ACCUM_CNT then 3"; the second does not
+abbrev events : ℕ → List Input
+events n = lib.ListN.take (n + n) (raise 0 none ∷ rest none ∷ raise 0 none ∷ rest none ∷ raise 0 none ∷ rest none ∷ [])
+
+third : (state (ready 2) (events 2) ≡ 0)
+    × (state (ready 2) (events 2 ++ (raise 0 none ∷ [])) ≡ 4)
+    × (holds (ready 2) (events 2 ++ (raise 0 none ∷ [])) (Block AccumCnt 0) ≡ 3)
+    × (holds (ready 2) (events 2 ++ (raise 0 none ∷ [])) (Block EscCnt 0) ≡ 1)
+    × (holds (ready 2) (events 2 ++ (raise 0 none ∷ [])) (Block ClrRegwen 0) ≡ 0)
+unfolding rules
+third = (refl, refl, refl, refl, refl)
+
+-- CTRL 1 has EN and no line: one event at threshold 0 gives STATE 4, and drives no line
+abbrev lone : Handler
+lone = station 1 (1 ∷ replicate 63 0) (replicate 64 0) 0 (settings 1 0 0 zeros)
+
+en-alone : (state lone (raise 0 none ∷ []) ≡ 4) × (ticked lone (raise 0 none) .output .lines ≡ 0) × (holds lone (raise 0 none ∷ []) (Block ClrRegwen 0) ≡ 1)
+unfolding rules
+en-alone = (refl, refl, refl)
+
+-- "due" reads this tick's event and this tick's INTR_TEST, which is no event and counts nothing
+abbrev timed : ℕ → Handler
+timed cyc = pair 9 cyc zeros
+
+due-now : (state (timed 1) (raise 0 none ∷ []) ≡ 1)
+    × (state (timed 1) (raise 0 none ∷ rest none ∷ []) ≡ 4)
+    × (state (timed 2) (raise 0 none ∷ rest none ∷ []) ≡ 1)
+    × (holds (timed 2) (raise 0 none ∷ rest none ∷ []) (Block EscCnt 0) ≡ 2)
+    × (state (timed 0) (raise 0 none ∷ rest none ∷ rest none ∷ []) ≡ 0)
+    × (state (timed 2) (rest (write IntrTest 1) ∷ []) ≡ 1)
+    × (holds (timed 2) (rest (write IntrTest 1) ∷ []) (Block AccumCnt 0) ≡ 0)
+    × (state (timed 2) (raise 0 none ∷ rest (write IntrState 1) ∷ []) ≡ 0)
+    × (state (timed 2) (raise 0 none ∷ rest (write (Block TimeoutCyc 0) 0) ∷ []) ≡ 0)
+    × (state (timed 2) (rest (write IntrTest 2) ∷ []) ≡ 0)
+unfolding rules
+due-now = (refl, refl, refl, refl, refl, refl, refl, refl, refl, refl)
+
+-- "A trigger is an event with no accepted clear in this tick", "A clear makes ACCUM_CNT 0 and the event isn't counted"; a 0 does nothing
+clearing : (state (ready 0) (raise 0 (write (Block Clr 0) 1) ∷ []) ≡ 0)
+    × (holds (ready 0) (raise 0 (write (Block Clr 0) 1) ∷ []) (Block AccumCnt 0) ≡ 0)
+    × (holds (ready 0) (raise 0 (write (Block Clr 0) 1) ∷ []) IntrState ≡ 1)
+    × (state (ready 0) (raise 0 (write (Block Clr 0) 0) ∷ []) ≡ 4)
+    × (state (ready 0) (raise 0 (write (Block Clr 1) 1) ∷ []) ≡ 4)
+    × (holds fired (rest (write (Block Clr 0) 1) ∷ []) (Block AccumCnt 0) ≡ 0)
+    × (holds fired (rest (write (Block Clr 0) 0) ∷ []) (Block AccumCnt 0) ≡ 1)
+unfolding rules
+clearing = (refl, refl, refl, refl, refl, refl, refl)
+
+-- threshold 0 and these lengths
+abbrev lengths : ℕ → ℕ → ℕ → ℕ → Handler
+lengths a b c d = pair 0 0 (a ∷ b ∷ c ∷ d ∷ [])
+
+-- "Letting the clear of one tick undo a start of the tick before under LOCK" is a slip: it is refused, and the phase goes on
+abbrev started : Handler
+started = run (lengths 9 0 0 0) (raise 0 none ∷ [])
+
+under-lock : (gives started (rest (write (Block Clr 0) 1)) ≡ refused 3)
+    × (state started (rest (write (Block Clr 0) 1) ∷ []) ≡ 4)
+    × (holds started (rest (write (Block Clr 0) 1) ∷ []) (Block EscCnt 0) ≡ 2)
+unfolding rules
+under-lock = (refl, refl, refl)
+
+-- a write acts in its own tick: EN off in a phase; a length shortened below the count
+in-phase : (state started (rest (write (Block Ctrl 0) 0) ∷ rest none ∷ []) ≡ 4)
+    × (state started (rest none ∷ rest none ∷ rest (write (Block (PhaseCyc 0) 0) 1) ∷ []) ≡ 5)
+unfolding rules
+in-phase = (refl, refl)
+
+-- P7: lengths 0, 10, 10, 5, start in tick 100: phases start at 100, 101, 111, 121; Terminal at 126
+-- what register q of class 0 holds after each tick from 100 on: alert 0 rises in tick 100
+abbrev from100 : Handler → (Class → ℕ) → ℕ → List ℕ
+from100 h q count = map (λ (t : Ticked). q (classAt (t .handler) 0)) (ticks h (raise 0 none ∷ replicate count (rest none)))
+
+phases : (from100 (lengths 0 10 10 5) (λ c. c .state) 27 ≡ 4 ∷ replicate 10 5 ++ replicate 10 6 ++ replicate 5 7 ++ replicate 2 3)
+    × (from100 (lengths 3 0 2 5) (λ c. c .state) 12 ≡ replicate 3 4 ++ 5 ∷ replicate 2 6 ++ replicate 5 7 ++ replicate 2 3)
+unfolding rules
+phases = (refl, refl)
+
+-- ESC_CNT counts each phase's ticks from 1, and is 0 in Terminal
+counts : from100 (lengths 3 0 2 5) (λ c. c .count) 11 ≡ 1 ∷ 2 ∷ 3 ∷ 1 ∷ 1 ∷ 2 ∷ 1 ∷ 2 ∷ 3 ∷ 4 ∷ 5 ∷ 0 ∷ []
+unfolding rules
+counts = refl
+
+-- step 5: "interrupts are INTR_STATE and INTR_ENABLE, bit by bit"; "a line is on if any class drives it"
+outputs : (interrupts (withInterrupts (record { state = 12; enable = 10 }) (newHandler 1)) ≡ 8)
+    × (map (λ (t : Ticked). t .output .lines) (ticks (lengths 1 1 1 1) (raise 0 none ∷ replicate 4 (rest none))) ≡ 1 ∷ 2 ∷ 4 ∷ 8 ∷ 0 ∷ [])
+    × (map (λ (t : Ticked). t .output .interrupts) (ticks (ready 9) (raise 0 (write IntrEnable 1) ∷ rest (write IntrState 1) ∷ [])) ≡ 1 ∷ 0 ∷ [])
+unfolding rules
+outputs = (refl, refl, refl)
+
+-- two classes: each drives its own lines, and class 3 is hit by its own alert alone
+abbrev both : Handler
+both =
+    withClasses (settings 0x393F 0 0 (9 ∷ 0 ∷ 0 ∷ 0 ∷ []) ∷ resetClass ∷ resetClass ∷ settings 0x25F 0 0 (9 ∷ 0 ∷ 0 ∷ 0 ∷ []) ∷ [])
+    (station 2 (1 ∷ 1 ∷ replicate 62 0) (0 ∷ 3 ∷ replicate 62 0) 0 resetClass)
+
+apart : (ticked both (raise 1 none) .output .lines ≡ 4)
+    × (holds both (raise 1 none ∷ []) IntrState ≡ 8)
+    × (state both (raise 1 none ∷ []) ≡ 0)
+    × (holds both (raise 1 none ∷ []) (Block Setting.State 3) ≡ 4)
+    × (ticked (run both (raise 1 none ∷ [])) (raise 0 none) .output .lines ≡ 5)
+unfolding rules
+apart = (refl, refl, refl, refl, refl)
+
+-- "access does nothing, tick runs": a refused access and a malformed record still take their samples
+refused-ticks : (holds (ready 9) (raise 0 Access.Malformed ∷ []) (Block AccumCnt 0) ≡ 1)
+    × (holds (ready 9) (raise 0 Access.Malformed ∷ []) (Alert Field.Cause 0) ≡ 1)
+    × (holds (ready 9) (raise 0 (Access.Write 333 1) ∷ []) (Block AccumCnt 0) ≡ 1)
+    × (gives (ready 9) (raise 0 Access.Malformed) ≡ refused 5)
+unfolding rules
+refused-ticks = (refl, refl, refl, refl)

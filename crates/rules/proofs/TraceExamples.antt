@@ -1,0 +1,113 @@
+-- Worked examples that pin "Traces" and the batch, by computation.
+-- Assumes nothing.
+use Prim.Native.Nat.{ℕ, _+_, _*_, _^_}
+use mathlib.Core.Path.{_≡_, refl}
+use mathlib.Core.Bool.{Bool, true, false}
+use mathlib.Core.List.{List, [], _∷_, _++_, map}
+use lib.IntN.{ℤ, pos}
+use lib.ListN.{replicate}
+use Rattle.bits.specs.Fields.{toBytes}
+use Rattle.rules.specs.Batch.{Batched, batch}
+use Rattle.rules.specs.Record.{inputOf, wordOf}
+use Rattle.rules.specs.Run.{run}
+use Rattle.rules.specs.State.{newHandler}
+use Rattle.rules.specs.Tick.{ticked}
+use Rattle.rules.specs.declared.Access.{Access}
+use Rattle.rules.specs.declared.Answer.{Answer}
+use Rattle.rules.specs.declared.Handler.{Handler}
+use Rattle.rules.specs.declared.Refusal.the-variants.{NoRegister, BadRecord}
+use Rattle.rules.specs.declared.Ticked.{Ticked}
+use Rattle.rules.proofs.Scenes.{rules, refused}
+
+-- ── records ──
+
+-- the record of a first and a second 32-bit half, and of positive and negative wires
+abbrev bytes : ℕ → ℕ → ℕ → ℕ → List ℕ
+bytes a b p m = toBytes 24 (((a * 2 ^ 32 + b) * 2 ^ 64 + p) * 2 ^ 64 + m)
+
+abbrev accessIn : ℕ → ℕ → Access
+accessIn a b = inputOf (bytes a b 0 0) .access
+
+-- "2 bits kind (0 none, 1 read, 2 write), 10 bits register, 20 zero bits, 32 bits value"
+kinds : (accessIn 0 0 ≡ Access.Nothing)
+    × (accessIn 0x54100000 0 ≡ Access.Read 321)
+    × (accessIn 0x7FF00000 0 ≡ Access.Read 1023)
+    × (accessIn 0x94500000 0x10000 ≡ Access.Write 325 65536)
+    × (accessIn 0x80000000 0 ≡ Access.Write 0 0)
+    × (accessIn 0xBFF00000 0xFFFFFFFF ≡ Access.Write 1023 4294967295)
+unfolding rules
+kinds = (refl, refl, refl, refl, refl, refl)
+
+-- "Malformed: kind 3, a nonzero bit among the 20, a read with a value, kind 0 with a register or value"
+malformed : map (λ (n : ℕ). accessIn n 0) (0xC0000000 ∷ 0x80080000 ∷ 0x80000001 ∷ 0x00080000 ∷ 0x00000001 ∷ 0x00100000 ∷ [])
+    ≡ replicate 6 Access.Malformed
+unfolding rules
+malformed = refl
+
+malformed-values : (accessIn 0x54100000 1 ≡ Access.Malformed)
+    × (accessIn 0x54100000 0x80000000 ≡ Access.Malformed)
+    × (accessIn 0 1 ≡ Access.Malformed)
+    × (accessIn 0xC0000000 1 ≡ Access.Malformed)
+unfolding rules
+malformed-values = (refl, refl, refl, refl)
+
+-- "64 positive wires with alert 0 first, 64 negative wires"
+wires : (inputOf (bytes 0 0 5 9) .sample .alerts .pos ≡ 5 ∷ []) × (inputOf (bytes 0 0 5 9) .sample .alerts .neg ≡ 9 ∷ [])
+unfolding rules
+wires = (refl, refl)
+
+-- ── words ──
+
+abbrev wordOfParts : ℕ → ℕ → Answer → ℕ
+wordOfParts i l a = wordOf (record { handler = newHandler 1; answer = a; output = record { interrupts = i; lines = l } })
+
+-- "interrupts (4 bits, class 0 first), lines (4, line 0 first), refusal number (4), 20 zeros, read value or 0"
+words : (wordOfParts 1 0 Answer.Done ≡ 0x8000000000000000)
+    × (wordOfParts 8 0 Answer.Done ≡ 0x1000000000000000)
+    × (wordOfParts 0 1 Answer.Done ≡ 0x0800000000000000)
+    × (wordOfParts 0 2 Answer.Done ≡ 0x0400000000000000)
+    × (wordOfParts 0 8 Answer.Done ≡ 0x0100000000000000)
+    × (wordOfParts 0 0 (Answer.Refused NoRegister) ≡ 0x0010000000000000)
+    × (wordOfParts 15 15 (Answer.Refused BadRecord) ≡ 0xFF50000000000000)
+    × (wordOfParts 0 0 (Answer.Value 4294967295) ≡ 0x00000000FFFFFFFF)
+    × (wordOfParts 5 10 (Answer.Value 1) ≡ 0xA500000000000001)
+unfolding rules
+words = (refl, refl, refl, refl, refl, refl, refl, refl, refl)
+
+-- ── batches ──
+
+-- the two records of document 01
+abbrev reads321 : List ℕ
+reads321 = toBytes 24 0x541000000000000000000000000000008000000000000000
+
+abbrev writes1023 : List ℕ
+writes1023 = toBytes 24 0xbff000000000000000000000000000008000000000000000
+
+-- "prints exactly 000000000000393c and 0010000000000000"; later words stay; a refused record and the next still runs
+two-records : (batch (newHandler 1) (reads321 ++ writes1023) (7 ∷ 8 ∷ 9 ∷ 10 ∷ []) .out ≡ 0x393C ∷ 0x0010000000000000 ∷ 9 ∷ 10 ∷ [])
+    × (batch (newHandler 1) (reads321 ++ writes1023) (7 ∷ 8 ∷ 9 ∷ 10 ∷ []) .answer ≡ pos 0)
+    × (batch (newHandler 1) (writes1023 ++ reads321) (7 ∷ 8 ∷ []) .out ≡ 0x0010000000000000 ∷ 0x393C ∷ [])
+unfolding rules
+two-records = (refl, refl, refl)
+
+-- a batch runs each record on the state that the one before it left: EN of alert 0, CTRL of class 0, then a rise
+abbrev rises : List ℕ
+rises = bytes 0x88000000 1 0 (2 ^ 63) ++ bytes 0x94100000 1 0 (2 ^ 63) ++ bytes 0x54C00000 0 (2 ^ 63) 0 ++ bytes 0x54C00000 0 (2 ^ 63) 0
+
+run-on : batch (newHandler 1) rises (0 ∷ 0 ∷ 0 ∷ 0 ∷ []) .out ≡ 0 ∷ 0 ∷ 0 ∷ 4 ∷ []
+unfolding rules
+run-on = refl
+
+-- "No bytes means no ticks"; "for a batch 7, 8, 9": each leaves state and list unchanged
+abbrev given : Batched → ℤ
+given b = b .answer
+
+refusals : (batch (newHandler 1) [] (7 ∷ []) ≡ record { handler = newHandler 1; answer = pos 0; out = 7 ∷ [] })
+    × (batch (newHandler 65) [] [] ≡ record { handler = newHandler 65; answer = refused 7; out = [] })
+    × (given (batch (newHandler 65) (replicate 25 0) []) ≡ refused 7)
+    × (batch (newHandler 1) (replicate 25 0) [] ≡ record { handler = newHandler 1; answer = refused 8; out = [] })
+    × (batch (newHandler 1) (replicate 23 0) (7 ∷ []) ≡ record { handler = newHandler 1; answer = refused 8; out = 7 ∷ [] })
+    × (batch (newHandler 1) (replicate 24 0) [] ≡ record { handler = newHandler 1; answer = refused 9; out = [] })
+    × (batch (newHandler 1) (replicate 48 0) (7 ∷ []) ≡ record { handler = newHandler 1; answer = refused 9; out = 7 ∷ [] })
+unfolding rules
+refusals = (refl, refl, refl, refl, refl, refl, refl)
