@@ -1,8 +1,6 @@
 -- Laws of one class's rules.
 -- Assumes nothing.
-use Prim.Native.Nat.{ℕ, zero, suc, _+_}
 use mathlib.Core.Path.{_≡_, refl}
-use Rattle.bits.proofs.BitLaws.{bit-ext}
 use Rattle.classes.specs.Class.{stateOf, stateNumber}
 use Rattle.classes.specs.declared.ClassState.{ClassState}
 use Rattle.classes.specs.declared.ClassState.the-variants.{Idle, Timeout, Phase0, Phase1, Phase2, Phase3, Terminal}

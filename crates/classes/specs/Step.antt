@@ -1,9 +1,9 @@
 -- Steps 3 and 4 of a tick, of one class.
 -- Assumes nothing.
 use Prim.Native.Nat.{ℕ, zero, suc, _+_}
-use mathlib.Core.Bool.{Bool, true, false, cond, not, _&&_, _||_}
+use mathlib.Core.Bool.{Bool, false, cond, not, _&&_, _||_}
 use lib.Dec.{leb, ltb}
-use Rattle.classes.specs.Class.{en, enabled, lock, phaseCyc, phase, stateOf, stateNumber}
+use Rattle.classes.specs.Class.{enabled, lock, phaseCyc, phase, stateOf, stateNumber}
 use Rattle.classes.specs.declared.Class.{Class}
 use Rattle.classes.specs.declared.ClassState.{ClassState}
 use Rattle.classes.specs.declared.ClassState.the-variants.{Idle, Timeout, Phase0, Phase1, Phase2, Phase3, Terminal}

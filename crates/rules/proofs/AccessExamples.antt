@@ -1,30 +1,37 @@
 -- Worked examples that pin step 1, the access, by computation.
 -- Assumes nothing.
-use Prim.Native.Nat.{ℕ, _^_}
+use Prim.Native.Nat.{ℕ}
 use mathlib.Core.Path.{_≡_, refl}
-use mathlib.Core.Bool.{Bool, true, false}
+use mathlib.Core.Bool.{true, false}
 use mathlib.Core.List.{List, [], _∷_, map}
 use lib.IntN.{ℤ, pos}
-use Rattle.rules.specs.Access.{value, acted, clears, accessed}
-use Rattle.rules.specs.Map.{decode}
-use Rattle.rules.specs.Run.{run}
+use Rattle.rules.specs.Access.{acted, answerTo, clears, accessed}
+use Rattle.rules.specs.Answer.{number}
+use Rattle.rules.specs.Samples.{sampled}
 use Rattle.rules.specs.State.{newHandler, withInterrupts}
-use Rattle.rules.specs.Tick.{ticked}
 use Rattle.rules.specs.declared.Access.{Access}
-use Rattle.rules.specs.declared.Answer.{Answer}
 use Rattle.rules.specs.declared.Field.{Field}
 use Rattle.rules.specs.declared.Handler.{Handler}
-use Rattle.rules.specs.declared.Register.{Register}
-use Rattle.rules.specs.declared.Register.the-variants.{IntrState, IntrEnable, IntrTest, Local, Alert, Block}
+use Rattle.rules.specs.declared.Register.the-variants.{IntrEnable, Local, Alert, Block}
 use Rattle.rules.specs.declared.Setting.{Setting}
-use Rattle.rules.specs.declared.Setting.the-variants.{Ctrl, ClrRegwen, Clr, AccumCnt, AccumThresh, TimeoutCyc, PhaseCyc, EscCnt}
-use Rattle.rules.proofs.Scenes.{rules, rest, raise, read, write, then, gives, refused, ready}
+use Rattle.rules.specs.declared.Setting.the-variants.{Ctrl, ClrRegwen, AccumThresh, TimeoutCyc, PhaseCyc}
+use Rattle.rules.proofs.Scenes.{rules, raise, write, gives, refused, ready}
+
+-- the state after these accesses, and the number that an access answers
+abbrev acts : Handler → List Access → Handler
+acts h [] = h
+acts h (x ∷ xs) = acts (acted h x) xs
+
+abbrev answers : Handler → Access → ℤ
+answers h x = number (answerTo h x)
+
+abbrev reads : Handler → ℕ → ℤ
+reads h r = answers h (Access.Read r)
 
 -- a handler whose registers all differ where they can
 abbrev full : Handler
 full =
-    run (newHandler 64)
-    (map rest
+    acts (newHandler 64)
     (write (Block TimeoutCyc 2) 4294967295
     ∷ write (Block (PhaseCyc 0) 2) 10
     ∷ write (Block (PhaseCyc 1) 2) 11
@@ -41,28 +48,32 @@ full =
     ∷ write (Local Field.Regwen 5) 0
     ∷ write (Block ClrRegwen 3) 0
     ∷ write (Block Setting.Regwen 1) 0
-    ∷ []))
-
-abbrev reads : Handler → ℕ → ℤ
-reads h r = gives h (rest (Access.Read r))
+    ∷ [])
 
 -- what reads of these registers give, and what writes of v
 abbrev allRead : List ℕ → List ℤ
 allRead rs = let h = full in map (reads h) rs
 
 abbrev allWritten : ℕ → List ℕ → List ℤ
-allWritten v rs = let h = full in map (λ (r : ℕ). gives h (rest (Access.Write r v))) rs
+allWritten v rs = let h = full in map (λ (r : ℕ). answers h (Access.Write r v)) rs
 
 -- an accepted write reads back, by document 01's numbers, and the registers beside it are as they were
 reads-back : (allRead (352 ∷ 353 ∷ 354 ∷ 356 ∷ 357 ∷ 358 ∷ []) ≡ pos 1 ∷ pos 0x3FFF ∷ pos 1 ∷ pos 0 ∷ pos 65535 ∷ pos 4294967295 ∷ [])
     × (allRead (359 ∷ 360 ∷ 361 ∷ 362 ∷ 363 ∷ 364 ∷ []) ≡ pos 10 ∷ pos 11 ∷ pos 12 ∷ pos 13 ∷ pos 0 ∷ pos 0 ∷ [])
-    × (allRead (127 ∷ 126 ∷ 190 ∷ 191 ∷ 254 ∷ 255 ∷ 318 ∷ 319 ∷ [])
-    ≡ pos 1 ∷ pos 0 ∷ pos 0 ∷ pos 1 ∷ pos 0 ∷ pos 3 ∷ pos 0 ∷ pos 0 ∷ [])
+    × (allRead (127 ∷ 126 ∷ 190 ∷ 191 ∷ 254 ∷ 255 ∷ 318 ∷ 319 ∷ []) ≡ pos 1 ∷ pos 0 ∷ pos 0 ∷ pos 1 ∷ pos 0 ∷ pos 3 ∷ pos 0 ∷ pos 0 ∷ [])
     × (allRead (21 ∷ 22 ∷ 29 ∷ 30 ∷ 37 ∷ 38 ∷ 45 ∷ 46 ∷ []) ≡ pos 0 ∷ pos 1 ∷ pos 0 ∷ pos 1 ∷ pos 0 ∷ pos 2 ∷ pos 0 ∷ pos 0 ∷ [])
     × (allRead (0 ∷ 1 ∷ 336 ∷ 337 ∷ 338 ∷ 368 ∷ 369 ∷ 370 ∷ 385 ∷ [])
-    ≡ pos 0 ∷ pos 9 ∷ pos 0 ∷ pos 0x393C ∷ pos 1 ∷ pos 1 ∷ pos 0x393C ∷ pos 0 ∷ refused 1 ∷ [])
+      ≡ pos 0 ∷ pos 9 ∷ pos 0 ∷ pos 0x393C ∷ pos 1 ∷ pos 1 ∷ pos 0x393C ∷ pos 0 ∷ refused 1 ∷ [])
 unfolding rules
 reads-back = (refl, refl, refl, refl, refl)
+
+-- P2 and P3: a refused write, too wide or locked, leaves the register
+refused-writes : (reads (acts (newHandler 1) (Access.Write 325 65535 ∷ Access.Write 325 65536 ∷ [])) 325 ≡ pos 65535)
+    × (reads (acts (newHandler 1) (Access.Write 320 0 ∷ Access.Write 321 7 ∷ [])) 321 ≡ pos 0x393C)
+    × (reads (acts (newHandler 1) (Access.Write 320 0 ∷ Access.Write 320 1 ∷ [])) 320 ≡ pos 0)
+    × (acted (newHandler 1) (Access.Write 324 7) ≡ newHandler 1)
+unfolding rules
+refused-writes = (refl, refl, refl, refl)
 
 -- "INTR_STATE, a 1 clears", "INTR_TEST .. a 1 sets INTR_STATE"
 abbrev pending : ℕ → Handler
@@ -78,9 +89,9 @@ intr = (refl, refl, refl, refl, refl)
 
 -- "In CAUSE a written 1 clears": a 0 leaves it
 abbrev caused : Handler
-caused = ticked (ready 9) (raise 0 Access.Nothing) .handler
+caused = sampled (ready 9) (raise 0 Access.Nothing .sample .alerts)
 
-cause : (reads caused 256 ≡ pos 1) × (reads (then caused (Access.Write 256 0)) 256 ≡ pos 1) × (reads (then caused (Access.Write 256 1)) 256 ≡ pos 0)
+cause : (reads caused 256 ≡ pos 1) × (reads (acted caused (Access.Write 256 0)) 256 ≡ pos 1) × (reads (acted caused (Access.Write 256 1)) 256 ≡ pos 0)
 unfolding rules
 cause = (refl, refl, refl)
 
@@ -98,9 +109,9 @@ locks = (refl, refl, refl, refl, refl)
 clr : (map (clears full (Access.Write 339 1)) (0 ∷ 1 ∷ 2 ∷ 3 ∷ []) ≡ false ∷ true ∷ false ∷ false ∷ [])
     × (clears full (Access.Write 339 0) 1 ≡ false)
     × (clears full (Access.Write 371 1) 3 ≡ false)
-    × (gives full (rest (Access.Write 371 1)) ≡ refused 3)
-    × (gives full (rest (Access.Write 371 0)) ≡ refused 3)
-    × (gives full (rest (Access.Write 375 7)) ≡ pos 0)
+    × (answers full (Access.Write 371 1) ≡ refused 3)
+    × (answers full (Access.Write 371 0) ≡ refused 3)
+    × (answers full (Access.Write 375 7) ≡ pos 0)
     × (accessed full (Access.Write 339 1) .clears ≡ 2)
     × (accessed full (Access.Write 371 1) .clears ≡ 0)
 unfolding rules

@@ -1,23 +1,17 @@
 -- Worked examples that pin "Numbers that come back", by computation.
 -- Assumes nothing.
-use Prim.Native.Nat.{ℕ, _^_, _-_}
+use Prim.Native.Nat.{_^_}
 use mathlib.Core.Path.{_≡_, refl}
-use mathlib.Core.Bool.{true, false}
-use mathlib.Core.List.{List, [], _∷_}
-use lib.IntN.{ℤ, pos, negsuc, negℤ}
+use mathlib.Core.List.{[], _∷_}
+use lib.IntN.{pos, negsuc}
 use lib.ListN.{replicate}
-use Rattle.rules.specs.Access.{value, acted}
-use Rattle.rules.specs.Answer.{number, firstOf, refusalNumber}
-use Rattle.rules.specs.State.{newHandler, made, classAt, resetClass, withClasses}
-use Rattle.rules.specs.Tick.{ticked}
+use Rattle.rules.specs.Answer.{number}
+use Rattle.rules.specs.State.{newHandler, made, withClasses}
 use Rattle.rules.specs.declared.Access.{Access}
 use Rattle.rules.specs.declared.Answer.{Answer}
 use Rattle.rules.specs.declared.Handler.{Handler}
 use Rattle.rules.specs.declared.Refusal.the-variants.{NoRegister, WrongWay, Locked, TooWide, BadRecord, BadCount, BadState, BadLength, ShortList}
-use Rattle.rules.specs.declared.Register.the-variants.{IntrState, IntrEnable, Block}
-use Rattle.rules.specs.declared.Setting.{Setting}
-use Rattle.rules.specs.declared.Setting.the-variants.{Ctrl, AccumThresh}
-use Rattle.rules.proofs.Scenes.{rules, rest, then, gives, refused, write}
+use Rattle.rules.proofs.Scenes.{rules, rest, then, gives, refused}
 
 -- "a read gives 0 to 4,294,967,295, anything else accepted gives 0, and a refusal gives the negated refusal number"
 numbers : (number (Answer.Value 4294967295) ≡ pos 4294967295)

@@ -2,7 +2,7 @@
 -- Assumes nothing.
 use Prim.Native.Nat.{ℕ, _+_, _*_}
 use mathlib.Core.Path.{_≡_, refl}
-use mathlib.Core.Bool.{Bool, true, false}
+use mathlib.Core.Bool.{true, false}
 use mathlib.Core.List.{List, [], _∷_, map}
 use Rattle.rules.specs.Map.{decode, numberOf, bits, readOnly, writeOnly, guard, isLock, isRegister}
 use Rattle.rules.specs.declared.Field.{Field}

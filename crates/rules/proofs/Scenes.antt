@@ -1,6 +1,6 @@
 -- States and inputs that the examples share.
 -- Assumes nothing.
-use Prim.Native.Nat.{ℕ, zero, suc, _-_, _^_}
+use Prim.Native.Nat.{ℕ, _-_, _^_}
 use mathlib.Core.List.{List, [], _∷_}
 use lib.IntN.{ℤ, pos, negℤ}
 use lib.ListN.{set, replicate}
@@ -64,9 +64,6 @@ none = Access.Nothing
 
 abbrev pub write : Register → ℕ → Access
 write q v = Access.Write (numberOf q) v
-
-abbrev pub read : Register → Access
-read q = Access.Read (numberOf q)
 
 -- ── what is seen ──
 

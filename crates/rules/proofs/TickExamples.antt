@@ -1,10 +1,8 @@
 -- Worked examples that pin steps 3 to 5 and the order of a tick's steps, by computation.
 -- Assumes nothing.
-use Prim.Native.Nat.{ℕ, _+_, _-_, _^_}
+use Prim.Native.Nat.{ℕ, _+_}
 use mathlib.Core.Path.{_≡_, refl}
-use mathlib.Core.Bool.{Bool, true, false}
 use mathlib.Core.List.{List, [], _∷_, _++_, map}
-use lib.IntN.{ℤ, pos}
 use lib.ListN.{replicate}
 use Rattle.rules.specs.Access.{value}
 use Rattle.rules.specs.Run.{run, ticks}
@@ -18,7 +16,7 @@ use Rattle.rules.specs.declared.Input.{Input}
 use Rattle.rules.specs.declared.Register.{Register}
 use Rattle.rules.specs.declared.Register.the-variants.{IntrState, IntrEnable, IntrTest, Alert, Block}
 use Rattle.rules.specs.declared.Setting.{Setting}
-use Rattle.rules.specs.declared.Setting.the-variants.{Ctrl, ClrRegwen, Clr, AccumCnt, AccumThresh, TimeoutCyc, PhaseCyc, EscCnt}
+use Rattle.rules.specs.declared.Setting.the-variants.{Ctrl, ClrRegwen, Clr, AccumCnt, TimeoutCyc, PhaseCyc, EscCnt}
 use Rattle.rules.specs.declared.Ticked.{Ticked}
 use Rattle.rules.proofs.Scenes.{rules, rest, raise, none, write, gives, refused, settings, zeros, station, pair, ready}
 

@@ -2,21 +2,16 @@
 -- Assumes nothing.
 use Prim.Native.Nat.{ℕ, _+_, _*_, _^_}
 use mathlib.Core.Path.{_≡_, refl}
-use mathlib.Core.Bool.{Bool, true, false}
 use mathlib.Core.List.{List, [], _∷_, _++_, map}
 use lib.IntN.{ℤ, pos}
 use lib.ListN.{replicate}
 use Rattle.bits.specs.Fields.{toBytes}
 use Rattle.rules.specs.Batch.{Batched, batch}
 use Rattle.rules.specs.Record.{inputOf, wordOf}
-use Rattle.rules.specs.Run.{run}
 use Rattle.rules.specs.State.{newHandler}
-use Rattle.rules.specs.Tick.{ticked}
 use Rattle.rules.specs.declared.Access.{Access}
 use Rattle.rules.specs.declared.Answer.{Answer}
-use Rattle.rules.specs.declared.Handler.{Handler}
 use Rattle.rules.specs.declared.Refusal.the-variants.{NoRegister, BadRecord}
-use Rattle.rules.specs.declared.Ticked.{Ticked}
 use Rattle.rules.proofs.Scenes.{rules, refused}
 
 -- ── records ──

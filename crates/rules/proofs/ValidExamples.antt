@@ -2,8 +2,7 @@
 -- Assumes nothing.
 use Prim.Native.Nat.{ℕ}
 use mathlib.Core.Path.{_≡_, refl}
-use mathlib.Core.Bool.{Bool, true, false}
-use mathlib.Core.List.{List, [], _∷_}
+use mathlib.Core.Bool.{true, false}
 use lib.ListN.{set, replicate}
 use Rattle.classes.specs.declared.Class.{Class}
 use Rattle.rules.specs.State.{newHandler, resetClass, withInterrupts, withLocals, withAlerts, withClasses, withLocalColumn, withAlertColumn}

@@ -1,7 +1,7 @@
 -- "Traces": a batch fills a lent list of 64-bit words, one per record. Its refusals are of "Numbers that come back".
 -- Assumes nothing.
 use Prim.Native.Nat.{ℕ, _*_, _/_, _%_}
-use mathlib.Core.Bool.{Bool, not}
+use mathlib.Core.Bool.{not}
 use mathlib.Core.List.{List, [], _∷_, _++_, map}
 use lib.Dec.{eqb, ltb}
 use lib.IntN.{ℤ}

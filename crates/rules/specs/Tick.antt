@@ -1,23 +1,19 @@
 -- "One tick, in order": steps 3 to 5, and the whole tick.
 -- Assumes nothing.
 use Prim.Native.Nat.{ℕ}
-use mathlib.Core.Bool.{Bool, true, false, cond, _&&_, _||_}
-use mathlib.Core.List.{List}
+use mathlib.Core.Bool.{Bool, cond, _&&_, _||_}
 use Rattle.bits.specs.Bits.{bit, bitsOf}
 use Rattle.bits.specs.Index.{each, anyTo}
 use Rattle.classes.specs.Class.{drives}
 use Rattle.classes.specs.Step.{classEvent, classStep}
-use Rattle.classes.specs.declared.Class.{Class}
 use Rattle.classes.specs.declared.Signals.{Signals}
 use Rattle.rules.specs.Access.{acted, answerTo, clears}
 use Rattle.rules.specs.Samples.{assigned, sampled}
 use Rattle.rules.specs.State.{classCount, classAt, withInterrupts, withClasses}
 use Rattle.rules.specs.Valid.{valid}
-use Rattle.rules.specs.declared.Access.{Access}
 use Rattle.rules.specs.declared.Answer.{Answer}
 use Rattle.rules.specs.declared.Handler.{Handler}
 use Rattle.rules.specs.declared.Input.{Input}
-use Rattle.rules.specs.declared.Interrupts.{Interrupts}
 use Rattle.rules.specs.declared.Output.{Output}
 use Rattle.rules.specs.declared.Refusal.the-variants.{BadState}
 use Rattle.rules.specs.declared.Ticked.{Ticked}
