@@ -34,7 +34,8 @@ use Rattle.rules.specs.declared.Ticked.{Ticked}
 use Rattle.rules.specs.declared.Wires.{Wires}
 use Rattle.laws.specs.Above.{SameAbove, EntriesNew, atReset}
 use Rattle.laws.specs.Columns.{sameField}
-use Rattle.laws.proofs.Columns.{pick, alert-store, alert-sampled, armed-sampled}
+use Rattle.laws.proofs.Cases.{pick}
+use Rattle.laws.proofs.StateLaws.{alert-store, alert-sampled, armed-sampled}
 
 -- a state with the same N, alerts and receivers
 kept : (h g : Handler) → g .n ≡ h .n → g .alerts ≡ h .alerts → g .receivers ≡ h .receivers → SameAbove h g

@@ -20,7 +20,7 @@ use Rattle.rules.specs.declared.Setting.{Setting}
 use Rattle.rules.specs.declared.Setting.the-variants.{Clr}
 use Rattle.laws.specs.ClearedBy.{ClearedBy}
 use Rattle.laws.specs.Refusals.{Unrefused}
-use Rattle.laws.proofs.ColumnLaws.{by-kind, by-setting}
+use Rattle.laws.proofs.Cases.{by-kind, by-setting}
 use Rattle.laws.proofs.Refusals.{unrefused, is-accepted}
 
 -- a false test

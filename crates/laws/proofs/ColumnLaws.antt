@@ -18,51 +18,11 @@ use Rattle.rules.specs.State.{fieldIndex, localColumn, alertColumn, withLocalCo
 use Rattle.rules.specs.declared.Alerts.{Alerts}
 use Rattle.rules.specs.declared.Field.{Field}
 use Rattle.rules.specs.declared.Locals.{Locals}
-use Rattle.rules.specs.declared.Register.{Register}
-use Rattle.rules.specs.declared.Register.the-variants.{IntrState, IntrEnable, IntrTest, Local, Alert, Block, Unassigned}
 use Rattle.rules.specs.declared.Setting.{Setting}
 use Rattle.rules.specs.declared.Setting.the-variants.{Ctrl, ClrRegwen, Clr, AccumCnt, AccumThresh, TimeoutCyc, PhaseCyc, EscCnt}
 use Rattle.laws.specs.Assigned.{settingExists}
 use Rattle.laws.specs.RegisterFile.{settingStored}
-
--- ── cases ──
-
--- what holds of each kind of register holds of a register
-pub by-kind : (P : Register → Type 0) → P IntrState → P IntrEnable → P IntrTest → ((f : Field) (j : ℕ) → P (Local f j))
-    → ((f : Field) (i : ℕ) → P (Alert f i)) → ((s : Setting) (k : ℕ) → P (Block s k)) → P Unassigned → (q : Register) → P q
-by-kind P a b c l r s u IntrState = a
-by-kind P a b c l r s u IntrEnable = b
-by-kind P a b c l r s u IntrTest = c
-by-kind P a b c l r s u (Local f j) = l f j
-by-kind P a b c l r s u (Alert f i) = r f i
-by-kind P a b c l r s u (Block t k) = s t k
-by-kind P a b c l r s u Unassigned = u
-
--- of each field of an alert, and of each register of a block
-pub by-field : (P : Field → Type 0) → P Field.Regwen → P Field.En → P Field.Class → P Field.Cause → (f : Field) → P f
-by-field P a b c d Field.Regwen = a
-by-field P a b c d Field.En = b
-by-field P a b c d Field.Class = c
-by-field P a b c d Field.Cause = d
-
--- of each register of a block
-pub by-setting : (P : Setting → Type 0) → P Setting.Regwen → P Ctrl → P ClrRegwen → P Clr → P AccumCnt → P AccumThresh → P TimeoutCyc
-    → ((p : ℕ) → P (PhaseCyc p)) → P EscCnt → P Setting.State → (s : Setting) → P s
-by-setting P a b c d e f g h i j Setting.Regwen = a
-by-setting P a b c d e f g h i j Ctrl = b
-by-setting P a b c d e f g h i j ClrRegwen = c
-by-setting P a b c d e f g h i j Clr = d
-by-setting P a b c d e f g h i j AccumCnt = e
-by-setting P a b c d e f g h i j AccumThresh = f
-by-setting P a b c d e f g h i j TimeoutCyc = g
-by-setting P a b c d e f g h i j (PhaseCyc p) = h p
-by-setting P a b c d e f g h i j EscCnt = i
-by-setting P a b c d e f g h i j Setting.State = j
-
--- a test of which both ways are one
-pub cond-same : {A : Type 0} (b : Bool) (x : A) → x ≡ cond b x x
-cond-same true x = refl
-cond-same false x = refl
+use Rattle.laws.proofs.Cases.{cond-same}
 
 -- ── an entry of a list ──
 

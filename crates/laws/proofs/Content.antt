@@ -28,7 +28,7 @@ use Rattle.rules.specs.declared.Setting.{Setting}
 use Rattle.laws.specs.Assigned.{assigned, settingExists}
 use Rattle.laws.specs.Block.{classStored, settingLocked, blockAccepts, blockWritten, blockClears, ofBlock, writesBlock, Unmoved}
 use Rattle.laws.proofs.Clears.{clears-by}
-use Rattle.laws.proofs.ColumnLaws.{by-kind, by-setting, cond-same}
+use Rattle.laws.proofs.Cases.{by-kind, by-setting, cond-same}
 use Rattle.laws.proofs.Frame.{stepped-class}
 use Rattle.laws.proofs.MapLaws.{decode-assigned}
 use Rattle.laws.proofs.RegisterFile.{class-stored}

@@ -1,16 +1,14 @@
 -- Step 1 of a tick keeps a state valid: an accepted write fits its field.
 -- Assumes nothing.
 use Prim.Native.Nat.{ℕ, _^_, _<_}
-use mathlib.Core.Path.{_≡_, refl, subst}
-use mathlib.Core.Bool.{Bool, true, false, false≢true, cond, _&&_}
-use mathlib.Core.List.{List, _∷_}
+use mathlib.Core.Path.{_≡_, subst}
+use mathlib.Core.Bool.{true, cond, _&&_}
 use native.Mathlib.Omega.{arith}
 use borrow.Author.Tests.{eqb-true, ltb-true, not-false}
 use lib.Dec.{eqb}
 use Rattle.bits.proofs.BitLaws.{bitsOf-lt}
 use Rattle.bits.proofs.IndexLaws.{and-true}
-use Rattle.rules.specs.Access.{verdict, accepts, accepted, store, fieldStored, withSetting, written, acted}
-use Rattle.rules.specs.Answer.{Case, firstOf}
+use Rattle.rules.specs.Access.{accepted, store, fieldStored, withSetting, written, acted}
 use Rattle.rules.specs.Map.{decode, bits, fieldBits, settingBits}
 use Rattle.rules.specs.State.{localCount, classCount, local, alert, classAt}
 use Rattle.rules.specs.Valid.{valid}
@@ -21,10 +19,12 @@ use Rattle.rules.specs.declared.Handler.{Handler}
 use Rattle.rules.specs.declared.Register.{Register}
 use Rattle.rules.specs.declared.Register.the-variants.{IntrState, IntrEnable, IntrTest, Local, Alert, Block, Unassigned}
 use Rattle.rules.specs.declared.Setting.{Setting}
-use Rattle.rules.specs.declared.Verdict.{Verdict}
 use Rattle.laws.specs.Columns.{sameField}
 use Rattle.laws.specs.Facts.{ClassValid, Valid}
-use Rattle.laws.proofs.Columns.{pick, same-field, local-store, alert-store, class-store}
+use Rattle.laws.proofs.Cases.{pick}
+use Rattle.laws.proofs.Refusals.{unrefused}
+use Rattle.laws.proofs.RegisterFile.{class-stored}
+use Rattle.laws.proofs.StateLaws.{same-field, local-store, alert-store}
 use Rattle.laws.proofs.KeepsClass.{setting-valid}
 use Rattle.laws.proofs.ValidLaws.{facts, is-valid}
 
@@ -58,10 +58,8 @@ module _ (h : Handler) (t : Valid h) (v : ℕ) where
 
   classes-store : (s : Setting) (i : ℕ) → v < 2 ^ settingBits s → (k : ℕ) → k < classCount → ClassValid (classAt (store h (Block s i) v) k)
   classes-store s i l k b =
-      rw (class-store h s i v k b)
-      (pick ClassValid (eqb k i) (withSetting s v (classAt h i)) (classAt h k)
-      (λ e. let d : k ≡ i = eqb-true k i e in let c : i < classCount = omega arith in setting-valid s v (classAt h i) l (t .classes i c))
-      (λ _. t .classes k b))
+      rw (class-stored h (Block s i) v k b)
+      (pick ClassValid (eqb k i) (withSetting s v (classAt h k)) (classAt h k) (λ _. setting-valid s v (classAt h k) l (t .classes k b)) (λ _. t .classes k b))
 
 -- a value that fits, stored
 store-valid : (h : Handler) (q : Register) (v : ℕ) → v < 2 ^ bits q → Valid h → Valid (store h q v)
@@ -77,24 +75,9 @@ store-valid h (Block s i) v l t =
     record { n = t .n; state = t .state; enable = t .enable; locals = t .locals; alerts = t .alerts; classes = classes-store h t v s i l }
 store-valid h Unassigned v l t = t
 
--- where no refusal is met, no case of the list holds
-first-none : (c : Case) (cs : List Case) → accepts (firstOf (c ∷ cs)) ≡ true → (c .holds ≡ false) × (accepts (firstOf cs) ≡ true)
-unfolding firstOf
-first-none c cs e = go (c .holds) refl e
-  where
-    go : (b : Bool) → c .holds ≡ b → accepts (cond b (Verdict.Refused (c .refusal)) (firstOf cs)) ≡ true → (c .holds ≡ false) × (accepts (firstOf cs) ≡ true)
-    go true p e = absurd (false≢true e)
-    go false p e = (p, e)
-
 -- an accepted write fits its field
 write-fits : (h : Handler) (r v : ℕ) → accepted h (Write r v) ≡ true → v < 2 ^ bits (decode (h .n) r)
-unfolding verdict
-write-fits h r v e =
-    let a = first-none _ _ e in
-    let b = first-none _ _ (a .1) in
-    let c = first-none _ _ (b .1) in
-    let d = first-none _ _ (c .1) in
-    ltb-true v (2 ^ bits (decode (h .n) r)) (not-false _ (d .0))
+write-fits h r v e = ltb-true v (2 ^ bits (decode (h .n) r)) (not-false _ (unrefused h (Write r v) e .width))
 
 written-valid : (h : Handler) (x : Access) → accepted h x ≡ true → Valid h → Valid (written h x)
 written-valid h Nothing e t = t

@@ -19,7 +19,8 @@ use Rattle.rules.specs.Map.{offset, settingBits}
 use Rattle.rules.specs.declared.Setting.{Setting}
 use Rattle.rules.specs.declared.Setting.the-variants.{Ctrl, ClrRegwen, Clr, AccumCnt, AccumThresh, TimeoutCyc, PhaseCyc, EscCnt}
 use Rattle.laws.specs.Facts.{ClassValid}
-use Rattle.laws.proofs.Columns.{pick, at-put}
+use Rattle.laws.proofs.Cases.{pick}
+use Rattle.laws.proofs.ColumnLaws.{at-put}
 use Rattle.laws.proofs.StateNumber.{number-fits}
 
 -- ── step 4: the state and count reached ──
@@ -116,7 +117,7 @@ lengths-valid AccumCnt v c l t = t .lengths
 lengths-valid AccumThresh v c l t = t .lengths
 lengths-valid TimeoutCyc v c l t = t .lengths
 lengths-valid (PhaseCyc q) v c l t = λ p h.
-    rw (at-put 4 (c .lengths) 0 q v p h) (pick (λ n. n < 2 ^ 32) (eqb p q) v (phaseCyc c p) (λ _. l) (λ _. t .lengths p h))
+    rw (at-put 4 (c .lengths) 0 q p h v) (pick (λ n. n < 2 ^ 32) (eqb p q) v (phaseCyc c p) (λ _. l) (λ _. t .lengths p h))
 lengths-valid EscCnt v c l t = t .lengths
 lengths-valid Setting.State v c l t = t .lengths
 

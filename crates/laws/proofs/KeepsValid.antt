@@ -28,7 +28,8 @@ use Rattle.rules.specs.declared.Ticked.{Ticked}
 use Rattle.rules.specs.declared.Wires.{Wires}
 use Rattle.laws.specs.Columns.{sameField}
 use Rattle.laws.specs.Facts.{ClassValid, Valid}
-use Rattle.laws.proofs.Columns.{pick, local-sampled, alert-sampled}
+use Rattle.laws.proofs.Cases.{pick}
+use Rattle.laws.proofs.StateLaws.{local-sampled, alert-sampled}
 use Rattle.laws.proofs.KeepsAccess.{acted-valid}
 use Rattle.laws.proofs.KeepsClass.{step-valid}
 use Rattle.laws.proofs.ValidLaws.{facts, is-valid}

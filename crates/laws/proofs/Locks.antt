@@ -23,7 +23,7 @@ use Rattle.rules.specs.declared.Wires.{Wires}
 use Rattle.laws.specs.Assigned.{assigned, settingExists}
 use Rattle.laws.specs.Frame.{fieldMoves, settingMoves}
 use Rattle.laws.specs.RegisterFile.{target, newValue, writes}
-use Rattle.laws.proofs.ColumnLaws.{by-kind, by-field, by-setting}
+use Rattle.laws.proofs.Cases.{by-kind, by-field, by-setting}
 use Rattle.laws.proofs.Frame.{stepped-frame, clrwen-falls}
 use Rattle.laws.proofs.MapLaws.{number-eq}
 use Rattle.laws.proofs.RegisterFile.{target-assigned, accepted-assigned, acted-value, acted-n}

@@ -22,7 +22,7 @@ use Rattle.rules.specs.declared.Input.{Input}
 use Rattle.rules.specs.declared.Refusal.the-variants.{BadState}
 use Rattle.rules.specs.declared.Ticked.{Ticked}
 use Rattle.rules.specs.declared.Verdict.{Verdict}
-use Rattle.laws.proofs.Columns.{pick}
+use Rattle.laws.proofs.Cases.{pick}
 
 -- a valid state: the tick is run
 pub ticked-good : (h : Handler) (x : Input) → valid h ≡ true → ticked h x ≡ tick h x

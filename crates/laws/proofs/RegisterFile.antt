@@ -25,7 +25,8 @@ use Rattle.rules.specs.declared.Setting.{Setting}
 use Rattle.laws.specs.Assigned.{assigned, settingExists}
 use Rattle.laws.specs.Block.{classStored}
 use Rattle.laws.specs.RegisterFile.{settingStored, target, newValue, writes, commits, committed, fieldPlain, settingPlain, plain}
-use Rattle.laws.proofs.ColumnLaws.{by-kind, by-setting, cond-same, at-changed, column-stored, local-column, alert-column, setting-value}
+use Rattle.laws.proofs.Cases.{by-kind, by-setting, cond-same}
+use Rattle.laws.proofs.ColumnLaws.{at-changed, column-stored, local-column, alert-column, setting-value}
 use Rattle.laws.proofs.MapLaws.{decode-assigned, number-eq}
 use Rattle.laws.proofs.Refusals.{unrefused}
 

@@ -63,7 +63,7 @@ reads-back : (allRead (352 ∷ 353 ∷ 354 ∷ 356 ∷ 357 ∷ 358 ∷ []) ≡ p
     × (allRead (127 ∷ 126 ∷ 190 ∷ 191 ∷ 254 ∷ 255 ∷ 318 ∷ 319 ∷ []) ≡ pos 1 ∷ pos 0 ∷ pos 0 ∷ pos 1 ∷ pos 0 ∷ pos 3 ∷ pos 0 ∷ pos 0 ∷ [])
     × (allRead (21 ∷ 22 ∷ 29 ∷ 30 ∷ 37 ∷ 38 ∷ 45 ∷ 46 ∷ []) ≡ pos 0 ∷ pos 1 ∷ pos 0 ∷ pos 1 ∷ pos 0 ∷ pos 2 ∷ pos 0 ∷ pos 0 ∷ [])
     × (allRead (0 ∷ 1 ∷ 336 ∷ 337 ∷ 338 ∷ 368 ∷ 369 ∷ 370 ∷ 385 ∷ [])
-      ≡ pos 0 ∷ pos 9 ∷ pos 0 ∷ pos 0x393C ∷ pos 1 ∷ pos 1 ∷ pos 0x393C ∷ pos 0 ∷ refused 1 ∷ [])
+    ≡ pos 0 ∷ pos 9 ∷ pos 0 ∷ pos 0x393C ∷ pos 1 ∷ pos 1 ∷ pos 0x393C ∷ pos 0 ∷ refused 1 ∷ [])
 unfolding rules
 reads-back = (refl, refl, refl, refl, refl)
 

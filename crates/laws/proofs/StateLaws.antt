@@ -1,7 +1,7 @@
 -- What the state holds by index after a store and after the samples.
 -- Assumes nothing.
-use Prim.Native.Nat.{ℕ, zero, suc, _+_, _*_, _/_, _%_, _<_}
-use mathlib.Core.Path.{_≡_, refl, sym, ap, _∙_}
+use Prim.Native.Nat.{ℕ, _+_, _*_, _/_, _%_, _<_}
+use mathlib.Core.Path.{_≡_, refl, ap, _∙_}
 use mathlib.Core.Bool.{Bool, true, false, cond, _&&_}
 use mathlib.Core.List.{List}
 use native.Mathlib.Omega.{arith}
@@ -11,68 +11,27 @@ use lib.ListN.{getD}
 use Rattle.bits.proofs.BitLaws.{place-word64}
 use Rattle.bits.proofs.IndexLaws.{at-each}
 use Rattle.bits.specs.Bits.{place, wordOf}
-use Rattle.classes.specs.Class.{noClass}
-use Rattle.rules.specs.Access.{store, fieldStored, withSetting}
+use Rattle.rules.specs.Access.{store, fieldStored}
 use Rattle.rules.specs.Samples.{sampled, alertEvent, occurs, rearmed, marked}
-use Rattle.rules.specs.State.{most, words, localCount, classCount, fieldIndex, local, alert, classAt, armed, localColumn, alertColumn, withLocalColumn, withAlertColumn, put}
-use Rattle.rules.specs.declared.Alerts.{Alerts}
+use Rattle.rules.specs.State.{most, words, localCount, fieldIndex, local, alert, armed, localColumn, alertColumn, put}
 use Rattle.rules.specs.declared.Field.{Field}
 use Rattle.rules.specs.declared.Handler.{Handler}
-use Rattle.rules.specs.declared.Locals.{Locals}
-use Rattle.rules.specs.declared.Register.the-variants.{Local, Alert, Block}
-use Rattle.rules.specs.declared.Setting.{Setting}
+use Rattle.rules.specs.declared.Register.the-variants.{Local, Alert}
 use Rattle.rules.specs.declared.Wires.{Wires}
 use Rattle.laws.specs.Columns.{sameField}
-
--- ── choices ──
-
--- what holds of either arm, each with its test, holds of the choice
-pub pick {ℓ} : {A : Type ℓ} (P : A → Type 0) (b : Bool) (x y : A) → (b ≡ true → P x) → (b ≡ false → P y) → P (cond b x y)
-pick P true x y s t = s refl
-pick P false x y s t = t refl
+use Rattle.laws.proofs.ColumnLaws.{at-put, field-eq, local-column, alert-column}
 
 -- ── the four fields ──
 
--- the field at each place of the map's order
-abbrev fieldAt : ℕ → Field
-fieldAt zero = Field.Regwen
-fieldAt (suc zero) = Field.En
-fieldAt (suc (suc zero)) = Field.Class
-fieldAt (suc (suc (suc n))) = Field.Cause
-
-field-index : (f : Field) → fieldAt (fieldIndex f) ≡ f
-field-index Field.Regwen = refl
-field-index Field.En = refl
-field-index Field.Class = refl
-field-index Field.Cause = refl
-
 pub same-field : (f g : Field) → sameField f g ≡ true → f ≡ g
-same-field f g e = sym (field-index f) ∙ ap fieldAt (eqb-true (fieldIndex f) (fieldIndex g) e) ∙ field-index g
+same-field f g e = field-eq f g (eqb-true (fieldIndex f) (fieldIndex g) e)
 
 -- ── a store: what is written at i, and all else as it was ──
 
--- an entry of a list with v put at i
-pub at-put {ℓ} : {A : Type ℓ} (n : ℕ) (xs : List A) (d : A) (i : ℕ) (v : A) (j : ℕ) → j < n → getD (put n xs d i v) j d ≡ cond (eqb j i) v (getD xs j d)
-unfolding put
-at-put n xs d i v j h = at-each n (λ k. cond (eqb k i) v (getD xs k d)) j d h
-
 -- an entry of a column that is anew if b
 column-put : (b : Bool) (n : ℕ) (xs ys : List ℕ) (i v j : ℕ) → j < n → (b ≡ true → xs ≡ ys) → getD (cond b (put n xs 0 i v) ys) j 0 ≡ cond (b && eqb j i) v (getD ys j 0)
-column-put true n xs ys i v j h e = at-put n xs 0 i v j h ∙ ap (λ (zs : List ℕ). cond (eqb j i) v (getD zs j 0)) (e refl)
+column-put true n xs ys i v j h e = at-put n xs 0 i j h v ∙ ap (λ (zs : List ℕ). cond (eqb j i) v (getD zs j 0)) (e refl)
 column-put false n xs ys i v j h e = refl
-
--- one column anew changes no other
-local-column : (f g : Field) (xs : List ℕ) (l : Locals) → localColumn g (withLocalColumn f xs l) ≡ cond (sameField f g) xs (localColumn g l)
-local-column f Field.Regwen xs l = refl
-local-column f Field.En xs l = refl
-local-column f Field.Class xs l = refl
-local-column f Field.Cause xs l = refl
-
-alert-column : (f g : Field) (xs : List ℕ) (a : Alerts) → alertColumn g (withAlertColumn f xs a) ≡ cond (sameField f g) xs (alertColumn g a)
-alert-column f Field.Regwen xs a = refl
-alert-column f Field.En xs a = refl
-alert-column f Field.Class xs a = refl
-alert-column f Field.Cause xs a = refl
 
 module _ (h : Handler) (f : Field) (i v : ℕ) (g : Field) (j : ℕ) where
   -- register g of local alert j after a write to register f of local alert i
@@ -90,11 +49,6 @@ module _ (h : Handler) (f : Field) (i v : ℕ) (g : Field) (j : ℕ) where
       ap (λ (xs : List ℕ). getD xs j 0) (alert-column f g (put most (alertColumn f (h .alerts)) 0 i (fieldStored f (alert h f i) v)) (h .alerts))
       ∙ column-put (sameField f g) most (alertColumn f (h .alerts)) (alertColumn g (h .alerts)) i (fieldStored f (alert h f i) v) j l
       (λ e. ap (λ (k : Field). alertColumn k (h .alerts)) (same-field f g e))
-
--- class k after a write to the block of class i
-pub class-store : (h : Handler) (s : Setting) (i v k : ℕ) → k < classCount → classAt (store h (Block s i) v) k ≡ cond (eqb k i) (withSetting s v (classAt h i)) (classAt h k)
-unfolding store
-class-store h s i v k l = at-put classCount (h .classes) noClass i (withSetting s v (classAt h i)) k l
 
 -- ── the samples: CAUSE is set where there is an event, and all else is as it was ──
 
