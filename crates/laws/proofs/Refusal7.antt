@@ -12,7 +12,7 @@ use lib.IntN.{pos, negℤ, negℤ-negℤ}
 use Rattle.bits.proofs.IndexLaws.{and-true}
 use Rattle.rules.specs.Access.{verdict, accessCases, given, answerBy, answerTo}
 use Rattle.rules.specs.Answer.{Case, firstOf, number, refusalNumber}
-use Rattle.rules.specs.Tick.{tick, ticked, noOutput}
+use Rattle.rules.specs.Tick.{lines, outputOf, after, tick, ticked, noOutput}
 use Rattle.rules.specs.Valid.{valid}
 use Rattle.rules.specs.declared.Access.{Access}
 use Rattle.rules.specs.declared.Access.the-variants.{Nothing, Read, Write, Malformed}
@@ -28,6 +28,16 @@ use Rattle.laws.proofs.Cases.{pick}
 pub ticked-good : (h : Handler) (x : Input) → valid h ≡ true → ticked h x ≡ tick h x
 unfolding ticked
 ticked-good h x e = rw e
+
+-- it reaches the state after steps 1 to 4
+pub ticked-handler : (h : Handler) (x : Input) → valid h ≡ true → ticked h x .handler ≡ after h x
+unfolding tick
+ticked-handler h x e = ap (λ (t : Ticked). t .handler) (ticked-good h x e)
+
+-- step 5: "outputs from the state now reached"
+pub ticked-lines : (h : Handler) (x : Input) → valid h ≡ true → ticked h x .output .lines ≡ lines (ticked h x .handler)
+unfolding tick outputOf
+ticked-lines h x e = rw (ticked-good h x e)
 
 -- any other: state unchanged, refusal 7, interrupts and lines 0
 pub ticked-bad : (h : Handler) (x : Input) → valid h ≡ false → ticked h x ≡ record { handler = h; answer = Answer.Refused BadState; output = noOutput }

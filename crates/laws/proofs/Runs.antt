@@ -7,14 +7,14 @@ use mathlib.Core.List.{List, [], _∷_, _++_}
 use native.Mathlib.Nat.{le-of-suc-le-suc, not-suc-le-zero}
 use lib.ListN.{length, getD, take}
 use Rattle.rules.specs.Run.{run, ticks}
-use Rattle.rules.specs.Tick.{after, tick, ticked}
+use Rattle.rules.specs.Tick.{after, ticked}
 use Rattle.rules.specs.Valid.{valid}
 use Rattle.rules.specs.declared.Handler.{Handler}
 use Rattle.rules.specs.declared.Input.{Input}
 use Rattle.rules.specs.declared.Ticked.{Ticked}
 use Rattle.laws.specs.Unchecked.{runUnchecked, ticksUnchecked}
 use Rattle.laws.proofs.KeepsValid.{after-valid}
-use Rattle.laws.proofs.Refusal7.{ticked-good}
+use Rattle.laws.proofs.Refusal7.{ticked-good, ticked-handler}
 
 -- ── two lists of ticks are one ──
 
@@ -51,18 +51,14 @@ ticks-at h (x ∷ xs) (suc i) d e l = ticks-at (ticked h x .handler) xs i d e (l
 
 -- ── where the first state is valid, no later one is refused: to look once is enough ──
 
-ticked-after : (h : Handler) (x : Input) → valid h ≡ true → ticked h x .handler ≡ after h x
-unfolding tick
-ticked-after h x e = ap (λ (t : Ticked). t .handler) (ticked-good h x e)
-
 pub one-check : (h : Handler) (xs : List Input) → valid h ≡ true → run h xs ≡ runUnchecked h xs
 unfolding run runUnchecked
 one-check h [] e = refl
-one-check h (x ∷ xs) e = ap (λ (g : Handler). run g xs) (ticked-after h x e) ∙ one-check (after h x) xs (after-valid h x e)
+one-check h (x ∷ xs) e = ap (λ (g : Handler). run g xs) (ticked-handler h x e) ∙ one-check (after h x) xs (after-valid h x e)
 
 pub one-check-ticks : (h : Handler) (xs : List Input) → valid h ≡ true → ticks h xs ≡ ticksUnchecked h xs
 unfolding ticks ticksUnchecked
 one-check-ticks h [] e = refl
 one-check-ticks h (x ∷ xs) e =
     ap₂ (λ (t : Ticked) (ts : List Ticked). t ∷ ts) (ticked-good h x e)
-    (ap (λ (g : Handler). ticks g xs) (ticked-after h x e) ∙ one-check-ticks (after h x) xs (after-valid h x e))
+    (ap (λ (g : Handler). ticks g xs) (ticked-handler h x e) ∙ one-check-ticks (after h x) xs (after-valid h x e))

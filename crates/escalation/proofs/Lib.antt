@@ -1,0 +1,11 @@
+pub mod Phases
+pub mod Start
+pub mod Going
+pub mod Ticks
+pub mod Locks
+pub mod Escalation
+pub mod Demand3
+pub mod StartExamples
+pub mod PhaseExamples
+pub mod LockExamples
+pub mod LineExamples

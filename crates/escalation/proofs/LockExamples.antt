@@ -1,0 +1,112 @@
+-- Demand 3's locks by document 01's register numbers, for every list of ticks: what never changes once a REGWEN reads 0.
+-- Assumes nothing.
+use Prim.Native.Nat.{ℕ, _+_, _*_, _≤_, _<_}
+use mathlib.Core.Path.{_≡_, refl, sym, ap, _∙_}
+use mathlib.Core.Bool.{true, false, _&&_}
+use mathlib.Core.List.{List, [], _∷_}
+use native.Mathlib.Omega.{arith}
+use native.Mathlib.Nat.{add-zero}
+use borrow.Author.Tests.{lt-ltb, eq-eqb}
+use lib.Dec.{eqb}
+use lib.ListN.{getD, length, take}
+use Rattle.bits.proofs.IndexLaws.{true-and}
+use Rattle.laws.proofs.MapLaws.{decode-number}
+use Rattle.laws.proofs.ValidLaws.{facts}
+use Rattle.laws.specs.Assigned.{assigned, settingExists}
+use Rattle.rules.proofs.Scenes.{rules, rest, write, settings, zeros}
+use Rattle.rules.specs.Access.{value, locked, clears}
+use Rattle.rules.specs.Map.{numberOf, isRegister, guard}
+use Rattle.rules.specs.Run.{run}
+use Rattle.rules.specs.State.{localCount, classCount}
+use Rattle.rules.specs.Valid.{valid}
+use Rattle.rules.specs.declared.Field.{Field}
+use Rattle.rules.specs.declared.Handler.{Handler}
+use Rattle.rules.specs.declared.Input.{Input}
+use Rattle.rules.specs.declared.Register.{Register}
+use Rattle.rules.specs.declared.Register.the-variants.{Local, Alert, Block}
+use Rattle.rules.specs.declared.Setting.{Setting}
+use Rattle.rules.specs.declared.Setting.the-variants.{Ctrl, ClrRegwen, Clr, AccumThresh, TimeoutCyc, PhaseCyc}
+use Rattle.escalation.specs.Escalation.{Locked, valueOf}
+use Rattle.escalation.specs.List.{noInput}
+use Rattle.escalation.proofs.Demand3.{demand3}
+use Rattle.escalation.proofs.StartExamples
+
+module _ (h : Handler) (v : valid h ≡ true) where
+  -- register q is locked while its guard g reads 0
+  shut : (g q : Register) → assigned (h .n) g ≡ true → assigned (h .n) q ≡ true → isRegister g ≡ true → guard q ≡ g
+      → valueOf h (numberOf g) ≡ 0 → Locked h (numberOf q)
+  unfolding locked
+  shut g q a b r e z =
+      let m = facts h v .n in
+      let w : value h g ≡ 0 = sym (ap (value h) (decode-number (h .n) g m a)) ∙ z in
+      ap (locked h) (decode-number (h .n) q m b)
+      ∙ ap (λ (p : Register). isRegister p && eqb (value h p) 0) e
+      ∙ true-and r (eq-eqb (value h g) 0 w)
+
+  module _ (xs : List Input) (t : ℕ) (l : t ≤ length xs) where
+    -- after t ticks of the list register r holds what it held
+    abbrev Same : ℕ → Type 0
+    Same r = valueOf (run h (take t xs)) r ≡ valueOf h r
+
+    never : (g q : Register) → assigned (h .n) g ≡ true → assigned (h .n) q ≡ true → isRegister g ≡ true → guard q ≡ g
+        → valueOf h (numberOf g) ≡ 0 → Same (numberOf q)
+    unfolding run
+    never g q a b r e z = demand3 h xs v .locks 0 t (numberOf q) (omega arith) l (shut g q a b r e z) .1
+
+    -- 64+i guards 128+i and 192+i
+    alerts : (i : ℕ) → h .n ≡ 64 → i < 64 → valueOf h (64 + i) ≡ 0 → Same (128 + i) × Same (192 + i)
+    unfolding numberOf guard
+    alerts i n s z =
+        let a : assigned (h .n) (Alert Field.En i) ≡ true = lt-ltb i (h .n) (omega arith) in
+        (never (Alert Field.Regwen i) (Alert Field.En i) a a refl refl z, never (Alert Field.Regwen i) (Alert Field.Class i) a a refl refl z)
+
+    -- 16+j guards 24+j and 32+j
+    locals : (j : ℕ) → j < localCount → valueOf h (16 + j) ≡ 0 → Same (24 + j) × Same (32 + j)
+    unfolding numberOf guard
+    locals j s z =
+        let a : assigned (h .n) (Local Field.En j) ≡ true = lt-ltb j localCount s in
+        (never (Local Field.Regwen j) (Local Field.En j) a a refl refl z, never (Local Field.Regwen j) (Local Field.Class j) a a refl refl z)
+
+    module _ (k : ℕ) (small : k < classCount) where
+      has : (s : Setting) → settingExists s ≡ true → assigned (h .n) (Block s k) ≡ true
+      has s e = true-and (lt-ltb k classCount small) e
+
+      -- 320+16k guards +1, +5, +6 and +7 to +10
+      class : valueOf h (320 + 16 * k) ≡ 0
+          → Same (320 + 16 * k + 1) × Same (320 + 16 * k + 5) × Same (320 + 16 * k + 6) × ((p : ℕ) → p < 4 → Same (320 + 16 * k + (7 + p)))
+      unfolding numberOf guard
+      class z = (kept Ctrl refl refl, kept AccumThresh refl refl, kept TimeoutCyc refl refl, λ p s. kept (PhaseCyc p) (lt-ltb p 4 s) refl)
+        where
+          kept : (s : Setting) → settingExists s ≡ true → guard (Block s k) ≡ Block Setting.Regwen k → Same (numberOf (Block s k))
+          kept s e g = never (Block Setting.Regwen k) (Block s k) (has Setting.Regwen refl) (has s e) refl g (rw add-zero z)
+
+      -- 322+16k guards itself
+      clr-regwen : valueOf h (322 + 16 * k) ≡ 0 → Same (322 + 16 * k)
+      unfolding numberOf guard
+      clr-regwen z =
+          let e : 322 + 16 * k ≡ 320 + 16 * k + 2 = omega arith in
+          rw e (never (Block ClrRegwen k) (Block ClrRegwen k) (has ClrRegwen refl) (has ClrRegwen refl) refl refl (rw e at z))
+
+      -- and CLR: no later tick has an accepted clear of class k
+      no-clear : valueOf h (322 + 16 * k) ≡ 0 → t < length xs → clears (run h (take t xs)) (getD xs t noInput .access) k ≡ false
+      unfolding numberOf guard run
+      no-clear z m =
+          let e : 322 + 16 * k ≡ 320 + 16 * k + 2 = omega arith in
+          demand3 h xs v .no-clear 0 t k small (omega arith) m
+          (shut (Block ClrRegwen k) (Block Clr k) (has ClrRegwen refl) (has Clr refl) refl refl (rw e at z))
+
+-- a scene: class 2 is locked, 64 alerts; whatever the ticks, its CTRL and its lengths stay
+abbrev scene : Handler
+scene = StartExamples.post 2 (StartExamples.locked 0 0 (7 ∷ 8 ∷ 9 ∷ 10 ∷ []))
+
+stays : (xs : List Input) (t : ℕ) → t ≤ length xs → (valueOf (run scene (take t xs)) 353 ≡ 0x393F) × (valueOf (run scene (take t xs)) 362 ≡ 10)
+unfolding rules
+stays xs t l = let c = class scene refl xs t l 2 (omega arith) refl in (c .0, c .3 3 (omega arith))
+
+-- "or after one of its ticks": class 3 is locked by the first tick, and then its CTRL stays
+abbrev locking : List Input → List Input
+locking ys = rest (write (Block Setting.Regwen 3) 0) ∷ ys
+
+stays-then : (ys : List Input) (t : ℕ) → 1 ≤ t → t ≤ length (locking ys) → valueOf (run (StartExamples.post 3 (settings 0x393F 0 0 zeros)) (take t (locking ys))) 369 ≡ 0x393F
+unfolding rules
+stays-then ys t f l = demand3 (StartExamples.post 3 (settings 0x393F 0 0 zeros)) (locking ys) refl .locks 1 t 369 f l refl .1

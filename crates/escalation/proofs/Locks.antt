@@ -1,0 +1,76 @@
+-- Demand 3's locks: a register once locked keeps its value through a list of ticks, and a locked CLR takes no clear.
+-- Assumes nothing.
+use Prim.Native.Nat.{ℕ, zero, suc, _+_, _-_, _≤_, _<_}
+use mathlib.Core.Path.{_≡_, refl, sym, ap, _∙_}
+use mathlib.Core.Bool.{true, false}
+use mathlib.Core.List.{List}
+use native.Mathlib.Omega.{arith}
+use native.Mathlib.Nat.{add-zero, add-suc}
+use borrow.Author.Tests.{lt-ltb}
+use lib.ListN.{length}
+use Rattle.bits.proofs.IndexLaws.{true-and}
+use Rattle.laws.proofs.Clears
+use Rattle.laws.proofs.Cases.{by-kind}
+use Rattle.laws.proofs.Frame.{after-n}
+use Rattle.laws.proofs.Locks.{after-locked}
+use Rattle.laws.proofs.MapLaws.{decode-number, decode-assigned}
+use Rattle.laws.proofs.ValidLaws.{facts}
+use Rattle.laws.specs.Assigned.{assigned}
+use Rattle.rules.specs.Access.{value, locked, clears}
+use Rattle.rules.specs.Map.{decode, numberOf, isRegister, guard}
+use Rattle.rules.specs.State.{most, classCount}
+use Rattle.rules.specs.Tick.{after}
+use Rattle.rules.specs.Valid.{valid}
+use Rattle.rules.specs.declared.Handler.{Handler}
+use Rattle.rules.specs.declared.Input.{Input}
+use Rattle.rules.specs.declared.Register.{Register}
+use Rattle.rules.specs.declared.Register.the-variants.{Block}
+use Rattle.rules.specs.declared.Setting.the-variants.{Clr}
+use Rattle.escalation.specs.Escalation.{Locked, valueOf}
+use Rattle.escalation.proofs.Ticks.{at, input, at-valid, at-next}
+
+-- what is locked is a register
+locked-register : (h : Handler) (q : Register) → locked h q ≡ true → isRegister q ≡ true
+unfolding locked guard
+locked-register h q =
+    by-kind (λ q. locked h q ≡ true → isRegister q ≡ true) (λ e. refl) (λ e. refl) (λ e. refl) (λ f j e. refl) (λ f i e. refl)
+    (λ s k e. refl) (λ e. e) q
+
+-- from the state f to the state g: as many alerts, q is still locked and holds the same
+record Kept (f g : Handler) (q : Register) : Type 0 where
+  pub n : g .n ≡ f .n
+  pub still : locked g q ≡ true
+  pub holds : value g q ≡ value f q
+
+-- one tick more
+kept-next : (f g : Handler) (x : Input) (q : Register) → f .n ≤ most → assigned (f .n) q ≡ true → Kept f g q → Kept f (after g x) q
+kept-next f g x q m a k =
+    let l = after-locked g x q (omega (arith, k .n)) (ap (λ (n : ℕ). assigned n q) (k .n) ∙ a) (k .still) in
+    record { n = after-n g x ∙ k .n; still = l .0; holds = l .1 ∙ k .holds }
+
+module _ (h : Handler) (xs : List Input) (v : valid h ≡ true) where
+  -- d ticks more
+  kept : (i d : ℕ) (q : Register) → i + d ≤ length xs → assigned (at h xs i .n) q ≡ true → locked (at h xs i) q ≡ true
+      → Kept (at h xs i) (at h xs (i + d)) q
+  kept i zero q l a e = rw add-zero (record { n = refl; still = e; holds = refl })
+  kept i (suc d) q l a e =
+      let k = kept i d q (omega arith) a e in
+      rw (add-suc, at-next h xs v (i + d) (omega arith))
+      (kept-next (at h xs i) (at h xs (i + d)) (input xs (i + d)) q (facts (at h xs i) (at-valid h xs v i) .n) a k)
+
+  pub locks : (i j r : ℕ) → i ≤ j → j ≤ length xs → Locked (at h xs i) r → Locked (at h xs j) r × (valueOf (at h xs j) r ≡ valueOf (at h xs i) r)
+  locks i j r l m e =
+      let q : Register = decode (at h xs i .n) r in
+      let s : i + (j - i) ≡ j = omega arith in
+      let k : Kept (at h xs i) (at h xs j) q =
+      rw s at
+      (kept i (j - i) q (omega arith) (decode-assigned (at h xs i .n) r (locked-register (at h xs i) q e)) e) in
+      let d : decode (at h xs j .n) r ≡ q = ap (λ (n : ℕ). decode n r) (k .n) in
+      (ap (locked (at h xs j)) d ∙ k .still, ap (value (at h xs j)) d ∙ k .holds)
+
+  pub no-clear : (i j k : ℕ) → k < classCount → i ≤ j → j < length xs → Locked (at h xs i) (numberOf (Block Clr k))
+      → clears (at h xs j) (input xs j .access) k ≡ false
+  no-clear i j k s l m e =
+      let n : at h xs j .n ≤ most = facts (at h xs j) (at-valid h xs v j) .n in
+      let d : decode (at h xs j .n) (numberOf (Block Clr k)) ≡ Block Clr k = decode-number (at h xs j .n) (Block Clr k) n (true-and (lt-ltb k classCount s) refl) in
+      Clears.no-clear (at h xs j) (input xs j .access) k (ap (locked (at h xs j)) (sym d) ∙ locks i j (numberOf (Block Clr k)) l (omega arith) e .0)

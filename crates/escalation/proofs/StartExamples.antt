@@ -1,0 +1,115 @@
+-- Demand 3 is not vacuous: classes that start, in each way that document 01 names, and what the theorem says of those ticks.
+-- Assumes nothing.
+use Prim.Native.Nat.{ℕ, _≤_, _<_}
+use mathlib.Core.Path.{_≡_, refl, sym, _∙_}
+use mathlib.Core.Logic.{inr, ⊎-elim}
+use mathlib.Core.Bool.{true, false, false≢true}
+use mathlib.Core.List.{List, [], _∷_}
+use native.Mathlib.Omega.{arith}
+use lib.ListN.{set, replicate}
+use Rattle.classes.specs.Step.{trigger, starts}
+use Rattle.classes.specs.declared.Class.{Class}
+use Rattle.classes.specs.declared.ClassState.the-variants.{Timeout, Phase0}
+use Rattle.rules.proofs.Scenes.{rules, rest, raise, none, write, settings, station}
+use Rattle.rules.specs.Access.{withSetting, clears}
+use Rattle.rules.specs.Run.{run, ticks}
+use Rattle.rules.specs.State.{classCount, classAt}
+use Rattle.rules.specs.Tick.{ticked}
+use Rattle.rules.specs.Valid.{valid}
+use Rattle.rules.specs.declared.Handler.{Handler}
+use Rattle.rules.specs.declared.Input.{Input}
+use Rattle.rules.specs.declared.Register.the-variants.{Block}
+use Rattle.rules.specs.declared.Setting.{Setting}
+use Rattle.rules.specs.declared.Setting.the-variants.{Clr}
+use Rattle.escalation.specs.Escalation.{stateIn, StartIs, Starts}
+use Rattle.escalation.specs.List.{classRead, met}
+use Rattle.escalation.proofs.Demand3.{demand3}
+
+-- ── scenes: 64 alerts, of which the last is enabled, in class k ──
+
+-- a locked class with EN, LOCK and all lines, line e in phase e
+abbrev pub locked : ℕ → ℕ → List ℕ → Class
+locked thresh timeout lengths = withSetting Setting.Regwen 0 (settings 0x393F thresh timeout lengths)
+
+abbrev pub post : ℕ → Class → Handler
+post k c = station 64 (set (replicate 64 0) 63 1) (set (replicate 64 0) 63 k) k c
+
+abbrev nines : List ℕ
+nines = replicate 4 9
+
+-- by a trigger
+abbrev idle : Handler
+idle = post 2 (locked 0 0 nines)
+
+by-trigger : Starts idle (raise 63 none) 2
+unfolding rules
+by-trigger = record { is-class = omega arith; is-start = refl; is-locked = refl; has-en = refl; has-lock = refl }
+
+-- by the timeout: due since the event of the tick before, with a Timeout count at TIMEOUT_CYC, and no trigger
+abbrev waiting : Handler
+waiting = run (post 3 (locked 9 1 nines)) (raise 63 none ∷ [])
+
+by-timeout : Starts waiting (rest none) 3 × (stateIn waiting 3 ≡ Timeout) × (trigger (met waiting (rest none) 3) (classRead waiting (rest none) 3) ≡ false)
+unfolding rules
+by-timeout = (record { is-class = omega arith; is-start = refl; is-locked = refl; has-en = refl; has-lock = refl }, refl, refl)
+
+-- by the timeout, with an accepted clear in the tick of the start: Phase 0 all the same, with ACCUM_CNT 0, and CLR_REGWEN 0 after it
+abbrev clearing : Input
+clearing = rest (write (Block Clr 3) 1)
+
+with-clear : Starts waiting clearing 3 × (clears waiting (clearing .access) 3 ≡ true)
+unfolding rules
+with-clear = (record { is-class = omega arith; is-start = refl; is-locked = refl; has-en = refl; has-lock = refl }, refl)
+
+cleared : (stateIn (ticked waiting clearing .handler) 3 ≡ Phase0)
+    × (classAt waiting 3 .accum ≡ 1)
+    × (classAt (ticked waiting clearing .handler) 3 .accum ≡ 0)
+    × (classAt waiting 3 .clrwen ≡ 1)
+    × (classAt (ticked waiting clearing .handler) 3 .clrwen ≡ 0)
+unfolding rules
+cleared = (refl, refl, refl, refl, refl)
+
+-- REGWEN written 0 in the tick of the start: "read after step 1"
+abbrev unlocked : Handler
+unlocked = post 3 (settings 0x393F 0 0 nines)
+
+abbrev locking : Input
+locking = raise 63 (write (Block Setting.Regwen 3) 0)
+
+just-locked : Starts unlocked locking 3 × (classAt unlocked 3 .regwen ≡ 1)
+unfolding rules
+just-locked = (record { is-class = omega arith; is-start = refl; is-locked = refl; has-en = refl; has-lock = refl }, refl)
+
+-- ── what the theorem says of these ticks ──
+
+start-is : (h : Handler) (x : Input) (k : ℕ) → valid h ≡ true → k < classCount → StartIs h x k (ticked h x .handler)
+unfolding run ticks
+start-is h x k v l = demand3 h (x ∷ []) v .start 0 k 0 l (record { from = omega arith; to = omega arith })
+
+-- a class that starts is in Phase 0 after the tick
+reaches : (h : Handler) (x : Input) (k : ℕ) → valid h ≡ true → Starts h x k → stateIn (ticked h x .handler) k ≡ Phase0
+reaches h x k v s = start-is h x k v (s .is-class) .move .0 (s .is-start) .1
+
+all-reach : (stateIn (ticked idle (raise 63 none) .handler) 2 ≡ Phase0)
+    × (stateIn (ticked waiting (rest none) .handler) 3 ≡ Phase0)
+    × (stateIn (ticked waiting clearing .handler) 3 ≡ Phase0)
+    × (stateIn (ticked unlocked locking .handler) 3 ≡ Phase0)
+unfolding rules
+all-reach = (
+  reaches idle (raise 63 none) 2 refl by-trigger,
+  reaches waiting (rest none) 3 refl (by-timeout .0),
+  reaches waiting clearing 3 refl (with-clear .0),
+  reaches unlocked locking 3 refl (just-locked .0),
+)
+
+-- and a tick that takes it from Timeout to Phase 0, which computing shows, is a start
+is-start : starts (met waiting clearing 3) (classRead waiting clearing 3) ≡ true
+unfolding rules
+is-start = start-is waiting clearing 3 refl (omega arith) .move .1 (inr refl, cleared .0)
+
+-- one without a trigger is by the timeout
+timed-out : classRead waiting (rest none) 3 .timeout ≤ classRead waiting (rest none) 3 .count
+unfolding rules
+timed-out =
+    ⊎-elim (λ t. absurd (false≢true (sym (by-timeout .2) ∙ t))) (λ r. r .2)
+    (start-is waiting (rest none) 3 refl (omega arith) .reason (by-timeout .0 .is-start))
