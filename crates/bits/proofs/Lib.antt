@@ -2,3 +2,5 @@ pub mod BitLaws
 pub mod Table
 pub mod IndexLaws
 pub mod FieldLaws
+pub mod PackLaws
+pub mod WordLaws

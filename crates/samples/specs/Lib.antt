@@ -1,0 +1,5 @@
+pub mod Received
+pub mod Noted
+pub mod Gathered
+pub mod Occurred
+pub mod Sampled

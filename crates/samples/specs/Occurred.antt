@@ -1,0 +1,22 @@
+-- What the local alerts do.
+-- Assumes nothing.
+use Prim.Native.Nat.{ℕ}
+use mathlib.Core.Bool.{Bool, _&&_}
+use mathlib.Core.List.{List}
+use lib.Dec.{eqb}
+use Rattle.bits.specs.Bits.{bit}
+use Rattle.rules.specs.State.{localCount}
+use Rattle.samples.specs.Noted.{Noted, enabledIn}
+use Rattle.samples.specs.declared.locals.Occurred.{Occurred}
+
+-- local alert j is raised: local 2, if an enabled alert has equal wires
+abbrev pub raisedBy : Bool → ℕ → Bool
+raisedBy broken j = eqb j 2 && broken
+
+-- the enabled local alerts among those that the mask names
+abbrev pub amongBits : ℕ → List ℕ → ℕ → Bool
+amongBits raised en j = bit raised j && enabledIn en j
+
+-- the local alerts that occur are noted
+abbrev pub OccurredAll : ℕ → List ℕ → List ℕ → List ℕ → Occurred → Type 0
+OccurredAll raised en class before r = Noted (amongBits raised en) class before localCount localCount (r .cause) (r .hits)

@@ -1,0 +1,61 @@
+// Step 2 of a tick: the samples.
+mod receive; // receive.rt: wire pairs and arming, 64 alerts at a time
+mod note; // note.rt: what one event does
+mod gather; // gather.rt: events and enables of the alerts into causes and classes
+mod locals; // locals.rt: the local alerts
+
+use rules::Handler;
+use rules::Wires;
+ghost use Prim.Native.Nat.{_≤_};
+ghost use Rattle.rules.specs.State.{most};
+ghost use Rattle.samples.specs.Sampled.{SampledBy};
+
+// The state after step 2, and the classes that something is assigned to, class 0 at the lowest bit.
+pub struct Sampled {
+    pub handler: Handler,
+    pub assigned: u8,
+}
+
+// Step 2 on the state g after step 1, with the wires w.
+pub fn sample(g: Handler, w: Wires) -> Sampled
+    requires { ⌜ g .n ≤ most ⌝ }
+    ensures { λ r. ⌜ SampledBy g w r ⌝ }
+{
+    let n = g.n;
+    let mut receivers = g.receivers;
+    let mut alerts = g.alerts;
+    let mut local_alerts = g.locals;
+
+    let armed = receivers.armed;
+    let pos = w.pos;
+    let neg = w.neg;
+    let received = receive::receive_all(n, armed, pos, neg);
+    let next = received.armed;
+    receivers.armed = next;
+
+    let events = received.events;
+    let equal = received.equal;
+    let en = alerts.en;
+    let class = alerts.class;
+    let before = alerts.cause;
+    let gathered = gather::gather(n, &events, &equal, &en, &class, before);
+    let cause = gathered.cause;
+    alerts.cause = cause;
+
+    let raised = locals::raise(gathered.broken);
+    let local_en = local_alerts.en;
+    let local_class = local_alerts.class;
+    let local_before = local_alerts.cause;
+    let occurred = locals::occur(raised, &local_en, &local_class, local_before);
+    let local_cause = occurred.cause;
+    local_alerts.cause = local_cause;
+
+    let mut handler = g;
+    handler.receivers = receivers;
+    handler.alerts = alerts;
+    handler.locals = local_alerts;
+    Sampled {
+        handler: handler,
+        assigned: gathered.hits | occurred.hits,
+    }
+}

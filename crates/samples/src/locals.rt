@@ -1,0 +1,44 @@
+// Step 2, the local alerts: those that are raised and enabled occur.
+use crate::note;
+ghost use Prim.Native.Nat.{_≤_};
+ghost use mathlib.Core.Path.{_≡_};
+ghost use Rattle.bits.specs.Bits.{bitsOf, num};
+ghost use Rattle.rules.specs.State.{localCount};
+ghost use Rattle.samples.specs.Occurred.{OccurredAll, raisedBy};
+
+// A bit as a number.
+fn bit(b: bool) -> u8
+    ensures { λ r. ⌜ (r ≡ num b) × (r ≤ 1) ⌝ }
+{
+    if b { 1 } else { 0 }
+}
+
+// The local alerts that are raised, local 0 at the lowest bit: local 2, alert integrity, by equal wires.
+pub fn raise(broken: bool) -> u8
+    ensures { λ r. ⌜ r ≡ bitsOf localCount (raisedBy broken) ⌝ }
+{
+    4 * bit(broken)
+}
+
+// The local alerts' causes, and the classes that those that occur are assigned to.
+pub struct Occurred {
+    pub cause: [u8; 7],
+    pub hits: u8,
+}
+
+// The local alerts that are raised and enabled occur.
+pub fn occur(raised: u8, en: &[u8; 7], class: &[u8; 7], before: [u8; 7]) -> Occurred
+    ensures { λ r. ⌜ OccurredAll raised (now (en .entry)) (now (class .entry)) before r ⌝ }
+{
+    let mut cause = before;
+    let mut hits: u8 = 0;
+    for j in 0..7 {
+        let on = ((raised >> j) % 2 == 1) & (en[j] == 1);
+        hits = hits | note::class_bit(class[j], on);
+        cause[j] = note::cause_after(on, cause[j]);
+    }
+    Occurred {
+        cause: cause,
+        hits: hits,
+    }
+}

@@ -1,0 +1,76 @@
+// "Traces": the word of a tick.
+use rules::Answer;
+use rules::Output;
+use rules::Refusal;
+ghost use mathlib.Core.Path.{_≡_};
+ghost use mathlib.Core.List.{[], _∷_};
+ghost use Prim.Native.Nat.{_<_};
+ghost use Rattle.bits.specs.Bits.{bit, num};
+ghost use Rattle.bits.specs.Fields.{pack};
+ghost use Rattle.rules.specs.Answer.{refusalNumber};
+ghost use Rattle.rules.specs.Record.{wordLayout, refusalOf, readOf, wordFields};
+
+// Bit k as a number.
+fn digit(x: u8, k: u32) -> u64
+    requires { ⌜ k < 8 ⌝ }
+    ensures { λ r. ⌜ (r ≡ num (bit x k)) × (r < 2) ⌝ }
+{
+    ((x >> k) % 2) as u64
+}
+
+// Bits 0 to 3, bit 0 first.
+fn four(x: u8) -> u64
+    ensures { λ r. ⌜ (r ≡ pack (1 ∷ 1 ∷ 1 ∷ 1 ∷ []) (num (bit x 0) ∷ num (bit x 1) ∷ num (bit x 2) ∷ num (bit x 3) ∷ [])) × (r < 16) ⌝ }
+{
+    digit(x, 0) * 8 + digit(x, 1) * 4 + digit(x, 2) * 2 + digit(x, 3)
+}
+
+// The table's first column.
+fn refusal_number(m: Refusal) -> u64
+    ensures { λ r. ⌜ (r ≡ refusalNumber m) × (r < 16) ⌝ }
+{
+    match m {
+        Refusal::NoRegister => 1,
+        Refusal::WrongWay => 2,
+        Refusal::Locked => 3,
+        Refusal::TooWide => 4,
+        Refusal::BadRecord => 5,
+        Refusal::BadCount => 6,
+        Refusal::BadState => 7,
+        Refusal::BadLength => 8,
+        Refusal::ShortList => 9,
+    }
+}
+
+// The refusal number of an answer, 0 where it is none.
+fn refusal_of(a: Answer) -> u64
+    ensures { λ r. ⌜ (r ≡ refusalOf a) × (r < 16) ⌝ }
+{
+    match a {
+        Answer::Done => 0,
+        Answer::Value(_) => 0,
+        Answer::Refused(m) => refusal_number(m),
+    }
+}
+
+// The value that was read, or 0.
+fn read_of(a: Answer) -> u32
+    ensures { λ r. ⌜ r ≡ readOf a ⌝ }
+{
+    match a {
+        Answer::Done => 0,
+        Answer::Value(v) => v,
+        Answer::Refused(_) => 0,
+    }
+}
+
+// Interrupts (4 bits, class 0 first), lines (4, line 0 first), refusal number (4), 20 zeros, read value or 0.
+pub fn word(o: Output, a: Answer) -> u64
+    ensures { λ r. ⌜ r ≡ pack wordLayout (wordFields o a) ⌝ }
+{
+    let interrupts = four(o.interrupts);
+    let lines = four(o.lines);
+    let refusal = refusal_of(a);
+    let value = read_of(a) as u64;
+    (interrupts << 60) + (lines << 56) + (refusal << 52) + value
+}
