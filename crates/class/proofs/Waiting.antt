@@ -1,0 +1,22 @@
+-- Why a count in Timeout has room for 1 more.
+-- Assumes nothing.
+use Prim.Native.Nat.{_<_}
+use mathlib.Core.Path.{_≡_}
+use mathlib.Core.Bool.{Bool, true, false, _&&_, _||_}
+use lib.Dec.{leb}
+use borrow.Author.Tests.{leb-false}
+use Rattle.classes.specs.Step.{due, startsFrom, trigger}
+use Rattle.classes.specs.declared.Class.{Class}
+use Rattle.classes.specs.declared.ClassState.the-variants.{Timeout}
+use Rattle.classes.specs.declared.Signals.{Signals}
+
+-- what a false "t, or d and l" with d says of l
+last : (t d l : Bool) → (t || (d && l)) ≡ false → d ≡ true → l ≡ false
+last true d l n e = cc
+last false true l n e = n
+last false false l n e = cc
+
+-- a class in Timeout that is due and does not start has its count below TIMEOUT_CYC
+pub waiting : (s : Signals) (c : Class) → startsFrom Timeout s c ≡ false → due s c ≡ true → c .count < c .timeout
+unfolding startsFrom
+waiting s c n d = leb-false (c .timeout) (c .count) (last (trigger s c) (due s c) (leb (c .timeout) (c .count)) n d)

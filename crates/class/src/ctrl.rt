@@ -1,0 +1,44 @@
+// CTRL of a class: bit 0 EN, 1 LOCK, 2 to 5 line enables, 6 to 13 line maps, two bits a line.
+use classes::Class;
+ghost use mathlib.Core.Path.{_≡_};
+ghost use Prim.Native.Nat.{_<_};
+ghost use Rattle.bits.specs.Bits.{bit};
+ghost use Rattle.classes.specs.Class.{enabled, lineEnable, lineMap, lock};
+
+// Bit k of CTRL.
+fn is_set(ctrl: u16, k: u32) -> bool
+    requires { ⌜ k < 16 ⌝ }
+    ensures { λ r. ⌜ r ≡ bit ctrl k ⌝ }
+{
+    (ctrl >> k) % 2 == 1
+}
+
+// EN as steps 3 and 4 read it.
+pub fn enabled(c: Class) -> bool
+    ensures { λ r. ⌜ r ≡ enabled c ⌝ }
+{
+    is_set(c.ctrl, 0)
+}
+
+// LOCK.
+pub fn lock(c: Class) -> bool
+    ensures { λ r. ⌜ r ≡ lock c ⌝ }
+{
+    is_set(c.ctrl, 1)
+}
+
+// The enable of line e.
+pub fn line_enable(c: Class, e: u32) -> bool
+    requires { ⌜ e < 4 ⌝ }
+    ensures { λ r. ⌜ r ≡ lineEnable c e ⌝ }
+{
+    is_set(c.ctrl, 2 + e)
+}
+
+// The phase that line e's map names.
+pub fn line_map(c: Class, e: u32) -> u16
+    requires { ⌜ e < 4 ⌝ }
+    ensures { λ r. ⌜ r ≡ lineMap c e ⌝ }
+{
+    (c.ctrl >> (6 + 2 * e)) % 4
+}
