@@ -1,0 +1,108 @@
+// "Register map": a register number decoded into kind and index.
+use rules::Field;
+use rules::MOST;
+use rules::Register;
+use rules::Setting;
+
+// The first numbers of the alerts' four fields and of the classes, and what is past them.
+const REGWEN: usize = 64;
+
+const EN: usize = 128;
+
+const CLASS: usize = 192;
+
+const CAUSE: usize = 256;
+
+const BLOCKS: usize = 320;
+
+const END: usize = 384;
+
+ghost use mathlib.Core.Path.{_≡_};
+ghost use mathlib.Core.Bool.{cond};
+ghost use Prim.Native.Nat.{_≤_, _<_};
+ghost use lib.Dec.{ltb};
+ghost use Rattle.rules.specs.State.{most};
+ghost use Rattle.rules.specs.Map.{blockAt, decode};
+
+// The register at +o in the block of class k.
+fn block_at(k: usize, o: usize) -> Register
+    ensures { λ r. ⌜ r ≡ blockAt k o ⌝ }
+{
+    match o {
+        0 => Register::Block(Setting::Regwen, k),
+        1 => Register::Block(Setting::Ctrl, k),
+        2 => Register::Block(Setting::ClrRegwen, k),
+        3 => Register::Block(Setting::Clr, k),
+        4 => Register::Block(Setting::AccumCnt, k),
+        5 => Register::Block(Setting::AccumThresh, k),
+        6 => Register::Block(Setting::TimeoutCyc, k),
+        7..=10 => Register::Block(Setting::PhaseCyc(o - 7), k),
+        11 => Register::Block(Setting::EscCnt, k),
+        12 => Register::Block(Setting::State, k),
+        _ => Register::Unassigned,
+    }
+}
+
+// Register f of alert i, where there is such an alert.
+fn alert_at(f: Field, i: usize, n: usize) -> Register
+    ensures { λ r. ⌜ r ≡ cond (ltb i n) (Register.Alert f i) Register.Unassigned ⌝ }
+{
+    if i < n {
+        Register::Alert(f, i)
+    } else {
+        Register::Unassigned
+    }
+}
+
+// The number selects one of these ranges; all other numbers are unassigned.
+fn select(n: usize, r: usize) -> Register
+    requires { ⌜ n ≤ most ⌝ }
+    ensures { λ q. ⌜ q ≡ decode n r ⌝ }
+{
+    match r {
+        0 => Register::IntrState,
+        1 => Register::IntrEnable,
+        2 => Register::IntrTest,
+        16..=22 => Register::Local(Field::Regwen, r - 16),
+        24..=30 => Register::Local(Field::En, r - 24),
+        32..=38 => Register::Local(Field::Class, r - 32),
+        40..=46 => Register::Local(Field::Cause, r - 40),
+        REGWEN..EN => alert_at(Field::Regwen, r - REGWEN, n),
+        EN..CLASS => alert_at(Field::En, r - EN, n),
+        CLASS..CAUSE => alert_at(Field::Class, r - CLASS, n),
+        CAUSE..BLOCKS => alert_at(Field::Cause, r - CAUSE, n),
+        BLOCKS..END => block_at((r - BLOCKS) / 16, (r - BLOCKS) % 16),
+        _ => Register::Unassigned,
+    }
+}
+
+// A count over the most is in no valid state: the alerts' ranges then overlap, and the first that reaches to the number has it.
+fn select_first(n: usize, r: usize) -> Register
+    requires { ⌜ most < n ⌝ }
+    ensures { λ q. ⌜ q ≡ decode n r ⌝ }
+{
+    if r < REGWEN {
+        select(0, r)
+    } else if r - REGWEN < n {
+        Register::Alert(Field::Regwen, r - REGWEN)
+    } else if r - EN < n {
+        Register::Alert(Field::En, r - EN)
+    } else if r - CLASS < n {
+        Register::Alert(Field::Class, r - CLASS)
+    } else if r - CAUSE < n {
+        Register::Alert(Field::Cause, r - CAUSE)
+    } else {
+        select(0, r)
+    }
+}
+
+// The register that a number selects in a handler of n alerts.
+pub fn register_at(n: usize, r: u16) -> Register
+    ensures { λ q. ⌜ q ≡ decode n r ⌝ }
+{
+    if MOST < n {
+        select_first(n, r as usize)
+    } else {
+        select(n, r as usize)
+    }
+}

@@ -1,0 +1,35 @@
+-- `access::access` meets its contract by the verdict.
+-- Assumes nothing.
+use mathlib.Core.Path.{sym, _∙_}
+use Rattle.registers.proofs.Accesses.{accepted-fits, accepted-does, refused-does}
+use borrow.Author.Needs.{needs}
+use Rattle.registers.proofs.access.access.Statement.{statement}
+use Rattle.registers.proofs.access.access.Tie as tie
+
+verdict-of-requires : tie.Need-verdict-of-requires
+verdict-of-requires c κs = search needs
+
+enum-told : tie.Need-enum-told
+enum-told c = search needs
+
+act-requires : tie.Need-act-requires
+act-requires c κs =
+    let a = c .before .before .before .args in
+    accepted-fits (a .h) (a .x) (sym (c .before .before .verdict-of .ensures) ∙ c .enum-told .given .1)
+
+enum-known-m : tie.Need-enum-known-m
+enum-known-m c = search needs
+
+returns : tie.Need-returns
+returns c =
+    let a = c .before .before .before .before .args in
+    c .act .ensures ∙ accepted-does (a .h) (a .x) (sym (c .before .before .before .verdict-of .ensures) ∙ c .before .enum-told .given .1)
+
+returns-2 : tie.Need-returns-2
+returns-2 c =
+    let a = c .before .before .before .before .args in
+    refused-does (a .h) (a .x) (c .before .m .given .0 .0) (sym (c .before .before .before .verdict-of .ensures) ∙ c .before .m .given .1)
+
+pub access-spec : {M : Type 1} → statement M
+access-spec =
+    tie.close (tie.spec verdict-of-requires enum-told act-requires enum-known-m returns returns-2)

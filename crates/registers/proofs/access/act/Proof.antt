@@ -1,0 +1,67 @@
+-- `access::act` meets its contract, kind by kind.
+-- Assumes nothing.
+use borrow.Author.Tests.{ltb-true, not-false}
+use Rattle.registers.proofs.Accesses.{no-bits}
+use borrow.Author.Needs.{needs}
+use Rattle.registers.proofs.access.act.Statement.{statement}
+use Rattle.registers.proofs.access.act.Tie as tie
+
+enum-told : tie.Need-enum-told
+enum-told c = search needs
+
+enum-known-x : tie.Need-enum-known-x
+enum-known-x c = search needs
+
+register-at-requires : tie.Need-register-at-requires
+register-at-requires c κs = search needs
+
+value-of-requires : tie.Need-value-of-requires
+value-of-requires c κs = search needs
+
+enum-known-x-2 : tie.Need-enum-known-x-2
+enum-known-x-2 c = search needs
+
+register-at-requires-2 : tie.Need-register-at-requires-2
+register-at-requires-2 c κs = search needs
+
+stored-requires : tie.Need-stored-requires
+stored-requires c κs =
+    let x = c .before .before .x2 .given in
+    let t = rw (x .1, ← c .register-at2 .ensures) at (c .before .before .before .before .pre) in
+    ltb-true _ _ (not-false _ t)
+
+clears-of-requires : tie.Need-clears-of-requires
+clears-of-requires c κs = search needs
+
+enum-told-2 : tie.Need-enum-told-2
+enum-told-2 c = search needs
+
+returns : tie.Need-returns
+returns c = rw (c .enum-told .given .1, ← no-bits)
+
+returns-2 : tie.Need-returns-2
+returns-2 c = rw (c .before .before .before .x .given .1, ← no-bits, c .value-of .ensures, c .before .register-at .ensures)
+
+returns-3 : tie.Need-returns-3
+returns-3 c = rw (c .before .before .before .before .x2 .given .1, c .before .stored .ensures, c .clears-of .ensures, c .before .before .register-at2 .ensures)
+
+returns-4 : tie.Need-returns-4
+returns-4 c = rw (c .enum-told2 .given .1, ← no-bits)
+
+pub act-spec : {M : Type 1} → statement M
+act-spec =
+    tie.close
+    (tie.spec
+    enum-told
+    enum-known-x
+    register-at-requires
+    value-of-requires
+    enum-known-x-2
+    register-at-requires-2
+    stored-requires
+    clears-of-requires
+    enum-told-2
+    returns
+    returns-2
+    returns-3
+    returns-4)

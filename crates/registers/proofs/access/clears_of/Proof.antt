@@ -1,0 +1,90 @@
+-- `access::clears_of` meets its contract: only CLR clears, only its own class, and only by a 1.
+-- Assumes nothing.
+use mathlib.Core.Path.{_∙_}
+use lib.Dec.{eqb}
+use Rattle.rules.specs.Access.{settingIsClr}
+use Rattle.registers.proofs.Accesses.{no-bits, bits-when}
+use borrow.Author.Needs.{needs}
+use Rattle.registers.proofs.access.clears_of.Statement.{statement}
+use Rattle.registers.proofs.access.clears_of.Tie as tie
+
+enum-told : tie.Need-enum-told
+enum-told c = search needs
+
+enum-told-2 : tie.Need-enum-told-2
+enum-told-2 c = search needs
+
+enum-told-3 : tie.Need-enum-told-3
+enum-told-3 c = search needs
+
+enum-told-4 : tie.Need-enum-told-4
+enum-told-4 c = search needs
+
+enum-told-5 : tie.Need-enum-told-5
+enum-told-5 c = search needs
+
+enum-known-q : tie.Need-enum-known-q
+enum-known-q c = search needs
+
+is-clr-requires : tie.Need-is-clr-requires
+is-clr-requires c κs = search needs
+
+class-bit-requires : tie.Need-class-bit-requires
+class-bit-requires c κs = search needs
+
+enum-told-6 : tie.Need-enum-told-6
+enum-told-6 c = search needs
+
+returns : tie.Need-returns
+returns c = rw (c .enum-told .given .1) no-bits
+
+returns-2 : tie.Need-returns-2
+returns-2 c = rw (c .enum-told2 .given .1) no-bits
+
+returns-3 : tie.Need-returns-3
+returns-3 c = rw (c .enum-told3 .given .1) no-bits
+
+returns-4 : tie.Need-returns-4
+returns-4 c = rw (c .enum-told4 .given .1) no-bits
+
+returns-5 : tie.Need-returns-5
+returns-5 c = rw (c .enum-told5 .given .1) no-bits
+
+returns-6 : tie.Need-returns-6
+returns-6 c =
+    let q = c .before .before .before .before .q .given in
+    let t = rw (c .before .before .is-clr .ensures) at (c .before .if1 .taken) in
+    let b = bits-when (settingIsClr (q .0 .0)) (eqb (c .before .before .before .before .before .before .args .v) 1) (eqb (q .0 .1 .0)) in
+    rw (q .1) (c .class-bit .ensures ∙ (rw t at b))
+
+returns-7 : tie.Need-returns-7
+returns-7 c =
+    let q = c .before .before .before .q .given in
+    let t = rw (c .before .is-clr .ensures) at (c .if1 .left) in
+    let b = bits-when (settingIsClr (q .0 .0)) (eqb (c .before .before .before .before .before .args .v) 1) (eqb (q .0 .1 .0)) in
+    rw (q .1) (rw t at b)
+
+returns-8 : tie.Need-returns-8
+returns-8 c = rw (c .enum-told6 .given .1) no-bits
+
+pub clears-of-spec : {M : Type 1} → statement M
+clears-of-spec =
+    tie.close
+    (tie.spec
+    enum-told
+    enum-told-2
+    enum-told-3
+    enum-told-4
+    enum-told-5
+    enum-known-q
+    is-clr-requires
+    class-bit-requires
+    enum-told-6
+    returns
+    returns-2
+    returns-3
+    returns-4
+    returns-5
+    returns-6
+    returns-7
+    returns-8)

@@ -1,0 +1,64 @@
+-- `verdict::verdict_of` meets its contract.
+-- Assumes nothing.
+use Rattle.rules.specs.Answer.{firstOf}
+use Rattle.rules.specs.Access.{verdict}
+use borrow.Author.Needs.{needs}
+use Rattle.registers.proofs.verdict.verdict_of.Statement.{statement}
+use Rattle.registers.proofs.verdict.verdict_of.Tie as tie
+
+enum-told : tie.Need-enum-told
+enum-told c = search needs
+
+enum-known-x : tie.Need-enum-known-x
+enum-known-x c = search needs
+
+register-at-requires : tie.Need-register-at-requires
+register-at-requires c κs = search needs
+
+read-verdict-requires : tie.Need-read-verdict-requires
+read-verdict-requires c κs = search needs
+
+enum-known-x-2 : tie.Need-enum-known-x-2
+enum-known-x-2 c = search needs
+
+register-at-requires-2 : tie.Need-register-at-requires-2
+register-at-requires-2 c κs = search needs
+
+write-verdict-requires : tie.Need-write-verdict-requires
+write-verdict-requires c κs = search needs
+
+enum-told-2 : tie.Need-enum-told-2
+enum-told-2 c = search needs
+
+returns : tie.Need-returns
+unfolding verdict firstOf
+returns c = rw (c .enum-told .given .1)
+
+returns-2 : tie.Need-returns-2
+unfolding verdict firstOf
+returns-2 c = rw (c .before .before .before .x .given .1, ← c .before .register-at .ensures) (c .read-verdict .ensures)
+
+returns-3 : tie.Need-returns-3
+unfolding verdict firstOf
+returns-3 c = rw (c .before .before .before .x2 .given .1, ← c .before .register-at2 .ensures) (c .write-verdict .ensures)
+
+returns-4 : tie.Need-returns-4
+unfolding verdict firstOf
+returns-4 c = rw (c .enum-told2 .given .1)
+
+pub verdict-of-spec : {M : Type 1} → statement M
+verdict-of-spec =
+    tie.close
+    (tie.spec
+    enum-told
+    enum-known-x
+    register-at-requires
+    read-verdict-requires
+    enum-known-x-2
+    register-at-requires-2
+    write-verdict-requires
+    enum-told-2
+    returns
+    returns-2
+    returns-3
+    returns-4)

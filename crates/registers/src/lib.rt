@@ -1,0 +1,5 @@
+// Step 1 of a tick: what a register holds, the verdict on an access, and what the access does.
+pub mod access;
+pub mod read;
+pub mod verdict;
+mod write;

@@ -1,0 +1,16 @@
+-- `new::reset` meets its contract.
+-- Assumes nothing.
+use Rattle.rules.specs.State.{newHandler}
+use borrow.Author.Needs.{needs}
+use Rattle.state.proofs.new.reset.Statement.{statement}
+use Rattle.state.proofs.new.reset.Tie as tie
+
+reset-class-requires : tie.Need-reset-class-requires
+reset-class-requires c κs = search needs
+
+returns : tie.Need-returns
+unfolding newHandler
+returns c = rw (c .reset-class .ensures)
+
+pub reset-spec : {M : Type 1} → statement M
+reset-spec = tie.close (tie.spec reset-class-requires returns)
