@@ -1,0 +1,4 @@
+pub mod Masks
+pub mod Steps
+pub mod Ticks
+pub mod Answers

@@ -1,0 +1,19 @@
+-- `interrupt` is the interrupt bit or the event of class k.
+-- Assumes nothing.
+use Rattle.handler.specs.Classes.{interruptBy}
+use borrow.Author.Needs.{needs}
+use Rattle.handler.proofs.four.interrupt.Statement.{statement}
+use Rattle.handler.proofs.four.interrupt.Tie as tie
+
+is-set-requires : tie.Need-is-set-requires
+is-set-requires c κs = search needs
+
+has-event-requires : tie.Need-has-event-requires
+has-event-requires c κs = search needs
+
+returns : tie.Need-returns
+unfolding interruptBy
+returns c = simp (c .has-event .ensures, c .before .is-set .ensures)
+
+pub interrupt-spec : {M : Type 1} → statement M
+interrupt-spec = tie.close (tie.spec is-set-requires has-event-requires returns)

@@ -1,0 +1,3 @@
+pub mod Classes
+pub mod Outputs
+pub mod Answered

@@ -1,0 +1,4 @@
+// One tick of the handler in code: the access, the samples, the four classes and the outputs.
+pub mod tick; // tick.rt: the whole tick
+mod four; // four.rt: steps 3 and 4 of the four classes
+mod output; // output.rt: step 5

@@ -1,0 +1,34 @@
+// Step 5 of a tick: outputs from the state now reached. Masks have a bit for each class or line, 0 lowest.
+use class::lines::lines;
+use classes::Class;
+use rules::Output;
+ghost use mathlib.Core.Path.{_≡_};
+ghost use Rattle.handler.specs.Outputs.{interruptsOn, linesOn};
+
+// Interrupts are INTR_STATE and INTR_ENABLE, bit by bit.
+fn interrupts(state: u8, enable: u8) -> u8
+    ensures { λ r. ⌜ r ≡ interruptsOn state enable ⌝ }
+{
+    (state & enable) % 16
+}
+
+// A line is on if any class drives it.
+fn lines_of(classes: [Class; 4]) -> u8
+    ensures { λ r. ⌜ r ≡ linesOn classes ⌝ }
+{
+    let a = lines(classes[0]);
+    let b = lines(classes[1]);
+    let c = lines(classes[2]);
+    let d = lines(classes[3]);
+    a | b | c | d
+}
+
+// The outputs of the classes, INTR_STATE and INTR_ENABLE.
+pub fn output(classes: [Class; 4], state: u8, enable: u8) -> Output
+    ensures { λ r. ⌜ r ≡ record { interrupts = interruptsOn state enable; lines = linesOn classes } ⌝ }
+{
+    Output {
+        interrupts: interrupts(state, enable),
+        lines: lines_of(classes),
+    }
+}

@@ -1,0 +1,86 @@
+// "One tick, in order".
+use crate::four::classes_after;
+use crate::four::interrupts_after;
+use crate::output::output;
+use registers::access::access;
+use rules::Answer;
+use rules::Handler;
+use rules::Input;
+use rules::Interrupts;
+use rules::Output;
+use rules::Refusal;
+use rules::Ticked;
+use samples::sample;
+use state::answer::signed;
+use state::valid::is_valid;
+ghost use mathlib.Core.Path.{_≡_};
+ghost use Prim.Native.Nat.{_≤_};
+ghost use Rattle.rules.specs.State.{most};
+ghost use Rattle.rules.specs.Tick.{tick, ticked};
+ghost use Rattle.handler.specs.Answered.{answered};
+
+// What a tick gives: the state, the answer as one signed number, and the outputs.
+#[repr(C)]
+pub struct Answered {
+    pub handler: Handler,
+    pub answer: i64,
+    pub output: Output,
+}
+
+// Steps 1 to 5, of a state that was found valid.
+pub fn step(h: Handler, x: Input) -> Ticked
+    requires { ⌜ h .n ≤ most ⌝ }
+    ensures { λ r. ⌜ r ≡ tick h x ⌝ }
+{
+    let sent = x.access;
+    let wires = x.sample.alerts;
+    let accessed = access(h, sent);
+    let g = accessed.handler;
+    let answer = accessed.answer;
+    let sampled = sample(g, wires);
+    let mut next = sampled.handler;
+    let before = next.classes;
+    let state = interrupts_after(before, next.interrupts.state, sampled.assigned);
+    let classes = classes_after(
+        before,
+        next.interrupts.state,
+        sampled.assigned,
+        accessed.clears,
+    );
+    let enable = next.interrupts.enable;
+    next.classes = classes;
+    let interrupts = Interrupts { state, enable };
+    next.interrupts = interrupts;
+    let out = output(classes, state, enable);
+    Ticked {
+        handler: next,
+        answer,
+        output: out,
+    }
+}
+
+// One tick of any state. Refusal 7 comes first: state unchanged, tick not run, interrupts and lines 0.
+pub fn tick(h: Handler, x: Input) -> Answered
+    ensures { λ r. ⌜ r ≡ answered (ticked h x) ⌝ }
+{
+    if is_valid(h) {
+        let t = step(h, x);
+        let handler = t.handler;
+        let answer = t.answer;
+        let out = t.output;
+        Answered {
+            handler,
+            answer: signed(answer),
+            output: out,
+        }
+    } else {
+        Answered {
+            handler: h,
+            answer: signed(Answer::Refused(Refusal::BadState)),
+            output: Output {
+                interrupts: 0,
+                lines: 0,
+            },
+        }
+    }
+}
