@@ -2,7 +2,7 @@
 -- Assumes nothing.
 use Prim.Native.Nat.{ℕ}
 use mathlib.Core.Path.{_≡_, refl, sym, ap, _∙_}
-use mathlib.Core.Bool.{Bool, true, false, cond, not, _&&_}
+use mathlib.Core.Bool.{Bool, true, false, cond, _&&_}
 use Rattle.bits.specs.Bits.{bitsOf}
 use Rattle.bits.proofs.BitLaws.{bitsOf-lt, bit-bitsOf, is-bitsOf}
 use Rattle.rules.specs.Answer.{firstOf}

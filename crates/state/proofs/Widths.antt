@@ -3,7 +3,6 @@
 use Prim.Native.Nat.{ℕ, _^_, _<_}
 use mathlib.Core.Path.{_≡_, sym, ap, ap₂, _∙_}
 use mathlib.Core.Bool.{Bool, true, _&&_}
-use mathlib.Core.List.{List}
 use native.Mathlib.Omega.{arith}
 use native.Mathlib.Decide.{decLt}
 use lib.Bits.{bitOr, or-lt, or-add-and, and-le-l, and-le-r}
@@ -11,7 +10,7 @@ use lib.ListN.{getD}
 use lib.Pow.{pow-pos}
 use borrow.Author.Tests.{lt-ltb, le-ltb}
 use Rattle.bits.specs.Bits.{fits}
-use Rattle.classes.specs.Class.{stateOf, stateFits, lengthsFit, countFits, classFits}
+use Rattle.classes.specs.Class.{stateOf, stateFits, countFits, classFits}
 use Rattle.classes.specs.declared.Class.{Class}
 
 -- the union of two numbers fits a width exactly if both do

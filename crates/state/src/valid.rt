@@ -6,7 +6,6 @@ use rules::Locals;
 use rules::MOST;
 ghost use mathlib.Core.Path.{_≡_};
 ghost use Prim.Native.Nat.{ℕ, _≤_};
-ghost use mathlib.Core.Bool.{_&&_};
 ghost use lib.ListN.{getD};
 ghost use Rattle.bits.specs.Bits.{fits};
 ghost use Rattle.bits.specs.Index.{allTo};

@@ -1,0 +1,4 @@
+pub mod Running
+pub mod Outcomes
+pub mod ReadValues
+pub mod Lines

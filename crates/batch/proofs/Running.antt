@@ -1,0 +1,107 @@
+-- A batch, record by record.
+-- Assumes nothing.
+use Prim.Native.Nat.{ℕ, zero, suc, _<_, _≤_}
+use mathlib.Core.Path.{_≡_, refl, sym, ap, ap₂, subst, _∙_}
+use mathlib.Core.Bool.{true}
+use mathlib.Core.List.{List, [], _∷_, _++_, map, map-append}
+use native.Mathlib.Omega.{arith}
+use lib.ListN.{length, getD, set, take, drop, length-set, length-map}
+use lib.Seq.{take-suc, take-all, length-take-le, drop-cons, set-at, append-snoc}
+use Rattle.bits.proofs.IndexLaws.{at-each, length-each}
+use Rattle.bits.specs.Fields.{pack}
+use Rattle.rules.specs.Batch.{inputsOf, recordAt, recordCount}
+use Rattle.rules.specs.Record.{inputOf, wordLayout, wordFields, wordOf}
+use Rattle.rules.specs.Run.{run, ticks}
+use Rattle.rules.specs.State.{most}
+use Rattle.rules.specs.Tick.{tick, ticked}
+use Rattle.rules.specs.Valid.{valid}
+use Rattle.rules.specs.declared.Handler.{Handler}
+use Rattle.rules.specs.declared.Input.{Input}
+use Rattle.rules.specs.declared.Ticked.{Ticked}
+use Rattle.laws.proofs.KeepsValid.{run-valid}
+use Rattle.laws.proofs.Refusal7.{ticked-good}
+use Rattle.laws.proofs.Runs.{run-next, ticks-append, length-ticks}
+use Rattle.laws.proofs.ValidLaws.{facts}
+use Rattle.batch.specs.Running.{Running}
+
+module _ (h : Handler) (xs : List Input) (old : List ℕ) where
+  -- no bytes, no ticks
+  pub start : Running h xs old h old 0
+  unfolding run ticks
+  start = record { within = omega arith; state = refl; words = refl; same = refl }
+
+  -- the words of one more tick
+  words-next : (i : ℕ) (d : Input) → i < length xs → map wordOf (ticks h (take (suc i) xs)) ≡ map wordOf (ticks h (take i xs)) ++ (wordOf (ticked (run h (take i xs)) (getD xs i d)) ∷ [])
+  unfolding ticks
+  words-next i d l =
+      ap (λ (ys : List Input). map wordOf (ticks h ys)) (take-suc xs i d l)
+      ∙ ap (map wordOf) (ticks-append h (take i xs) (getD xs i d ∷ []))
+      ∙ map-append wordOf (ticks h (take i xs)) (ticks (run h (take i xs)) (getD xs i d ∷ []))
+
+  -- how many there are
+  length-words : (i : ℕ) → i ≤ length xs → length (map wordOf (ticks h (take i xs))) ≡ i
+  length-words i l = length-map (ticks h (take i xs)) wordOf ∙ length-ticks h (take i xs) ∙ length-take-le i xs l
+
+  -- the tick of record i, on the state that the records before it left, and its word at place i
+  pub step : (g : Handler) (out : List ℕ) (i : ℕ) (d : Input) → Running h xs old g out i → i < length xs → i < length old
+      → Running h xs old (ticked g (getD xs i d) .handler) (set out i (wordOf (ticked g (getD xs i d)))) (suc i)
+  step g out i d r l m =
+      record {
+        within = l;
+        state = ap (λ (f : Handler). ticked f (getD xs i d) .handler) (r .state) ∙ sym (run-next h xs i d l);
+        words = stored;
+        same = length-set out i _ ∙ r .same;
+      }
+    where
+      ws : List ℕ
+      ws = map wordOf (ticks h (take i xs))
+
+      w : ℕ
+      w = wordOf (ticked (run h (take i xs)) (getD xs i d))
+
+      stored : set out i (wordOf (ticked g (getD xs i d))) ≡ map wordOf (ticks h (take (suc i) xs)) ++ drop (suc i) old
+      stored =
+          ap₂ (λ (os : List ℕ) (f : Handler). set os i (wordOf (ticked f (getD xs i d)))) (r .words) (r .state)
+          ∙ ap (λ (ys : List ℕ). set (ws ++ ys) i w) (drop-cons old i 0 m)
+          ∙ set-at ws (getD old i 0) (drop (suc i) old) w i (length-words i (r .within))
+          ∙ sym (append-snoc ws w (drop (suc i) old))
+          ∙ ap (λ (ys : List ℕ). ys ++ drop (suc i) old) (sym (words-next i d l))
+
+  -- all records
+  pub end : (g : Handler) (out : List ℕ) (i : ℕ) → Running h xs old g out i → length xs ≤ i
+      → (g ≡ run h xs) × (out ≡ map wordOf (ticks h xs) ++ drop i old)
+  end g out i r l = (
+    r .state ∙ ap (run h) (take-all i xs l),
+    r .words ∙ ap (λ (ys : List Input). map wordOf (ticks h ys) ++ drop i old) (take-all i xs l),
+  )
+
+-- ── the records of a batch whose first state is valid ──
+
+-- a batch has as many inputs as records
+pub length-inputs : (bytes : List ℕ) → length (inputsOf bytes) ≡ recordCount bytes
+unfolding inputsOf
+length-inputs bytes = length-each (recordCount bytes) (λ i. inputOf (recordAt bytes i))
+
+input-at : (bytes : List ℕ) (i : ℕ) (d : Input) → i < recordCount bytes → getD (inputsOf bytes) i d ≡ inputOf (recordAt bytes i)
+unfolding inputsOf
+input-at bytes i d l = at-each (recordCount bytes) (λ j. inputOf (recordAt bytes j)) i d l
+
+module _ (h : Handler) (xs : List Input) (old : List ℕ) (v : valid h ≡ true) (g : Handler) (out : List ℕ) (i : ℕ) (r : Running h xs old g out i) where
+  -- refusal 7 is looked for once: each later state is valid
+  pub still-valid : valid g ≡ true
+  still-valid = subst (λ (f : Handler). valid f ≡ true) (sym (r .state)) (run-valid h (take i xs) v)
+
+  pub few-alerts : g .n ≤ most
+  few-alerts = facts g still-valid .n
+
+-- record i, its tick and its word
+module _ (h : Handler) (bytes old : List ℕ) (v : valid h ≡ true) (g : Handler) (out : List ℕ) (i : ℕ) (r : Running h (inputsOf bytes) old g out i) (l : i < recordCount bytes) (m : i < length old) where
+  pub next-record : (x : Input) (t : Ticked) (w : ℕ) → x ≡ inputOf (recordAt bytes i) → t ≡ tick g x → w ≡ pack wordLayout (wordFields (t .output) (t .answer))
+      → Running h (inputsOf bytes) old (t .handler) (set out i w) (suc i)
+  unfolding wordOf
+  next-record x t w e f u =
+      let c : ticked g (getD (inputsOf bytes) i x) ≡ t =
+      ap (ticked g) (input-at bytes i x l ∙ sym e) ∙ ticked-good g x (still-valid h (inputsOf bytes) old v g out i r) ∙ sym f in
+      let a : i < length (inputsOf bytes) = omega (arith, length-inputs bytes) in
+      subst (λ (n : ℕ). Running h (inputsOf bytes) old (t .handler) (set out i n) (suc i)) (sym u)
+      (subst (λ (d : Ticked). Running h (inputsOf bytes) old (d .handler) (set out i (wordOf d)) (suc i)) c (step h (inputsOf bytes) old g out i x r a m))

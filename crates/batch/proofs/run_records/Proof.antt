@@ -1,0 +1,84 @@
+-- `run_records` meets its contract: one more record has run in each turn.
+-- Assumes nothing.
+use Prim.Native.Nat.{_-_, _≤_}
+use mathlib.Core.Path.{_≡_}
+use native.Mathlib.Omega.{arith}
+use native.Mathlib.Numerals.{add-one}
+use borrow.Author.Needs.{needs}
+use Rattle.rules.specs.Batch.{inputsOf}
+use Rattle.batch.specs.Running.{Running}
+use Rattle.batch.proofs.Running.{start, end, length-inputs, few-alerts, next-record}
+use Rattle.batch.proofs.run_records.Statement.{statement}
+use Rattle.batch.proofs.run_records.Tie as tie
+
+abbrev Inv-loop : tie.InvT-loop
+Inv-loop bytes out₀ count g₀ i₀ out g i = (i ≤ count) × Running g₀ (inputsOf bytes) out₀ g out i
+
+abbrev μ-loop : tie.MeasureT-loop
+μ-loop bytes out₀ count g₀ i₀ out g i = count - i
+
+loop-holds : tie.Need-loop-holds Inv-loop μ-loop
+loop-holds c = (omega arith, start _ _ _)
+
+mul-input-at : tie.Need-mul-input-at Inv-loop μ-loop
+mul-input-at c = omega arith
+
+input-at-requires : tie.Need-input-at-requires Inv-loop μ-loop
+input-at-requires c κs = search needs
+
+step-requires : tie.Need-step-requires Inv-loop μ-loop
+step-requires c κs = let l = c .before .before .loop in few-alerts _ _ _ (c .before .before .before .before .before .pre .0) _ _ _ (l .inv .1)
+
+word-requires : tie.Need-word-requires Inv-loop μ-loop
+word-requires c κs = search needs
+
+mul-out : tie.Need-mul-out Inv-loop μ-loop
+mul-out c = search needs
+
+slice-write-out : tie.Need-slice-write-out Inv-loop μ-loop
+slice-write-out c = omega (arith, c .before .before .before .before .before .loop .inv .1 .same)
+
+add-i : tie.Need-add-i Inv-loop μ-loop
+add-i c = search needs
+
+loop-less : tie.Need-loop-less Inv-loop μ-loop
+loop-less c = search needs
+
+loop-again : tie.Need-loop-again Inv-loop μ-loop
+loop-again c =
+    let begin = c .before .before .before .before .before .before .before .before .before in
+    let l = c .before .before .before .before .before .before .loop in (
+      omega arith,
+      rw add-one
+          (next-record (begin .args .h) (begin .args .bytes .now) (begin .args .out .now) (begin .pre .0) (l .g) (l .out) (l .i) (l .inv .1) (omega arith) (omega arith)
+          _ _ _ (c .before .before .before .before .input-at .ensures) (c .before .before .before .step .ensures) (c .before .word .ensures)),
+    )
+
+same-length : tie.Need-same-length Inv-loop μ-loop
+same-length c = c .before .loop .inv .1 .same
+
+returns : tie.Need-returns Inv-loop μ-loop
+returns c =
+    let begin = c .before .before .before .before in
+    let l = c .before .loop in
+    let e : l .i ≡ begin .args .count = omega arith in
+    rw (← e) (end _ _ _ _ _ _ (l .inv .1) (omega (arith, length-inputs (begin .args .bytes .now))))
+
+pub run-records-spec : {M : Type 1} → statement M
+run-records-spec =
+    tie.close
+    (tie.spec
+    Inv-loop
+    μ-loop
+    loop-holds
+    mul-input-at
+    input-at-requires
+    step-requires
+    word-requires
+    mul-out
+    slice-write-out
+    add-i
+    loop-less
+    loop-again
+    same-length
+    returns)

@@ -1,0 +1,84 @@
+// "Traces": a batch fills a lent list of 64-bit words, one per record.
+use handler::tick::step;
+use rules::Answer;
+use rules::Handler;
+use rules::Refusal;
+use state::answer::signed;
+use state::valid::is_valid;
+use trace::record::input_at;
+use trace::word::word;
+ghost use mathlib.Core.Path.{_≡_};
+ghost use mathlib.Core.Bool.{true};
+ghost use mathlib.Core.List.{_++_, map};
+ghost use Prim.Native.Nat.{_≤_};
+ghost use lib.ListN.{length, drop};
+ghost use Rattle.escalation.specs.Escalation.{Demand3};
+ghost use Rattle.rules.specs.Answer.{number};
+ghost use Rattle.rules.specs.Batch.{recordCount, inputsOf, batchVerdict, batchInputs};
+ghost use Rattle.rules.specs.Record.{wordOf};
+ghost use Rattle.rules.specs.Run.{run, ticks};
+ghost use Rattle.rules.specs.Valid.{valid};
+ghost use Rattle.batch.specs.Given.{Given};
+
+// The bytes of a record.
+const RECORD: usize = 24;
+
+// The state that a batch leaves, and its answer.
+#[repr(C)]
+pub struct Batched {
+    pub handler: Handler,
+    pub answer: i64,
+}
+
+// The ticks of all records, one after another, each with its word at its place. The first state is valid, so each state is.
+fn run_records(h: Handler, bytes: &[u8], out: &mut [u64], count: usize) -> Handler
+    requires { ⌜ (valid h ≡ true) × (count ≡ recordCount (now bytes)) × (count ≤ length (now out)) ⌝ }
+    ensures { λ r. ⌜ (r ≡ run h (inputsOf (now (bytes .entry)))) × (now (out .exit) ≡ map wordOf (ticks h (inputsOf (now (bytes .entry)))) ++ drop count (now (out .entry))) ⌝ }
+{
+    let mut g = h;
+    let mut i = 0;
+    while i < count {
+        let x = input_at(bytes, i * RECORD);
+        let t = step(g, x);
+        let output = t.output;
+        let answer = t.answer;
+        out[i] = word(output, answer);
+        g = t.handler;
+        i += 1;
+    }
+    g
+}
+
+// A refused batch: the state is unchanged.
+fn refuse(h: Handler, m: Refusal) -> Batched
+    ensures { λ r. ⌜ r ≡ record { handler = h; answer = number (Answer.Refused m) } ⌝ }
+{
+    Batched {
+        handler: h,
+        answer: signed(Answer::Refused(m)),
+    }
+}
+
+// A batch is refused by 7, 8 or 9, in this order, or it takes the ticks of its records and answers 0.
+pub fn batch(h: Handler, bytes: &[u8], out: &mut [u64]) -> Batched
+    ensures { λ r. ⌜ Given h (now (bytes .entry)) (now (out .entry)) r (now (out .exit)) ⌝ }
+    ensures demand3 { λ r. ⌜ (valid h ≡ true → Demand3 h (batchInputs (batchVerdict h (now (bytes .entry)) (now (out .entry))) (now (bytes .entry)))) ⌝ }
+{
+    let broken = !is_valid(h);
+    let uneven = bytes.len() % RECORD != 0;
+    let count = bytes.len() / RECORD;
+    let short = out.len() < count;
+    if broken {
+        refuse(h, Refusal::BadState)
+    } else if uneven {
+        refuse(h, Refusal::BadLength)
+    } else if short {
+        refuse(h, Refusal::ShortList)
+    } else {
+        let handler = run_records(h, bytes, out, count);
+        Batched {
+            handler,
+            answer: signed(Answer::Done),
+        }
+    }
+}
