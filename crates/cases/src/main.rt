@@ -1,0 +1,19 @@
+// The cases of document 01 that are run, its slips that look right, and two waves of the public papers, through the code's own tick.
+// What each prints is held to the file `stdout`.
+mod play; // play.rt: one tick, played and shown
+mod refusals; // refusals.rt: answers of single accesses
+mod slips; // slips.rt: "Slips that look right"
+mod waves; // waves.rt: the waves of the public papers
+
+fn main() {
+    refusals::making();
+    refusals::accesses();
+    slips::two_alerts();
+    slips::zero_phase();
+    slips::threshold();
+    slips::clear_under_lock();
+    slips::refused_sample();
+    slips::refusal_as_value();
+    waves::gathering();
+    waves::timeout();
+}
