@@ -6,7 +6,7 @@ use classes::Signals;
 ghost use mathlib.Core.Path.{_≡_};
 ghost use Prim.Native.Nat.{_<_, _≤_};
 ghost use Rattle.bits.specs.Bits.{bit, num};
-ghost use Rattle.classes.specs.Step.{classEvent, classStep};
+ghost use Rattle.classes.specs.Step.{classStep};
 ghost use Rattle.handler.specs.Classes.{interruptBy, metBy, classesBy, interruptsBy};
 
 // Bit k of a mask.
@@ -17,20 +17,12 @@ fn is_set(mask: u8, k: u32) -> bool
     (mask >> k) % 2 == 1
 }
 
-// Class k has an event: something is assigned to it and EN is 1.
-fn has_event(c: Class, k: u32, assigned: u8) -> bool
-    requires { ⌜ k < 4 ⌝ }
-    ensures { λ r. ⌜ r ≡ classEvent (bit assigned k) c ⌝ }
-{
-    event(is_set(assigned, k), c)
-}
-
 // The interrupt bit of class k now: an event sets it, after any clearing in step 1.
 fn interrupt(c: Class, k: u32, state: u8, assigned: u8) -> bool
     requires { ⌜ k < 4 ⌝ }
     ensures { λ r. ⌜ r ≡ interruptBy c k state assigned ⌝ }
 {
-    is_set(state, k) | has_event(c, k, assigned)
+    is_set(state, k) | event(is_set(assigned, k), c)
 }
 
 // What class k meets in this tick.
@@ -39,7 +31,7 @@ fn meet(c: Class, k: u32, state: u8, assigned: u8, clears: u8) -> Signals
     ensures { λ r. ⌜ r ≡ metBy c k state assigned clears ⌝ }
 {
     Signals {
-        event: has_event(c, k, assigned),
+        event: event(is_set(assigned, k), c),
         interrupt: interrupt(c, k, state, assigned),
         clear: is_set(clears, k),
     }

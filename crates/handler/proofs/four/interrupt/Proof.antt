@@ -8,12 +8,15 @@ use Rattle.handler.proofs.four.interrupt.Tie as tie
 is-set-requires : tie.Need-is-set-requires
 is-set-requires c κs = search needs
 
-has-event-requires : tie.Need-has-event-requires
-has-event-requires c κs = search needs
+is-set-requires-2 : tie.Need-is-set-requires-2
+is-set-requires-2 c κs = search needs
+
+event-requires : tie.Need-event-requires
+event-requires c κs = search needs
 
 returns : tie.Need-returns
 unfolding interruptBy
-returns c = simp (c .has-event .ensures, c .before .is-set .ensures)
+returns c = simp (c .event .ensures, c .before .is-set2 .ensures, c .before .before .is-set .ensures)
 
 pub interrupt-spec : {M : Type 1} → statement M
-interrupt-spec = tie.close (tie.spec is-set-requires has-event-requires returns)
+interrupt-spec = tie.close (tie.spec is-set-requires is-set-requires-2 event-requires returns)

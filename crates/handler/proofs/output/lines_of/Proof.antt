@@ -39,7 +39,15 @@ returns c =
     let l2 = l3 .before .before in
     let l1 = l2 .before .before in
     let classes = l1 .before .before .args .t1 in
-    rw (c .lines4 .ensures, l3 .lines3 .ensures, l2 .lines2 .ensures, l1 .lines .ensures) (or-four 4 (λ k. drives (getD classes k noClass)))
+    or-four 4 (λ k. drives (getD classes k noClass))
+    (l1 .lines .result)
+    (l2 .lines2 .result)
+    (l3 .lines3 .result)
+    (c .lines4 .result)
+    (l1 .lines .ensures)
+    (l2 .lines2 .ensures)
+    (l3 .lines3 .ensures)
+    (c .lines4 .ensures)
 
 pub lines-of-spec : {M : Type 1} → statement M
 lines-of-spec =
