@@ -1,0 +1,57 @@
+//! The refusals and the signed number that every call answers.
+
+/// Why an access, a batch or the making of a handler was refused.
+#[derive(Clone, Copy, Debug, PartialEq, Eq)]
+pub enum Refusal {
+    /// No such register.
+    NoRegister = 1,
+    /// Read of a write-only or write of a read-only register.
+    Direction = 2,
+    /// The register is locked.
+    Locked = 3,
+    /// The written value has a bit outside the field.
+    OutsideField = 4,
+    /// The trace record is malformed.
+    Malformed = 5,
+    /// N is 0 or over 64.
+    AlertCount = 6,
+    /// The state breaks the rule on stored states.
+    BrokenState = 7,
+    /// The batch length is not a multiple of 24.
+    BatchLength = 8,
+    /// The output list is shorter than the records.
+    ShortList = 9,
+}
+
+impl Refusal {
+    /// The negated refusal number.
+    pub fn answer(self) -> i64 {
+        -(self as i64)
+    }
+}
+
+/// The number for a result: the value, or minus the refusal number.
+pub fn answer(result: Result<u32, Refusal>) -> i64 {
+    match result {
+        Ok(value) => i64::from(value),
+        Err(refusal) => refusal.answer(),
+    }
+}
+
+/// The refusal number in an answer, 0 if it is not a refusal.
+pub fn refusal_number(answer: i64) -> u64 {
+    if answer < 0 {
+        answer.unsigned_abs()
+    } else {
+        0
+    }
+}
+
+/// The value in an answer, 0 if it is a refusal.
+pub fn value(answer: i64) -> u64 {
+    if answer < 0 {
+        0
+    } else {
+        answer as u64
+    }
+}

@@ -1,0 +1,103 @@
+//! What a set of traces reached, taken from the reference while it runs.
+
+use reference::handler::CLASSES;
+use reference::Handler;
+use std::collections::BTreeSet;
+use std::fmt;
+
+/// Counts over all traces of a set.
+#[derive(Default)]
+pub struct Coverage {
+    /// Traces run.
+    pub traces: u64,
+    /// Ticks run.
+    pub ticks: u64,
+    /// Ticks whose access was an answered read.
+    pub reads: u64,
+    /// Ticks that read, were refused, or had an interrupt or line on.
+    pub showing: u64,
+    /// Ticks by refusal number, 0 for accepted.
+    pub answers: [u64; 6],
+    /// Traces with a missing or refused N.
+    pub no_handler: u64,
+    /// Traces with a cut end.
+    pub cut: u64,
+    /// Ticks by class and the STATE reached.
+    pub states: [[u64; 8]; CLASSES],
+    /// Changes of STATE, from and to, over all classes.
+    pub moves: [[u64; 8]; 8],
+    /// Starts with LOCK set.
+    pub locked_starts: u64,
+    /// Ticks with a line on.
+    pub lines: [u64; 4],
+    /// Ticks with an interrupt out.
+    pub interrupts: [u64; 4],
+    /// Classes times ticks with ACCUM_CNT at 65535.
+    pub full: u64,
+    /// The numbers of alerts asked for, 0 if none.
+    pub counts: BTreeSet<u64>,
+}
+
+impl Coverage {
+    /// Takes in one tick: the handler before and after, and the word it gave.
+    pub fn tick(&mut self, before: &Handler, after: &Handler, read: bool, word: u64) {
+        let refusal = (word >> 52) & 15;
+        self.ticks += 1;
+        self.answers[refusal as usize] += 1;
+        self.reads += u64::from(read && refusal == 0);
+        self.showing += u64::from(read || word >> 52 != 0);
+        for bit in 0..4 {
+            self.interrupts[bit] += (word >> (63 - bit)) & 1;
+            self.lines[bit] += (word >> (59 - bit)) & 1;
+        }
+        for (k, class) in after.classes.iter().enumerate() {
+            let from = usize::from(before.classes[k].state);
+            let to = usize::from(class.state);
+            self.states[k][to] += 1;
+            self.full += u64::from(class.accum_cnt == u16::MAX);
+            if from != to {
+                self.moves[from][to] += 1;
+                self.locked_starts += u64::from(to == 4 && class.lock());
+            }
+        }
+    }
+}
+
+impl fmt::Display for Coverage {
+    fn fmt(&self, out: &mut fmt::Formatter) -> fmt::Result {
+        let part = |count: u64| 100 * count / self.ticks.max(1);
+        writeln!(out, "traces {}, ticks {}", self.traces, self.ticks)?;
+        writeln!(
+            out,
+            "ticks that read {}%, that show something {}%",
+            part(self.reads),
+            part(self.showing)
+        )?;
+        write!(out, "answers: accepted {}", self.answers[0])?;
+        for (number, count) in self.answers.iter().enumerate().skip(1) {
+            write!(out, ", refusal {number}: {count}")?;
+        }
+        writeln!(out, ", refusal 6: {}", self.no_handler)?;
+        writeln!(out, "cut ends {}, N {:?}", self.cut, self.counts)?;
+        for (k, states) in self.states.iter().enumerate() {
+            write!(out, "class {k} states:")?;
+            for state in [0, 1, 4, 5, 6, 7, 3] {
+                write!(out, " {state}: {}", states[state])?;
+            }
+            writeln!(out)?;
+        }
+        write!(out, "moves:")?;
+        for (from, row) in self.moves.iter().enumerate() {
+            for (to, count) in row.iter().enumerate().filter(|entry| *entry.1 > 0) {
+                write!(out, " {from}>{to}: {count}")?;
+            }
+        }
+        writeln!(out, "; starts under LOCK {}", self.locked_starts)?;
+        writeln!(
+            out,
+            "lines on {:?}, interrupts on {:?}",
+            self.lines, self.interrupts
+        )?;
+        write!(out, "class ticks with a full accumulator {}", self.full)
+    }
+}

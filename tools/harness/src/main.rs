@@ -1,0 +1,163 @@
+//! The command line of the harness.
+
+use harness::compare::{
+    compare, compare_all, damage, generated, Case, Difference, DEFAULT_SEED, DEFAULT_TRACES,
+};
+use harness::coverage::Coverage;
+use harness::generate::Kind;
+use std::io::{self, Write};
+use std::path::{Path, PathBuf};
+use std::process::ExitCode;
+use std::str::FromStr;
+use std::time::{Duration, Instant, SystemTime, UNIX_EPOCH};
+
+const USAGE: &str = "usage:
+  harness diff REPLAY [--traces N] [--seed S]    the fixed set, or N traces from seed S
+  harness damage REPLAY [--traces N] [--seed S]  random bytes and damaged traces
+  harness fuzz REPLAY SECONDS [--seed S]         fresh seeds until the time is over
+  harness repeat REPLAY KIND SEED [--records R]  one trace, or its first R records
+  harness trace KIND SEED [--records R]          the bytes of a trace
+REPLAY is the program to compare with the reference.
+Exit status: 0 equal, 1 different, 2 bad usage or no such program.";
+
+/// Why a command ends with status 2.
+type Trouble = String;
+
+fn main() -> ExitCode {
+    let words: Vec<String> = std::env::args().skip(1).collect();
+    match command(words) {
+        Ok(true) => ExitCode::SUCCESS,
+        Ok(false) => ExitCode::from(1),
+        Err(trouble) => {
+            eprintln!("harness: {trouble}\n{USAGE}");
+            ExitCode::from(2)
+        }
+    }
+}
+
+/// Runs a command; says whether all was equal.
+fn command(mut words: Vec<String>) -> Result<bool, Trouble> {
+    let traces = option(&mut words, "--traces")?;
+    let seed = option(&mut words, "--seed")?;
+    let records = option(&mut words, "--records")?;
+    let words: Vec<&str> = words.iter().map(String::as_str).collect();
+    let first = seed.unwrap_or(DEFAULT_SEED);
+    match (words.as_slice(), traces, seed, records) {
+        (["diff", path], _, _, None) => set(path, generated(first), traces),
+        (["damage", path], _, _, None) => set(path, damage(first), traces),
+        (["fuzz", path, seconds], None, _, None) => fuzz(path, number(seconds)?, seed),
+        (["repeat", path, kind, seed], None, None, _) => repeat(path, case(kind, seed, records)?),
+        (["trace", kind, seed], None, None, _) => print_trace(case(kind, seed, records)?),
+        _ => Err("no such command".to_string()),
+    }
+}
+
+/// Takes an option and its number out of the words.
+fn option<T: FromStr>(words: &mut Vec<String>, name: &str) -> Result<Option<T>, Trouble> {
+    let Some(at) = words.iter().position(|word| word == name) else {
+        return Ok(None);
+    };
+    if at + 1 == words.len() {
+        return Err(format!("{name} needs a number"));
+    }
+    let value = number(&words[at + 1])?;
+    words.drain(at..at + 2);
+    Ok(Some(value))
+}
+
+fn number<T: FromStr>(word: &str) -> Result<T, Trouble> {
+    word.parse()
+        .map_err(|_| format!("{word} is no number here"))
+}
+
+fn case(kind: &str, seed: &str, records: Option<usize>) -> Result<Case, Trouble> {
+    let kind = Kind::named(kind).ok_or(format!("no kind {kind}"))?;
+    let seed = number(seed)?;
+    Ok(Case {
+        kind,
+        seed,
+        records,
+    })
+}
+
+/// A program named without a directory is meant as a file here.
+fn program(path: &str) -> PathBuf {
+    Path::new(".").join(path)
+}
+
+/// Compares a set and prints what it reached.
+fn set(
+    path: &str,
+    cases: impl Iterator<Item = Case>,
+    traces: Option<u64>,
+) -> Result<bool, Trouble> {
+    let begin = Instant::now();
+    let mut coverage = Coverage::default();
+    let cases = cases.take(traces.unwrap_or(DEFAULT_TRACES) as usize);
+    let found = compare_all(&program(path), cases, &mut coverage).map_err(trouble)?;
+    Ok(report(found, &coverage, begin.elapsed()))
+}
+
+/// Compares fresh traces until the time is over.
+fn fuzz(path: &str, seconds: u64, seed: Option<u64>) -> Result<bool, Trouble> {
+    let begin = Instant::now();
+    let end = begin + Duration::from_secs(seconds);
+    let seed = seed.unwrap_or_else(fresh_seed);
+    let mut coverage = Coverage::default();
+    let mut told = begin;
+    eprintln!("first seed {seed}");
+    let cases = generated(seed).take_while(|case| {
+        let now = Instant::now();
+        if now.duration_since(told) > Duration::from_secs(5) {
+            told = now;
+            let spent = begin.elapsed().as_secs();
+            let traces = case.seed.wrapping_sub(seed);
+            eprintln!("{spent} of {seconds} seconds, {traces} traces equal");
+        }
+        now < end
+    });
+    let found = compare_all(&program(path), cases, &mut coverage).map_err(trouble)?;
+    Ok(report(found, &coverage, begin.elapsed()))
+}
+
+/// A seed from the clock, small enough to type.
+fn fresh_seed() -> u64 {
+    let now = SystemTime::now().duration_since(UNIX_EPOCH);
+    now.map_or(DEFAULT_SEED, |since| since.as_micros() as u64)
+}
+
+/// Compares one trace again.
+fn repeat(path: &str, case: Case) -> Result<bool, Trouble> {
+    let begin = Instant::now();
+    let mut coverage = Coverage::default();
+    let found = compare(&program(path), case, &mut coverage).map_err(trouble)?;
+    Ok(report(found, &coverage, begin.elapsed()))
+}
+
+/// Writes a trace's bytes to standard output.
+fn print_trace(case: Case) -> Result<bool, Trouble> {
+    io::stdout().write_all(&case.bytes()).map_err(trouble)?;
+    Ok(true)
+}
+
+/// Prints the outcome; says whether all was equal.
+fn report(found: Option<Difference>, coverage: &Coverage, time: Duration) -> bool {
+    println!("{coverage}");
+    println!("time {:.1} seconds", time.as_secs_f64());
+    match found {
+        None => {
+            println!("EQUAL");
+            true
+        }
+        Some(difference) => {
+            println!("{difference}");
+            let own = std::env::args().next().unwrap_or_default();
+            println!("repeat: {own} {}", difference.command());
+            false
+        }
+    }
+}
+
+fn trouble(error: io::Error) -> Trouble {
+    format!("cannot run: {error}")
+}

@@ -1,0 +1,220 @@
+//! The slips: a piece of the reference's text and what replaces it.
+
+/// One slip.
+pub struct Slip {
+    /// What goes wrong.
+    pub name: &'static str,
+    /// The file name in the reference.
+    pub file: &'static str,
+    /// The right text, found exactly once in the file.
+    pub right: &'static str,
+    /// The text with the slip.
+    pub wrong: &'static str,
+}
+
+/// The first ten are those asked for; the others are slips of the same sort.
+pub const SLIPS: &[Slip] = &[
+    Slip {
+        name: "each alert counted",
+        file: "handler.rs",
+        right: "assigned[usize::from(alert.class)] = true;",
+        wrong: "let class = &mut self.classes[usize::from(alert.class)];
+                if assigned[usize::from(alert.class)] && class.enabled() {
+                    class.accum_cnt = class.accum_cnt.saturating_add(1);
+                }
+                assigned[usize::from(alert.class)] = true;",
+    },
+    Slip {
+        name: "zero phase skipped",
+        file: "class.rs",
+        right: "self.enter(self.state + 1, 1);",
+        wrong: "let next = self.state + 1;
+                self.enter(next, 1);
+                if self.phase_cyc[usize::from(next - PHASE0)] == 0 {
+                    self.advance_phase(false);
+                }",
+    },
+    Slip {
+        name: "threshold compared after counting",
+        file: "class.rs",
+        right: "let trigger = self.accum_cnt >= self.accum_thresh;
+        self.accum_cnt = self.accum_cnt.saturating_add(1);",
+        wrong: "self.accum_cnt = self.accum_cnt.saturating_add(1);
+        let trigger = self.accum_cnt >= self.accum_thresh;",
+    },
+    Slip {
+        name: "clear undoes the start of the tick before under LOCK",
+        file: "class.rs",
+        right: "ClassField::Clr => self.clr_regwen == 0,",
+        wrong: "ClassField::Clr => {
+                self.clr_regwen == 0 && !(self.state == PHASE0 && self.esc_cnt == 1)
+            }",
+    },
+    Slip {
+        name: "samples dropped on a refusal",
+        file: "handler.rs",
+        right: "let assigned = self.sample(pos, neg);",
+        wrong: "let assigned = if answer < 0 {
+            [false; CLASSES]
+        } else {
+            self.sample(pos, neg)
+        };",
+    },
+    Slip {
+        name: "refusal given as a value",
+        file: "answer.rs",
+        right: "        0
+    } else {
+        answer as u64
+    }",
+        wrong: "        answer.unsigned_abs()
+    } else {
+        answer as u64
+    }",
+    },
+    Slip {
+        name: "(0,0) re-arms",
+        file: "handler.rs",
+        right: "equal |= alert.en == 1;",
+        wrong: "equal |= alert.en == 1;
+                self.armed[i] |= !p;",
+    },
+    Slip {
+        name: "accumulator stays at 65534",
+        file: "class.rs",
+        right: "self.accum_cnt.saturating_add(1);",
+        wrong: "(self.accum_cnt + 1).min(65534);",
+    },
+    Slip {
+        name: "local 2 needs its class's EN",
+        file: "handler.rs",
+        right: "if equal && local.en == 1 {",
+        wrong: "if equal && local.en == 1 && self.classes[usize::from(local.class)].enabled() {",
+    },
+    Slip {
+        name: "line maps permuted",
+        file: "class.rs",
+        right: "(6 + 2 * e)",
+        wrong: "(12 - 2 * e)",
+    },
+    Slip {
+        name: "refusal 3 before 4",
+        file: "access.rs",
+        right: "if value > register.mask() {",
+        wrong: "if value > register.mask() && self.locked(register, value) {
+            return Err(Refusal::Locked);
+        }
+        if value > register.mask() {",
+    },
+    Slip {
+        name: "a 0 to a locked CLR accepted",
+        file: "class.rs",
+        right: "ClassField::Clr => self.clr_regwen == 0,",
+        wrong: "ClassField::Clr => self.clr_regwen == 0 && value != 0,",
+    },
+    Slip {
+        name: "a clear stops a timeout",
+        file: "class.rs",
+        right: "if trigger || (due && self.esc_cnt >= self.timeout_cyc) {",
+        wrong: "if cleared {
+                    self.enter(IDLE, 0);
+                } else if trigger || (due && self.esc_cnt >= self.timeout_cyc) {",
+    },
+    Slip {
+        name: "a timeout needs one tick more",
+        file: "class.rs",
+        right: "self.esc_cnt >= self.timeout_cyc",
+        wrong: "self.esc_cnt > self.timeout_cyc",
+    },
+    Slip {
+        name: "phase length compared for equality",
+        file: "class.rs",
+        right: "} else if self.esc_cnt < length {",
+        wrong: "} else if length > 0 && self.esc_cnt != length && self.esc_cnt < u32::MAX {",
+    },
+    Slip {
+        name: "EN read in a phase",
+        file: "class.rs",
+        right: "        if cleared {
+            self.enter(IDLE, 0);
+        } else if self.esc_cnt < length {",
+        wrong: "        if cleared {
+            self.enter(IDLE, 0);
+        } else if !self.enabled() {
+        } else if self.esc_cnt < length {",
+    },
+    Slip {
+        name: "no counting outside Idle",
+        file: "class.rs",
+        right: "self.accum_cnt = self.accum_cnt.saturating_add(1);",
+        wrong: "if self.state == IDLE {
+            self.accum_cnt = self.accum_cnt.saturating_add(1);
+        }",
+    },
+    Slip {
+        name: "a cleared tick's event counted",
+        file: "class.rs",
+        right: "self.accum_cnt = 0;
+            return false;",
+        wrong: "self.accum_cnt = u16::from(event);
+            return false;",
+    },
+    Slip {
+        name: "a cleared tick's event sets no interrupt",
+        file: "handler.rs",
+        right: "if event {
+                self.intr_state |= bit;",
+        wrong: "if event && !clear {
+                self.intr_state |= bit;",
+    },
+    Slip {
+        name: "a disabled alert's event does not disarm",
+        file: "handler.rs",
+        right: "self.armed[i] = false;",
+        wrong: "self.armed[i] = alert.en == 0;",
+    },
+    Slip {
+        name: "equal wires of a disabled alert occur",
+        file: "handler.rs",
+        right: "equal |= alert.en == 1;",
+        wrong: "equal = true;",
+    },
+    Slip {
+        name: "samples at N and above count",
+        file: "handler.rs",
+        right: "for i in 0..self.n as usize {
+            let p",
+        wrong: "if self.n < 64 {
+            let beyond = u64::MAX >> self.n;
+            equal = !(pos ^ neg) & beyond != 0;
+        }
+        for i in 0..self.n as usize {
+            let p",
+    },
+    Slip {
+        name: "a malformed record read as its access",
+        file: "trace.rs",
+        right: "head & 0xF_FFFF != 0",
+        wrong: "head & 0xF_FFFE != 0",
+    },
+    Slip {
+        name: "the register after N exists",
+        file: "register.rs",
+        right: "if (i as u64) < n {",
+        wrong: "if (i as u64) <= n && i < 64 {",
+    },
+    Slip {
+        name: "access after the samples",
+        file: "handler.rs",
+        right: "let (answer, cleared) = self.access(access);
+        let assigned = self.sample(pos, neg);",
+        wrong: "let assigned = self.sample(pos, neg);
+        let (answer, cleared) = self.access(access);",
+    },
+    Slip {
+        name: "phase length cut to 16 bits",
+        file: "class.rs",
+        right: "} else if self.esc_cnt < length {",
+        wrong: "} else if self.esc_cnt < length & 0xFFFF {",
+    },
+];
