@@ -2,8 +2,8 @@
 -- Assumes nothing.
 use Prim.Native.Nat.{ℕ}
 use mathlib.Core.Path.{_≡_}
-use mathlib.Core.List.{List, [], _∷_, _++_}
-use lib.IntN.{ℤ, pos}
+use mathlib.Core.List.{[], _∷_, _++_}
+use lib.IntN.{pos}
 use lib.ListN.{replicate}
 use Rattle.cases.specs.Ticks.{rest, raise, broken, none, write, configure, answer, answers, holds, heldBy, refused}
 use Rattle.classes.specs.declared.Class.{Class}
@@ -13,11 +13,10 @@ use Rattle.classes.specs.Class.{noClass}
 use Rattle.rules.specs.declared.Access.{Access}
 use Rattle.rules.specs.declared.Field.{Field}
 use Rattle.rules.specs.declared.Handler.{Handler}
-use Rattle.rules.specs.declared.Input.{Input}
 use Rattle.rules.specs.declared.Register.{Register}
 use Rattle.rules.specs.declared.Register.the-variants.{IntrState, Local, Alert, Block}
 use Rattle.rules.specs.declared.Setting.{Setting}
-use Rattle.rules.specs.declared.Setting.the-variants.{Ctrl, ClrRegwen, Clr, AccumCnt, AccumThresh, TimeoutCyc, PhaseCyc}
+use Rattle.rules.specs.declared.Setting.the-variants.{Ctrl, Clr, AccumCnt, AccumThresh, TimeoutCyc, PhaseCyc}
 
 -- ── the stations ──
 

@@ -1,9 +1,8 @@
 -- How the cases of document 01, "Ticks to reproduce", are played: inputs, and what is read after them.
 -- Assumes nothing.
 use Prim.Native.Nat.{ℕ, _-_, _^_}
-use mathlib.Core.List.{List, [], _∷_, _++_, map}
+use mathlib.Core.List.{List, [], _∷_, map}
 use lib.IntN.{ℤ, pos, negℤ}
-use lib.ListN.{getD, replicate}
 use Rattle.rules.specs.Answer.{number}
 use Rattle.rules.specs.Access.{value}
 use Rattle.rules.specs.Map.{numberOf}

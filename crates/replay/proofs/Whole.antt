@@ -1,17 +1,17 @@
 -- The records that some bytes hold whole, and the text of their words.
 -- Assumes nothing.
-use Prim.Native.Nat.{ℕ, zero, suc, _+_, _*_, _/_, _%_, _≤_, _<_, min}
-use mathlib.Core.Path.{_≡_, refl, sym, ap, ap₂, _∙_}
+use Prim.Native.Nat.{ℕ, zero, suc, _+_, _*_, _≤_}
+use mathlib.Core.Path.{_≡_, refl, ap, ap₂, _∙_}
 use mathlib.Core.Bool.{true}
 use mathlib.Core.List.{List, [], _∷_, _++_, map}
 use native.Mathlib.Omega.{arith}
-use lib.ListN.{length, take, drop, length-take, length-map}
+use lib.ListN.{length, take, drop, length-map}
 use lib.Seq.{take-take, take-at, take-all, length-take-le}
-use Rattle.bits.proofs.IndexLaws.{each-ext, length-each}
+use Rattle.bits.proofs.IndexLaws.{each-ext}
 use Rattle.bits.specs.Index.{each}
 use Rattle.rules.specs.Batch as rules
 use Rattle.rules.specs.Batch.{inputsOf, recordAt, recordCount}
-use Rattle.rules.specs.Record.{inputOf, wordOf}
+use Rattle.rules.specs.Record.{inputOf, recordBytes, wordOf}
 use Rattle.rules.specs.Run.{run, ticks}
 use Rattle.rules.specs.Valid.{valid}
 use Rattle.rules.specs.declared.Handler.{Handler}
@@ -36,10 +36,10 @@ part-take n (suc k) (suc m) (x ∷ xs) h = part-take n k m xs (omega arith)
 
 -- the bytes of the records that some bytes hold whole
 abbrev pub wholeOf : List ℕ → List ℕ
-wholeOf bytes = take (recordCount bytes * 24) bytes
+wholeOf bytes = take (recordCount bytes * recordBytes) bytes
 
-length-whole : (bytes : List ℕ) → length (wholeOf bytes) ≡ recordCount bytes * 24
-length-whole bytes = length-take-le (recordCount bytes * 24) bytes (omega arith)
+length-whole : (bytes : List ℕ) → length (wholeOf bytes) ≡ recordCount bytes * recordBytes
+length-whole bytes = length-take-le (recordCount bytes * recordBytes) bytes (omega arith)
 
 count-whole : (bytes : List ℕ) → recordCount (wholeOf bytes) ≡ recordCount bytes
 count-whole bytes = let e = length-whole bytes in omega arith
@@ -50,7 +50,7 @@ unfolding inputsOf
 inputs-whole bytes =
     ap (λ (n : ℕ). each n (λ i. inputOf (recordAt (wholeOf bytes) i))) (count-whole bytes)
     ∙ each-ext (recordCount bytes) (λ i. inputOf (recordAt (wholeOf bytes) i)) (λ i. inputOf (recordAt bytes i)) (inputOf [])
-    (λ i h. ap inputOf (part-take 24 (i * 24) (recordCount bytes * 24) bytes (omega arith)))
+    (λ i h. ap inputOf (part-take recordBytes (i * recordBytes) (recordCount bytes * recordBytes) bytes (omega arith)))
 
 -- the words of their ticks, as many as records
 abbrev wordsOf : Handler → List ℕ → List ℕ

@@ -7,7 +7,9 @@ use input::fill;
 use libc::STDERR_FILENO;
 use libc::STDIN_FILENO;
 use libc::STDOUT_FILENO;
+use records::BYTES;
 use records::RECORD;
+use records::TEXT;
 use records::replay;
 use rules::Handler;
 use rules::Made;
@@ -16,11 +18,6 @@ ghost use mathlib.Core.Path.{_≡_};
 ghost use mathlib.Core.Bool.{true};
 ghost use Rattle.rules.specs.State.{made};
 ghost use Rattle.rules.specs.Valid.{valid};
-
-// A turn takes at most 2,048 records: their bytes, and the bytes of their lines.
-const BYTES: usize = 49152;
-
-const TEXT: usize = 34816;
 
 // The state after a turn, and whether another one follows.
 struct Turn {

@@ -13,8 +13,12 @@ ghost use Rattle.replay.specs.Given.{Given};
 // The bytes of a record.
 pub const RECORD: usize = 24;
 
-// The most records of a part.
+// The most records of a part, and the bytes of that many records and of their lines.
 const MOST: usize = 2048;
+
+pub const BYTES: usize = MOST * RECORD;
+
+pub const TEXT: usize = MOST * 17;
 
 // The state after a part's records, and how many bytes of text they gave.
 pub struct Replayed {
