@@ -1,0 +1,76 @@
+// The handler for callers in C and Rust: making one, one tick, and a batch. Any state may come in, and any bytes are one.
+use batch::Batched;
+use batch::batch;
+use handler::tick::Answered;
+use handler::tick::tick;
+use rules::Access;
+use rules::Handler;
+use rules::Input;
+use rules::Made;
+use rules::Sample;
+use rules::Wires;
+use state::new::new;
+ghost use mathlib.Core.Path.{_≡_};
+ghost use mathlib.Core.Bool.{true};
+ghost use Rattle.batch.specs.Given.{Given};
+ghost use Rattle.boundary.specs.Input.{accessBy, inputBy};
+ghost use Rattle.escalation.specs.Escalation.{Demand3};
+ghost use Rattle.handler.specs.Answered.{answered};
+ghost use Rattle.rules.specs.Batch.{batchVerdict, batchInputs};
+ghost use Rattle.rules.specs.State.{made};
+ghost use Rattle.rules.specs.Tick.{ticked};
+ghost use Rattle.rules.specs.Valid.{valid};
+
+// The access by a kind's number: 0 none, 1 read, 2 write. Any other is a malformed record.
+fn access_by(kind: u8, register: u16, value: u32) -> Access
+    ensures { λ r. ⌜ r ≡ accessBy kind register value ⌝ }
+{
+    match kind {
+        0 => Access::Nothing,
+        1 => Access::Read(register),
+        2 => Access::Write(register, value),
+        _ => Access::Malformed,
+    }
+}
+
+// A handler for n alerts, or refusal 6.
+#[no_mangle]
+pub extern "C" fn tarravane_new(n: usize) -> Made
+    ensures { λ r. ⌜ r ≡ made n ⌝ }
+{
+    new(n)
+}
+
+// One tick of any state.
+#[no_mangle]
+pub extern "C" fn tarravane_tick(
+    h: Handler,
+    kind: u8,
+    register: u16,
+    value: u32,
+    pos: u64,
+    neg: u64,
+) -> Answered
+    ensures { λ r. ⌜ r ≡ answered (ticked h (inputBy kind register value pos neg)) ⌝ }
+{
+    let access = access_by(kind, register, value);
+    let input = Input {
+        access,
+        sample: Sample {
+            alerts: Wires {
+                pos: [pos],
+                neg: [neg],
+            },
+        },
+    };
+    tick(h, input)
+}
+
+// The ticks of the records in these bytes, a word for each.
+#[no_mangle]
+pub extern "C" fn tarravane_batch(h: Handler, bytes: &[u8], out: &mut [u64]) -> Batched
+    ensures { λ r. ⌜ Given h (now (bytes .entry)) (now (out .entry)) r (now (out .exit)) ⌝ }
+    ensures demand3 { λ r. ⌜ (valid h ≡ true → Demand3 h (batchInputs (batchVerdict h (now (bytes .entry)) (now (out .entry))) (now (bytes .entry)))) ⌝ }
+{
+    batch(h, bytes, out)
+}

@@ -1,0 +1,234 @@
+/* Tarravane: the proved alert handler, for C. Link target/staticlib/libboundary.a (x86-64, System V ABI; it needs memcpy).
+ *
+ * Every function answers one signed 64-bit number: a read gives 0 to 4294967295, anything else accepted gives 0, and a
+ * refusal gives the negated refusal number. No function has a precondition on the state: any bytes are a state, and
+ * refusal 7 judges them. No function keeps anything between calls, allocates, or fails in another way.
+ *
+ * The promises are proved for the functions of crates/boundary. Trusted: the compiler's back end, the C ABI, this header. */
+#ifndef TARRAVANE_H
+#define TARRAVANE_H
+
+#include <assert.h>
+#include <stddef.h>
+#include <stdint.h>
+
+#ifdef __cplusplus
+extern "C" {
+#define TARRAVANE_ASSERT(fact) static_assert(fact, #fact)
+#else
+#define TARRAVANE_ASSERT(fact) _Static_assert(fact, #fact)
+#endif
+
+/* ---- Sizes ---- */
+
+#define TARRAVANE_ALERTS 64 /* the most alerts that a handler is made for */
+#define TARRAVANE_WORDS 1   /* words of 64 that hold a bit of each alert */
+#define TARRAVANE_LOCALS 7  /* local alerts */
+#define TARRAVANE_CLASSES 4
+#define TARRAVANE_PHASES 4
+#define TARRAVANE_LINES 4
+#define TARRAVANE_RECORD 24 /* bytes of a trace record */
+
+/* ---- The state. Read and copy it freely; change it by ticks. ---- */
+
+/* The registers of a class's block. */
+struct tarravane_class {
+    uint32_t lengths[TARRAVANE_PHASES]; /* PHASE0_CYC to PHASE3_CYC */
+    uint32_t timeout;                   /* TIMEOUT_CYC */
+    uint32_t count;                     /* ESC_CNT */
+    uint16_t ctrl;                      /* CTRL */
+    uint16_t accum;                     /* ACCUM_CNT */
+    uint16_t thresh;                    /* ACCUM_THRESH */
+    uint8_t regwen;                     /* class REGWEN */
+    uint8_t clrwen;                     /* CLR_REGWEN */
+    uint8_t state;                      /* STATE: TARRAVANE_IDLE .. */
+};
+
+/* Alert i is re-armed if bit 63 - i % 64 of word i / 64 is 1. */
+struct tarravane_receivers {
+    uint64_t armed[TARRAVANE_WORDS];
+};
+
+/* Entry i is alert i's. Entries at n and above are no registers: refusal 7 does not look at them, no call changes them. */
+struct tarravane_alerts {
+    uint8_t regwen[TARRAVANE_ALERTS];
+    uint8_t en[TARRAVANE_ALERTS];
+    uint8_t class_of[TARRAVANE_ALERTS]; /* CLASS */
+    uint8_t cause[TARRAVANE_ALERTS];
+};
+
+struct tarravane_locals {
+    uint8_t regwen[TARRAVANE_LOCALS];
+    uint8_t en[TARRAVANE_LOCALS];
+    uint8_t class_of[TARRAVANE_LOCALS]; /* CLASS */
+    uint8_t cause[TARRAVANE_LOCALS];
+};
+
+/* INTR_STATE and INTR_ENABLE: class 0 is the lowest bit. */
+struct tarravane_interrupts {
+    uint8_t state;
+    uint8_t enable;
+};
+
+struct tarravane_handler {
+    size_t n; /* alerts */
+    struct tarravane_receivers receivers;
+    struct tarravane_class classes[TARRAVANE_CLASSES];
+    struct tarravane_alerts alerts;
+    struct tarravane_locals locals;
+    struct tarravane_interrupts interrupts;
+};
+
+/* ---- What comes back ---- */
+
+/* Interrupts and escalation lines: class and line 0 are the lowest bits. */
+struct tarravane_output {
+    uint8_t interrupts;
+    uint8_t lines;
+};
+
+struct tarravane_made {
+    struct tarravane_handler handler;
+    int64_t answer;
+};
+
+struct tarravane_answered {
+    struct tarravane_handler handler;
+    int64_t answer;
+    struct tarravane_output output;
+};
+
+struct tarravane_batched {
+    struct tarravane_handler handler;
+    int64_t answer;
+};
+
+/* ---- Refusal numbers: an answer of -number ---- */
+
+#define TARRAVANE_NO_REGISTER 1 /* no such register */
+#define TARRAVANE_WRONG_WAY 2   /* read of a write-only or write of a read-only register */
+#define TARRAVANE_LOCKED 3      /* register locked */
+#define TARRAVANE_TOO_WIDE 4    /* written value has a bit outside the field */
+#define TARRAVANE_BAD_RECORD 5  /* trace record malformed, or a kind over 2 */
+#define TARRAVANE_BAD_COUNT 6   /* n is 0 or over 64 */
+#define TARRAVANE_BAD_STATE 7   /* n over 64, a register over its bits, a STATE of 2, a count that its state rules out */
+#define TARRAVANE_BAD_LENGTH 8  /* batch length not a multiple of 24 */
+#define TARRAVANE_SHORT_LIST 9  /* output list shorter than the records */
+
+/* ---- Kinds of access ---- */
+
+#define TARRAVANE_NONE 0
+#define TARRAVANE_READ 1
+#define TARRAVANE_WRITE 2
+
+/* ---- Register numbers: local alert j is 0 to 6, alert i is below n, class k is 0 to 3, phase p is 0 to 3 ---- */
+
+#define TARRAVANE_INTR_STATE 0  /* 4 bits, a 1 clears */
+#define TARRAVANE_INTR_ENABLE 1 /* 4 bits */
+#define TARRAVANE_INTR_TEST 2   /* 4 bits, write only, a 1 sets INTR_STATE */
+
+#define TARRAVANE_LOC_ALERT_REGWEN(j) (16 + (j)) /* 1 bit, a 0 locks */
+#define TARRAVANE_LOC_ALERT_EN(j) (24 + (j))     /* 1 bit */
+#define TARRAVANE_LOC_ALERT_CLASS(j) (32 + (j))  /* 2 bits */
+#define TARRAVANE_LOC_ALERT_CAUSE(j) (40 + (j))  /* 1 bit, a 1 clears */
+
+#define TARRAVANE_ALERT_REGWEN(i) (64 + (i)) /* 1 bit, a 0 locks */
+#define TARRAVANE_ALERT_EN(i) (128 + (i))    /* 1 bit */
+#define TARRAVANE_ALERT_CLASS(i) (192 + (i)) /* 2 bits */
+#define TARRAVANE_ALERT_CAUSE(i) (256 + (i)) /* 1 bit, a 1 clears */
+
+#define TARRAVANE_CLASS_REGWEN(k) (320 + 16 * (k))            /* 1 bit, a 0 locks */
+#define TARRAVANE_CLASS_CTRL(k) (321 + 16 * (k))              /* 14 bits: EN, LOCK, four line enables, four maps */
+#define TARRAVANE_CLASS_CLR_REGWEN(k) (322 + 16 * (k))        /* 1 bit, a 0 locks */
+#define TARRAVANE_CLASS_CLR(k) (323 + 16 * (k))               /* 1 bit, write only */
+#define TARRAVANE_CLASS_ACCUM_CNT(k) (324 + 16 * (k))         /* 16 bits, read only */
+#define TARRAVANE_CLASS_ACCUM_THRESH(k) (325 + 16 * (k))      /* 16 bits */
+#define TARRAVANE_CLASS_TIMEOUT_CYC(k) (326 + 16 * (k))       /* 32 bits */
+#define TARRAVANE_CLASS_PHASE_CYC(k, p) (327 + 16 * (k) + (p)) /* 32 bits */
+#define TARRAVANE_CLASS_ESC_CNT(k) (331 + 16 * (k))           /* 32 bits, read only */
+#define TARRAVANE_CLASS_STATE(k) (332 + 16 * (k))             /* 3 bits, read only */
+
+/* What STATE reads. */
+#define TARRAVANE_IDLE 0
+#define TARRAVANE_TIMEOUT 1
+#define TARRAVANE_TERMINAL 3
+#define TARRAVANE_PHASE(p) (4 + (p))
+
+/* ---- A word of a batch ---- */
+
+#define TARRAVANE_WORD_INTERRUPT(word, k) ((unsigned)((uint64_t)(word) >> (63 - (k)) & 1))
+#define TARRAVANE_WORD_LINE(word, e) ((unsigned)((uint64_t)(word) >> (59 - (e)) & 1))
+#define TARRAVANE_WORD_REFUSAL(word) ((unsigned)((uint64_t)(word) >> 52 & 15))
+#define TARRAVANE_WORD_VALUE(word) ((uint32_t)(word))
+
+/* ---- The functions ---- */
+
+/* Makes a handler for n alerts, 1 to 64: all REGWEN and CLR_REGWEN at 1, all CTRL at 0x393C, every other register at 0,
+ * classes Idle, alerts re-armed; answers 0.
+ * -6: n is 0 or over 64. It leaves a handler of no alerts, otherwise as new. */
+struct tarravane_made tarravane_new(size_t n);
+
+/* Runs one tick of the state h and gives the state after it, the answer to the access, and the outputs.
+ * The access: kind TARRAVANE_NONE (register and value are not looked at), TARRAVANE_READ (value is not looked at) or
+ * TARRAVANE_WRITE. The wires: bit 63 - i of pos and of neg is alert i's; bits of alerts at n and above count for nothing.
+ * -7: the state breaks its rule. State unchanged, tick not run, interrupts and lines 0.
+ * -5 (kind over 2), -1, -2, -4, -3, in this order: the access does nothing; the tick runs with its samples. */
+struct tarravane_answered tarravane_tick(struct tarravane_handler h, uint8_t kind, uint16_t register_number,
+                                         uint32_t value, uint64_t pos, uint64_t neg);
+
+/* Runs a tick for each record of 24 bytes, one after another from the state h, and writes a word for each at its place in
+ * out: bits 63 to 60 interrupts (class 0 first), 59 to 56 lines (line 0 first), 55 to 52 the refusal number or 0, then 20
+ * zeros and the 32 bits of the value that was read, or 0. Later words stay as they were. Gives the state after the last
+ * tick, and 0. A record that gets refusal 1 to 5 still takes its tick, and the batch goes on; its word says so.
+ * -7: the state breaks its rule. -8: length is not a multiple of 24. -9: words is less than length / 24. In this order;
+ * each leaves state and list unchanged.
+ * The caller owes: bytes points to length readable bytes, out to words writable words, aligned; they do not overlap;
+ * neither is null, also where its length is 0. */
+struct tarravane_batched tarravane_batch(struct tarravane_handler h, const uint8_t *bytes, size_t length, uint64_t *out,
+                                         size_t words);
+
+/* ---- The layout that the library has ---- */
+
+TARRAVANE_ASSERT(sizeof(size_t) == 8);
+TARRAVANE_ASSERT(sizeof(struct tarravane_class) == 36);
+TARRAVANE_ASSERT(offsetof(struct tarravane_class, lengths) == 0);
+TARRAVANE_ASSERT(offsetof(struct tarravane_class, timeout) == 16);
+TARRAVANE_ASSERT(offsetof(struct tarravane_class, count) == 20);
+TARRAVANE_ASSERT(offsetof(struct tarravane_class, ctrl) == 24);
+TARRAVANE_ASSERT(offsetof(struct tarravane_class, accum) == 26);
+TARRAVANE_ASSERT(offsetof(struct tarravane_class, thresh) == 28);
+TARRAVANE_ASSERT(offsetof(struct tarravane_class, regwen) == 30);
+TARRAVANE_ASSERT(offsetof(struct tarravane_class, clrwen) == 31);
+TARRAVANE_ASSERT(offsetof(struct tarravane_class, state) == 32);
+TARRAVANE_ASSERT(sizeof(struct tarravane_alerts) == 256);
+TARRAVANE_ASSERT(offsetof(struct tarravane_alerts, en) == 64);
+TARRAVANE_ASSERT(offsetof(struct tarravane_alerts, class_of) == 128);
+TARRAVANE_ASSERT(offsetof(struct tarravane_alerts, cause) == 192);
+TARRAVANE_ASSERT(sizeof(struct tarravane_locals) == 28);
+TARRAVANE_ASSERT(offsetof(struct tarravane_locals, en) == 7);
+TARRAVANE_ASSERT(offsetof(struct tarravane_locals, class_of) == 14);
+TARRAVANE_ASSERT(offsetof(struct tarravane_locals, cause) == 21);
+TARRAVANE_ASSERT(sizeof(struct tarravane_interrupts) == 2);
+TARRAVANE_ASSERT(offsetof(struct tarravane_interrupts, enable) == 1);
+TARRAVANE_ASSERT(sizeof(struct tarravane_handler) == 448);
+TARRAVANE_ASSERT(offsetof(struct tarravane_handler, n) == 0);
+TARRAVANE_ASSERT(offsetof(struct tarravane_handler, receivers) == 8);
+TARRAVANE_ASSERT(offsetof(struct tarravane_handler, classes) == 16);
+TARRAVANE_ASSERT(offsetof(struct tarravane_handler, alerts) == 160);
+TARRAVANE_ASSERT(offsetof(struct tarravane_handler, locals) == 416);
+TARRAVANE_ASSERT(offsetof(struct tarravane_handler, interrupts) == 444);
+TARRAVANE_ASSERT(sizeof(struct tarravane_output) == 2);
+TARRAVANE_ASSERT(offsetof(struct tarravane_output, lines) == 1);
+TARRAVANE_ASSERT(sizeof(struct tarravane_made) == 456);
+TARRAVANE_ASSERT(offsetof(struct tarravane_made, answer) == 448);
+TARRAVANE_ASSERT(sizeof(struct tarravane_answered) == 464);
+TARRAVANE_ASSERT(offsetof(struct tarravane_answered, answer) == 448);
+TARRAVANE_ASSERT(offsetof(struct tarravane_answered, output) == 456);
+TARRAVANE_ASSERT(sizeof(struct tarravane_batched) == 456);
+TARRAVANE_ASSERT(offsetof(struct tarravane_batched, answer) == 448);
+
+#ifdef __cplusplus
+}
+#endif
+
+#endif

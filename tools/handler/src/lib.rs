@@ -1,0 +1,72 @@
+//! The proved alert handler, for Rust. Every function here asks the proved library `boundary`; nothing is decided here.
+//!
+//! The promises stand in `include/tarravane.h` and are proved in `crates/boundary`.
+
+mod answer;
+mod library;
+mod state;
+mod word;
+
+pub use answer::{Answer, Refusal};
+pub use state::{
+    Alerts, Class, Handler, Interrupts, Locals, Output, Receivers, ALERTS, CLASSES, LOCALS, PHASES,
+};
+pub use word::Word;
+
+/// The bytes of a trace record.
+pub const RECORD: usize = 24;
+
+/// What goes in as the access of a tick.
+#[derive(Clone, Copy, Debug, PartialEq, Eq)]
+pub enum Access {
+    Nothing,
+    Read(u16),
+    Write(u16, u32),
+    /// what a malformed trace record holds: refusal 5
+    Malformed,
+}
+
+/// The wires of a tick: alert 0 at the highest bit.
+#[derive(Clone, Copy, Debug, PartialEq, Eq)]
+pub struct Wires {
+    pub pos: u64,
+    pub neg: u64,
+}
+
+/// What a tick gives.
+#[derive(Clone, Copy, Debug, PartialEq, Eq)]
+pub struct Ticked {
+    pub handler: Handler,
+    pub answer: Answer,
+    pub output: Output,
+}
+
+impl Handler {
+    /// A handler for `n` alerts, 1 to 64. Refusal 6 leaves a handler of no alerts, otherwise as new.
+    pub fn new(n: usize) -> (Handler, Answer) {
+        let made = library::new(n);
+        (made.handler, Answer(made.answer))
+    }
+
+    /// One tick. Refusal 7: state unchanged, tick not run, no outputs. Refusals 1 to 5: the access does nothing, the tick runs.
+    pub fn tick(self, access: Access, wires: Wires) -> Ticked {
+        let (kind, register, value) = match access {
+            Access::Nothing => (0, 0, 0),
+            Access::Read(register) => (1, register, 0),
+            Access::Write(register, value) => (2, register, value),
+            Access::Malformed => (3, 0, 0),
+        };
+        let given = library::tick(self, kind, register, value, wires.pos, wires.neg);
+        Ticked {
+            handler: given.handler,
+            answer: Answer(given.answer),
+            output: given.output,
+        }
+    }
+
+    /// A tick for each record of 24 bytes, a word for each. Refusals 7, 8 and 9 leave state and list unchanged.
+    pub fn batch(self, bytes: &[u8], out: &mut [Word]) -> (Handler, Answer) {
+        let given = library::batch(self, bytes, out);
+        (given.handler, Answer(given.answer))
+    }
+}
