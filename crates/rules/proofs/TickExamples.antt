@@ -6,7 +6,6 @@ use mathlib.Core.List.{List, [], _∷_, _++_, map}
 use lib.ListN.{replicate}
 use Rattle.rules.specs.Access.{value}
 use Rattle.rules.specs.Run.{run, ticks}
-use Rattle.classes.specs.declared.Class.{Class}
 use Rattle.rules.specs.State.{newHandler, classAt, resetClass, withInterrupts, withClasses}
 use Rattle.rules.specs.Tick.{ticked, interrupts, lines}
 use Rattle.rules.specs.declared.Access.{Access}
@@ -104,20 +103,26 @@ in-phase : (state started (rest (write (Block Ctrl 0) 0) ∷ rest none ∷ []) �
 unfolding rules
 in-phase = (refl, refl)
 
--- P7: lengths 0, 10, 10, 5, start in tick 100: phases start at 100, 101, 111, 121; Terminal at 126
--- what register q of class 0 holds after each tick from 100 on: alert 0 rises in tick 100
-abbrev from100 : Handler → (Class → ℕ) → ℕ → List ℕ
-from100 h q count = map (λ (t : Ticked). q (classAt (t .handler) 0)) (ticks h (raise 0 none ∷ replicate count (rest none)))
+-- "Phase p .. to the next phase, count 1 (after Phase 3 Terminal, count 0); else add 1": STATE and ESC_CNT after each tick from the start on
+abbrev places : Handler → ℕ → List (List ℕ)
+places h count =
+    map (λ (t : Ticked). classAt (t .handler) 0 .state ∷ classAt (t .handler) 0 .count ∷ []) (ticks h (raise 0 none ∷ replicate count (rest none)))
 
-phases : (from100 (lengths 0 10 10 5) (λ c. c .state) 27 ≡ 4 ∷ replicate 10 5 ++ replicate 10 6 ++ replicate 5 7 ++ replicate 2 3)
-    × (from100 (lengths 3 0 2 5) (λ c. c .state) 12 ≡ replicate 3 4 ++ 5 ∷ replicate 2 6 ++ replicate 5 7 ++ replicate 2 3)
+phases : places (lengths 3 0 2 5) 12
+    ≡ (4 ∷ 1 ∷ [])
+    ∷ (4 ∷ 2 ∷ [])
+    ∷ (4 ∷ 3 ∷ [])
+    ∷ (5 ∷ 1 ∷ [])
+    ∷ (6 ∷ 1 ∷ [])
+    ∷ (6 ∷ 2 ∷ [])
+    ∷ (7 ∷ 1 ∷ [])
+    ∷ (7 ∷ 2 ∷ [])
+    ∷ (7 ∷ 3 ∷ [])
+    ∷ (7 ∷ 4 ∷ [])
+    ∷ (7 ∷ 5 ∷ [])
+    ∷ replicate 2 (3 ∷ 0 ∷ [])
 unfolding rules
-phases = (refl, refl)
-
--- ESC_CNT counts each phase's ticks from 1, and is 0 in Terminal
-counts : from100 (lengths 3 0 2 5) (λ c. c .count) 11 ≡ 1 ∷ 2 ∷ 3 ∷ 1 ∷ 1 ∷ 2 ∷ 1 ∷ 2 ∷ 3 ∷ 4 ∷ 5 ∷ 0 ∷ []
-unfolding rules
-counts = refl
+phases = refl
 
 -- step 5: "interrupts are INTR_STATE and INTR_ENABLE, bit by bit"; "a line is on if any class drives it"
 outputs : (interrupts (withInterrupts (record { state = 12; enable = 10 }) (newHandler 1)) ≡ 8)
