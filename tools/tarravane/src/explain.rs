@@ -1,0 +1,146 @@
+//! `explain`: a row for each tick of a trace, record by record, so that memory stays bounded.
+use crate::args::Explain;
+use crate::progress::Progress;
+use crate::row::{changes, row, Tick, HEADER};
+use handler::{Handler, Word, RECORD};
+use std::fs::File;
+use std::io::{stdin, stdout, BufReader, BufWriter, ErrorKind, Read, Write};
+
+/// The trace, and how many ticks it has where that is known.
+fn opened(trace: &str) -> Result<(Box<dyn Read>, Option<u64>), String> {
+    if trace == "-" {
+        return Ok((Box::new(stdin()), None));
+    }
+    let file = File::open(trace).map_err(|e| format!("cannot open {trace}: {e}"))?;
+    let length = file
+        .metadata()
+        .ok()
+        .filter(|m| m.is_file())
+        .map(|m| m.len());
+    Ok((
+        Box::new(file),
+        length.map(|bytes| bytes.saturating_sub(1) / RECORD as u64),
+    ))
+}
+
+/// Fills as much of the buffer as the trace has bytes left.
+fn filled(from: &mut impl Read, buffer: &mut [u8], trace: &str) -> Result<usize, String> {
+    let mut have = 0;
+    while have < buffer.len() {
+        match from.read(&mut buffer[have..]) {
+            Ok(0) => break,
+            Ok(more) => have += more,
+            Err(e) if e.kind() == ErrorKind::Interrupted => {}
+            Err(e) => return Err(format!("cannot read {trace}: {e}")),
+        }
+    }
+    Ok(have)
+}
+
+/// The handler that the first byte asks for.
+fn made(from: &mut impl Read, trace: &str) -> Result<Handler, String> {
+    let mut n = [0];
+    if filled(from, &mut n, trace)? == 0 {
+        return Err(format!(
+            "{trace} is empty: a trace begins with the number of alerts"
+        ));
+    }
+    let (handler, answer) = Handler::new(usize::from(n[0]));
+    match answer.value() {
+        Ok(_) => Ok(handler),
+        Err(_) => Err(format!(
+            "{trace} asks for {} alerts: a handler is made for 1 to 64",
+            n[0]
+        )),
+    }
+}
+
+/// The state and the word after one record.
+fn ticked(h: Handler, record: &[u8; RECORD]) -> Result<(Handler, Word), String> {
+    let mut words = [Word::default()];
+    let (after, answer) = h.batch(record, &mut words);
+    match answer.value() {
+        Ok(_) => Ok((after, words[0])),
+        Err(refusal) => Err(format!("the library refused a record by {}", refusal.0)),
+    }
+}
+
+/// Writes a line; false where nobody reads on.
+fn said(out: &mut impl Write, line: &str) -> Result<bool, String> {
+    match writeln!(out, "{line}") {
+        Ok(()) => Ok(true),
+        Err(e) if e.kind() == ErrorKind::BrokenPipe => Ok(false),
+        Err(e) => Err(format!("cannot write: {e}")),
+    }
+}
+
+/// Is this tick asked for?
+fn wanted(asked: &Explain, tick: &Tick, last: Word) -> bool {
+    tick.number >= asked.from && (!asked.only_changes || changes(tick, last))
+}
+
+/// The end of the trace: bytes that are left over make it a cut one.
+fn ended(out: &mut impl Write, left: usize, number: u64) -> Result<(), String> {
+    if left > 0 {
+        said(
+            out,
+            &format!("cut: the last {left} bytes, after tick {number}, make no whole record"),
+        )?;
+    }
+    Ok(())
+}
+
+fn rows(
+    asked: &Explain,
+    from: &mut impl Read,
+    out: &mut impl Write,
+    progress: &mut Progress,
+) -> Result<(), String> {
+    let mut h = made(from, &asked.trace)?;
+    let mut last = Word::default();
+    let mut record = [0; RECORD];
+    let title = format!(
+        "alerts: {}; a class: its state, then ESC_CNT/ACCUM_CNT\n{HEADER}",
+        h.n
+    );
+    let mut heard = said(out, &title)?;
+    let mut number = 0;
+    while heard && number < asked.to {
+        let have = filled(from, &mut record, &asked.trace)?;
+        if have < RECORD {
+            return ended(out, have, number);
+        }
+        number += 1;
+        let (after, word) = ticked(h, &record)?;
+        let tick = Tick {
+            number,
+            record: &record,
+            before: &h,
+            after: &after,
+            word,
+        };
+        if wanted(asked, &tick, last) {
+            progress.clear();
+            heard = said(out, &row(&tick))?;
+        }
+        if progress.is_due(number) {
+            heard = out.flush().is_ok();
+            progress.say(number);
+        }
+        (h, last) = (after, word);
+    }
+    Ok(())
+}
+
+pub fn explain(asked: &Explain) -> Result<(), String> {
+    let (from, ticks) = opened(&asked.trace)?;
+    let mut from = BufReader::with_capacity(4096 * RECORD, from);
+    let mut out = BufWriter::new(stdout().lock());
+    let mut progress = Progress::new(ticks);
+    let done = rows(asked, &mut from, &mut out, &mut progress);
+    progress.clear();
+    match out.flush() {
+        Err(e) if e.kind() != ErrorKind::BrokenPipe => done.and(Err(format!("cannot write: {e}"))),
+        _ => done,
+    }
+}

@@ -1,0 +1,243 @@
+//! The row of a tick.
+use crate::names;
+use handler::{Class, Handler, Word, RECORD};
+
+/// No row is wider.
+pub const WIDTH: usize = 120;
+
+pub const HEADER: &str =
+    "  tick access                          answer               intr line A        B        C        D        causes set";
+
+/// In columns, else squeezed, else with short words and counts: the first that fits.
+#[derive(Clone, Copy, PartialEq, Eq)]
+enum Form {
+    Columns,
+    Squeezed,
+    Short,
+}
+
+/// What a row tells of.
+pub struct Tick<'a> {
+    pub number: u64,
+    pub record: &'a [u8; RECORD],
+    pub before: &'a Handler,
+    pub after: &'a Handler,
+    pub word: Word,
+}
+
+/// The first 8 bytes of a record, as they are written, for reading only: the library judges them.
+struct Written {
+    kind: u8,
+    register: u16,
+    value: u32,
+}
+
+fn written(record: &[u8; RECORD]) -> Written {
+    let first = record[..8]
+        .iter()
+        .fold(0, |all: u64, byte| all << 8 | u64::from(*byte));
+    Written {
+        kind: (first >> 62) as u8,
+        register: (first >> 52 & 1023) as u16,
+        value: first as u32,
+    }
+}
+
+fn access(x: &Written, form: Form) -> String {
+    let name = names::register(x.register);
+    let (read, write) = if form == Form::Short {
+        ("r", "w")
+    } else {
+        ("read", "write")
+    };
+    match x.kind {
+        0 => "none".to_string(),
+        1 => format!("{read} {name}"),
+        2 => format!("{write} {name} {}", names::written(x.register, x.value)),
+        _ => "kind 3".to_string(),
+    }
+}
+
+fn answer(x: &Written, word: Word, form: Form) -> String {
+    match word.refusal() {
+        Some(refusal) if form == Form::Short => names::refusal(refusal, x.kind == 1).to_string(),
+        Some(refusal) => format!("refused: {}", names::refusal(refusal, x.kind == 1)),
+        None if x.kind == 1 => names::read(x.register, word.value()),
+        None if x.kind == 2 => "done".to_string(),
+        None => "-".to_string(),
+    }
+}
+
+fn flags(names: [char; 4], on: impl Fn(usize) -> bool) -> String {
+    (0..4).map(|b| if on(b) { names[b] } else { '-' }).collect()
+}
+
+/// A count in at most four columns.
+fn short(count: u32) -> String {
+    match count {
+        0..=9_999 => count.to_string(),
+        10_000..=999_999 => format!("{}k", count / 1_000),
+        1_000_000..=999_999_999 => format!("{}M", count / 1_000_000),
+        _ => format!("{}G", count / 1_000_000_000),
+    }
+}
+
+fn class(c: &Class, form: Form) -> String {
+    let (state, count): (_, fn(u32) -> String) = match form {
+        Form::Short => (names::short_state(c.state), short),
+        _ => (names::state(c.state), |count| count.to_string()),
+    };
+    match (c.count, u32::from(c.accum)) {
+        (0, 0) => state.to_string(),
+        (esc, accum) => format!("{state} {}/{}", count(esc), count(accum)),
+    }
+}
+
+/// Names with the numbers that are newly 1, each as it is written after the one before: ` ALERT0`, `,5`.
+fn newly(name: &str, before: &[u8], after: &[u8]) -> Vec<String> {
+    let mut all = Vec::new();
+    for i in (0..after.len()).filter(|&i| before[i] == 0 && after[i] == 1) {
+        let start = if all.is_empty() {
+            format!(" {name}")
+        } else {
+            ",".to_string()
+        };
+        all.push(format!("{start}{i}"));
+    }
+    all
+}
+
+/// The causes that were 0 before the tick and are 1 after it.
+fn causes(before: &Handler, after: &Handler) -> Vec<String> {
+    let mut all = newly("ALERT", &before.alerts.cause, &after.alerts.cause);
+    all.extend(newly(
+        "LOC_ALERT",
+        &before.locals.cause,
+        &after.locals.cause,
+    ));
+    all
+}
+
+/// As many causes as there is room for, and how many more there are.
+fn fitted(causes: &[String], room: usize) -> String {
+    let mut text = String::new();
+    for (i, cause) in causes.iter().enumerate() {
+        let left = causes.len() - i;
+        let more = if left > 1 { " +00".len() } else { 0 };
+        if text.len() + cause.len() + more > room {
+            return format!("{text} +{left}");
+        }
+        text += cause;
+    }
+    text
+}
+
+fn columns(t: &Tick, form: Form) -> String {
+    let x = written(t.record);
+    let intr = flags(names::CLASSES, |k| t.word.interrupt(k));
+    let line = flags(['0', '1', '2', '3'], |e| t.word.line(e));
+    let [a, b, c, d] = [0, 1, 2, 3].map(|k| class(&t.after.classes[k], form));
+    let (number, access, answer) = (t.number, access(&x, form), answer(&x, t.word, form));
+    match form {
+        Form::Columns => {
+            format!(
+                "{number:>6} {access:<31} {answer:<20} {intr} {line} {a:<8} {b:<8} {c:<8} {d:<8}"
+            )
+        }
+        _ => format!("{number:>6} {access}: {answer} {intr} {line} {a} {b} {c} {d}"),
+    }
+}
+
+/// The row in the first form that has room for it; in short form causes may be left out, and are then counted.
+pub fn row(t: &Tick) -> String {
+    let causes = causes(t.before, t.after);
+    for form in [Form::Columns, Form::Squeezed] {
+        let row = columns(t, form) + &causes.concat();
+        if row.trim_end().len() <= WIDTH {
+            return row.trim_end().to_string();
+        }
+    }
+    let short = columns(t, Form::Short);
+    let room = WIDTH.saturating_sub(short.len());
+    short + &fitted(&causes, room)
+}
+
+/// Did an interrupt, a line, a class's state, its ACCUM_CNT or a cause change?
+pub fn changes(t: &Tick, last: Word) -> bool {
+    let outputs = |w: Word| w.0 >> 56;
+    let places = |h: &Handler| h.classes.map(|c| (c.state, c.accum));
+    outputs(t.word) != outputs(last)
+        || places(t.before) != places(t.after)
+        || t.before.alerts.cause != t.after.alerts.cause
+        || t.before.locals.cause != t.after.locals.cause
+}
+
+#[cfg(test)]
+mod tests {
+    use super::*;
+
+    /// A state as wide as any: all classes counting, every cause set.
+    fn widest(before: Handler) -> Handler {
+        let mut after = before;
+        after.alerts.cause = [1; 64];
+        after.locals.cause = [1; 7];
+        for c in &mut after.classes {
+            (c.state, c.count, c.accum) = (1, 999_999, 9_999);
+        }
+        after
+    }
+
+    /// A state whose registers are all locked.
+    fn locked(mut h: Handler) -> Handler {
+        h.alerts.regwen = [0; 64];
+        h.locals.regwen = [0; 7];
+        for c in &mut h.classes {
+            (c.regwen, c.clrwen) = (0, 0);
+        }
+        h
+    }
+
+    #[test]
+    fn the_widest_row_fits() {
+        let open = Handler::new(64).0;
+        for (before, first) in [open, locked(open)]
+            .into_iter()
+            .flat_map(|h| (0..4096u64).map(move |f| (h, f)))
+        {
+            let mut record = [0; RECORD];
+            record[..8].copy_from_slice(&(first << 52 | u64::from(u32::MAX)).to_be_bytes());
+            let mut words = [Word::default()];
+            before.batch(&record, &mut words);
+            let word = Word(words[0].0 | 0xFF << 56 | u64::from(u32::MAX));
+            for number in [1, 9_999_999_999] {
+                let text = row(&Tick {
+                    number,
+                    record: &record,
+                    before: &before,
+                    after: &widest(before),
+                    word,
+                });
+                assert!(text.len() <= WIDTH, "{} columns: {text}", text.len());
+            }
+        }
+    }
+
+    #[test]
+    fn counts_are_short_in_four_columns() {
+        for (count, text) in [
+            (0, "0"),
+            (9_999, "9999"),
+            (10_000, "10k"),
+            (999_999, "999k"),
+            (1_000_000, "1M"),
+            (u32::MAX, "4G"),
+        ] {
+            assert_eq!(short(count), text);
+        }
+    }
+
+    #[test]
+    fn the_header_fits() {
+        assert!(HEADER.len() <= WIDTH);
+    }
+}
