@@ -190,7 +190,7 @@ pub fn step(scene: &mut Scene, values: &Values, weights: &Weights) {
 }
 
 /// Values on both sides of every width.
-const WRITTEN: [u32; 14] = [
+pub const WRITTEN: [u32; 14] = [
     0,
     1,
     1,

@@ -1,10 +1,12 @@
 //! The command line of the harness.
 
+use harness::bench::{time, LOADS, RECORDS, TITLE};
 use harness::compare::{
     compare, compare_all, damage, generated, Case, Difference, DEFAULT_SEED, DEFAULT_TRACES,
 };
 use harness::coverage::Coverage;
 use harness::generate::Kind;
+use harness::states::{try_all, Summary, DEFAULT_STATES, PROVED};
 use std::io::{self, Write};
 use std::path::{Path, PathBuf};
 use std::process::ExitCode;
@@ -17,6 +19,8 @@ const USAGE: &str = "usage:
   harness fuzz REPLAY SECONDS [--seed S]         fresh seeds until the time is over
   harness repeat REPLAY KIND SEED [--records R]  one trace, or its first R records
   harness trace KIND SEED [--records R]          the bytes of a trace
+  harness states [--states N] [--seed S]         damaged states through the proved library
+  harness bench                                  times of proved library and reference
 REPLAY is the program to compare with the reference.
 Exit status: 0 equal, 1 different, 2 bad usage or no such program.";
 
@@ -40,9 +44,13 @@ fn command(mut words: Vec<String>) -> Result<bool, Trouble> {
     let traces = option(&mut words, "--traces")?;
     let seed = option(&mut words, "--seed")?;
     let records = option(&mut words, "--records")?;
+    let states = option(&mut words, "--states")?;
     let words: Vec<&str> = words.iter().map(String::as_str).collect();
     let first = seed.unwrap_or(DEFAULT_SEED);
     match (words.as_slice(), traces, seed, records) {
+        (["states"], None, _, None) => damaged_states(first, states.unwrap_or(DEFAULT_STATES)),
+        _ if states.is_some() => Err("--states is for states".to_string()),
+        (["bench"], None, None, None) => Ok(bench()),
         (["diff", path], _, _, None) => set(path, generated(first), traces),
         (["damage", path], _, _, None) => set(path, damage(first), traces),
         (["fuzz", path, seconds], None, _, None) => fuzz(path, number(seconds)?, seed),
@@ -138,6 +146,39 @@ fn repeat(path: &str, case: Case) -> Result<bool, Trouble> {
 fn print_trace(case: Case) -> Result<bool, Trouble> {
     io::stdout().write_all(&case.bytes()).map_err(trouble)?;
     Ok(true)
+}
+
+/// Tries damaged states and prints how many were refused.
+fn damaged_states(seed: u64, states: u64) -> Result<bool, Trouble> {
+    let begin = Instant::now();
+    let mut summary = Summary::default();
+    let found = try_all(&PROVED, seed, states, &mut summary);
+    println!("{summary}");
+    println!("time {:.1} seconds", begin.elapsed().as_secs_f64());
+    let Some(found) = found else {
+        println!("EQUAL");
+        return Ok(true);
+    };
+    println!("{found}");
+    let own = std::env::args().next().unwrap_or_default();
+    println!("repeat: {own} states --states 1 --seed {}", found.seed);
+    Ok(false)
+}
+
+/// Prints the times of every load; says whether all words were equal.
+fn bench() -> bool {
+    if cfg!(debug_assertions) {
+        println!("the reference is not built for release: its times say nothing");
+    }
+    println!("{TITLE}");
+    let mut equal = true;
+    for (load, name) in LOADS {
+        let timed = time(load, name, RECORDS);
+        println!("{timed}");
+        equal &= timed.equal;
+    }
+    println!("{}", if equal { "EQUAL" } else { "DIFFERENT" });
+    equal
 }
 
 /// Prints the outcome; says whether all was equal.

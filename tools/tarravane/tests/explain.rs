@@ -65,7 +65,7 @@ fn numbers(rows: &[String]) -> Vec<u64> {
 #[test]
 fn the_broken_seal_is_told_tick_by_tick() {
     let rows = rows(&[&example("broken-seal.trace")], &[]);
-    assert_eq!(numbers(&rows), (1..=25).collect::<Vec<u64>>());
+    assert_eq!(numbers(&rows), (1..=26).collect::<Vec<u64>>());
     let has = |tick: usize, words: &[&str]| {
         words
             .iter()
@@ -79,6 +79,7 @@ fn the_broken_seal_is_told_tick_by_tick() {
     has(15, &["write CLASSA_CLR 1", "refused: locked", "Ph0 3/3"]);
     has(16, &["read CLASSA_STATE", "4 Ph0", "---- -1--", "Ph1 1/3"]);
     has(25, &["7 Ph3", "---- ----", "Term 0/3"]);
+    has(26, &["3 Term", "---- ----"]);
 }
 
 #[test]
@@ -103,9 +104,9 @@ fn a_range_of_ticks() {
         numbers(&rows(&["--from", "13", "--to", "15", &seal], &[])),
         [13, 14, 15]
     );
-    assert_eq!(numbers(&rows(&[&seal, "--from", "24"], &[])), [24, 25]);
+    assert_eq!(numbers(&rows(&[&seal, "--from", "25"], &[])), [25, 26]);
     assert_eq!(numbers(&rows(&[&seal, "--to", "1"], &[])), [1]);
-    assert!(rows(&[&seal, "--from", "26"], &[]).is_empty());
+    assert!(rows(&[&seal, "--from", "27"], &[]).is_empty());
 }
 
 #[test]

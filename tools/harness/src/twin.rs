@@ -1,0 +1,97 @@
+//! The same state and access on both sides. Each struct is written out whole,
+//! so that no field can be forgotten.
+
+use handler::{Access, Alerts, Class, Handler, Interrupts, Locals, Receivers};
+use reference::Source;
+use std::array::from_fn;
+
+/// The reference's state with the same registers.
+pub fn reference_of(state: &Handler) -> reference::Handler {
+    let (locals, alerts) = (&state.locals, &state.alerts);
+    reference::Handler {
+        n: state.n as u64,
+        intr_state: state.interrupts.state,
+        intr_enable: state.interrupts.enable,
+        locals: from_fn(|j| Source {
+            regwen: locals.regwen[j],
+            en: locals.en[j],
+            class: locals.class[j],
+            cause: locals.cause[j],
+        }),
+        alerts: from_fn(|i| Source {
+            regwen: alerts.regwen[i],
+            en: alerts.en[i],
+            class: alerts.class[i],
+            cause: alerts.cause[i],
+        }),
+        armed: from_fn(|i| (state.receivers.armed[0] >> (63 - i)) & 1 == 1),
+        classes: from_fn(|k| reference_class(&state.classes[k])),
+    }
+}
+
+fn reference_class(class: &Class) -> reference::Class {
+    reference::Class {
+        regwen: class.regwen,
+        ctrl: class.ctrl,
+        clr_regwen: class.clrwen,
+        accum_cnt: class.accum,
+        accum_thresh: class.thresh,
+        timeout_cyc: class.timeout,
+        phase_cyc: class.lengths,
+        esc_cnt: class.count,
+        state: class.state,
+    }
+}
+
+/// The library's state with the same registers.
+pub fn handler_of(state: &reference::Handler) -> Handler {
+    let (locals, alerts) = (&state.locals, &state.alerts);
+    let armed = state.armed.iter();
+    Handler {
+        n: state.n as usize,
+        receivers: Receivers {
+            armed: [armed.fold(0, |word, bit| (word << 1) | u64::from(*bit))],
+        },
+        classes: from_fn(|k| handler_class(&state.classes[k])),
+        alerts: Alerts {
+            regwen: from_fn(|i| alerts[i].regwen),
+            en: from_fn(|i| alerts[i].en),
+            class: from_fn(|i| alerts[i].class),
+            cause: from_fn(|i| alerts[i].cause),
+        },
+        locals: Locals {
+            regwen: from_fn(|j| locals[j].regwen),
+            en: from_fn(|j| locals[j].en),
+            class: from_fn(|j| locals[j].class),
+            cause: from_fn(|j| locals[j].cause),
+        },
+        interrupts: Interrupts {
+            state: state.intr_state,
+            enable: state.intr_enable,
+        },
+    }
+}
+
+fn handler_class(class: &reference::Class) -> Class {
+    Class {
+        lengths: class.phase_cyc,
+        timeout: class.timeout_cyc,
+        count: class.esc_cnt,
+        ctrl: class.ctrl,
+        accum: class.accum_cnt,
+        thresh: class.accum_thresh,
+        regwen: class.regwen,
+        clrwen: class.clr_regwen,
+        state: class.state,
+    }
+}
+
+/// The reference's access.
+pub fn reference_access(access: Access) -> reference::Access {
+    match access {
+        Access::Nothing => reference::Access::None,
+        Access::Read(register) => reference::Access::Read { register },
+        Access::Write(register, value) => reference::Access::Write { register, value },
+        Access::Malformed => reference::Access::Malformed,
+    }
+}
