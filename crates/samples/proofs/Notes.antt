@@ -30,8 +30,8 @@ module _ (f : ℕ → Bool) (class before : List ℕ) (size : ℕ) where
 
   module _ (i : ℕ) (cause : List ℕ) (hits : ℕ) (s : Noted f class before size i cause hits) where
     -- what stands in the causes so far
-    long : length cause ≡ size
-    long = ap length (s .causes) ∙ length-each size (λ j. marked (ltb j i && f j) (getD before j 0))
+    pub noted-long : length cause ≡ size
+    noted-long = ap length (s .causes) ∙ length-each size (λ j. marked (ltb j i && f j) (getD before j 0))
 
     was : (j : ℕ) → j < size → getD cause j 0 ≡ marked (ltb j i && f j) (getD before j 0)
     was j h = ap (λ (xs : List ℕ). getD xs j 0) (s .causes) ∙ at-each size (λ j. marked (ltb j i && f j) (getD before j 0)) j 0 h
@@ -46,7 +46,7 @@ module _ (f : ℕ → Bool) (class before : List ℕ) (size : ℕ) where
     -- and once alert i has had its turn
     cause-step : (j : ℕ) → i < size → j < size → Dec (j ≡ i) → getD (set cause i (marked (f i) (getD cause i 0))) j 0 ≡ marked (ltb j (suc i) && f j) (getD before j 0)
     cause-step j g h (yes d) =
-        let k : i < length cause = omega (arith, long) in
+        let k : i < length cause = omega (arith, noted-long) in
         rw (d, lt-ltb i (suc i) (omega arith))
         (getD-set-same cause i (marked (f i) (getD cause i 0)) 0 k ∙ ap (marked (f i)) (was i g ∙ ap (λ (t : Bool). marked (t && f i) (getD before i 0)) (le-ltb i i (omega arith))))
     cause-step j g h (no d) =
@@ -59,7 +59,7 @@ module _ (f : ℕ → Bool) (class before : List ℕ) (size : ℕ) where
         record {
           causes =
               is-each size (set cause i (marked (f i) (getD cause i 0))) (λ j. marked (ltb j (suc i) && f j) (getD before j 0)) 0
-              (length-set cause i (marked (f i) (getD cause i 0)) ∙ long) (λ j h. cause-step j g h (ℕ-discrete j i));
+              (length-set cause i (marked (f i) (getD cause i 0)) ∙ noted-long) (λ j h. cause-step j g h (ℕ-discrete j i));
           classes =
               ap (λ (x : ℕ). bitOr x (bitsOf 4 (λ k. f i && eqb (getD class i 0) k))) (s .classes)
               ∙ or-bitsOf 4 (λ k. anyTo (λ j. f j && eqb (getD class j 0) k) i) (λ k. f i && eqb (getD class i 0) k);

@@ -42,7 +42,7 @@ pub fn gather(
         let on = en[i] == 1;
         let event = place_in(events, i) & on;
         hits = hits | note::class_bit(class[i], event);
-        cause[i] = note::cause_after(event, cause[i]);
+        note::mark(&mut cause, i, event);
         broken = broken | (place_in(equal, i) & on);
     }
     Gathered {

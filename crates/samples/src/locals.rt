@@ -35,7 +35,7 @@ pub fn occur(raised: u8, en: &[u8; 7], class: &[u8; 7], before: [u8; 7]) -> Occu
     for j in 0..7 {
         let on = ((raised >> j) % 2 == 1) & (en[j] == 1);
         hits = hits | note::class_bit(class[j], on);
-        cause[j] = note::cause_after(on, cause[j]);
+        note::mark(&mut cause, j, on);
     }
     Occurred {
         cause: cause,

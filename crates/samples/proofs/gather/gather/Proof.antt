@@ -1,7 +1,8 @@
 -- `gather::gather` meets its contract. The invariant: the alerts below i are noted.
 -- Assumes nothing.
 use Prim.Native.Nat.{_-_, _≤_}
-use mathlib.Core.Path.{_≡_, refl}
+use mathlib.Core.Path.{_≡_, refl, sym}
+use lib.ListN.{length}
 use native.Mathlib.Numerals.{add-one}
 use native.Mathlib.Omega.{arith}
 use borrow.Author.Needs.{needs}
@@ -9,7 +10,7 @@ use Rattle.bits.specs.Index.{anyTo}
 use Rattle.rules.specs.State.{most}
 use Rattle.samples.specs.Noted.{Noted}
 use Rattle.samples.specs.Gathered.{amongWords}
-use Rattle.samples.proofs.Notes.{noted-start, noted-step}
+use Rattle.samples.proofs.Notes.{noted-start, noted-long, noted-step}
 use Rattle.samples.proofs.gather.gather.Statement.{statement}
 use Rattle.samples.proofs.gather.gather.Tie as tie
 
@@ -36,14 +37,15 @@ element-copy-out-class-bit c = search needs
 class-bit-requires : tie.Need-class-bit-requires Inv-loop μ-loop
 class-bit-requires c κs = search needs
 
-array-read-cause-after : tie.Need-array-read-cause-after Inv-loop μ-loop
-array-read-cause-after c = search needs
+slice-aggregate-mark : tie.Need-slice-aggregate-mark Inv-loop μ-loop
+slice-aggregate-mark c =
+    let l = c .before .before .before .before .before .before .loop in
+    let e : length (l .cause) ≡ most = noted-long _ _ _ _ _ _ _ (l .inv .1) in sym e
 
-cause-after-requires : tie.Need-cause-after-requires Inv-loop μ-loop
-cause-after-requires c κs = search needs
-
-array-write-cause : tie.Need-array-write-cause Inv-loop μ-loop
-array-write-cause c = search needs
+mark-requires : tie.Need-mark-requires Inv-loop μ-loop
+mark-requires c κs =
+    let l = c .before .before .before .before .before .before .loop in
+    let e : length (l .cause) ≡ most = noted-long _ _ _ _ _ _ _ (l .inv .1) in omega (arith, e, l .inv .0)
 
 place-in-requires-2 : tie.Need-place-in-requires-2 Inv-loop μ-loop
 place-in-requires-2 c κs = search needs
@@ -57,10 +59,10 @@ loop-less c = search needs
 loop-again : tie.Need-loop-again Inv-loop μ-loop
 unfolding anyTo
 loop-again c =
-    let l = c .before .before .before .before .before .before .before .loop in
-    let event = c .before .before .before .before .place-in in (
+    let l = c .before .before .before .before .before .before .before .before .before .loop in
+    let event = c .before .before .before .before .before .before .place-in in (
       search needs,
-      rw (add-one, c .before .before .class-bit .ensures, c .before .cause-after .ensures, event .ensures) (noted-step _ _ _ _ _ _ _ (l .inv .1) (search needs)),
+      rw (add-one, c .before .before .before .before .class-bit .ensures, c .before .before .mark .ensures, event .ensures) (noted-step _ _ _ _ _ _ _ (l .inv .1) (search needs)),
       rw (add-one, l .inv .2, c .place-in2 .ensures),
     )
 
@@ -81,9 +83,8 @@ gather-spec =
     place-in-requires
     element-copy-out-class-bit
     class-bit-requires
-    array-read-cause-after
-    cause-after-requires
-    array-write-cause
+    slice-aggregate-mark
+    mark-requires
     place-in-requires-2
     add-i
     loop-less

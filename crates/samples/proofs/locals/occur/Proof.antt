@@ -1,7 +1,8 @@
 -- `locals::occur` meets its contract. The invariant: the local alerts below j are noted.
 -- Assumes nothing.
 use Prim.Native.Nat.{_-_, _≤_}
-use mathlib.Core.Path.{_≡_}
+use mathlib.Core.Path.{_≡_, sym}
+use lib.ListN.{length}
 use native.Mathlib.Numerals.{add-one}
 use native.Mathlib.Omega.{arith}
 use borrow.Author.Needs.{needs}
@@ -9,7 +10,7 @@ use Rattle.bits.specs.Bits.{bit}
 use Rattle.rules.specs.State.{localCount}
 use Rattle.samples.specs.Noted.{Noted}
 use Rattle.samples.specs.Occurred.{amongBits}
-use Rattle.samples.proofs.Notes.{noted-start, noted-step}
+use Rattle.samples.proofs.Notes.{noted-start, noted-long, noted-step}
 use Rattle.samples.proofs.locals.occur.Statement.{statement}
 use Rattle.samples.proofs.locals.occur.Tie as tie
 
@@ -38,14 +39,15 @@ element-copy-out-class-bit c = search needs
 class-bit-requires : tie.Need-class-bit-requires Inv-loop μ-loop
 class-bit-requires c κs = search needs
 
-array-read-cause-after : tie.Need-array-read-cause-after Inv-loop μ-loop
-array-read-cause-after c = search needs
+slice-aggregate-mark : tie.Need-slice-aggregate-mark Inv-loop μ-loop
+slice-aggregate-mark c =
+    let l = c .before .before .before .before .before .loop in
+    let e : length (l .cause) ≡ localCount = noted-long _ _ _ _ _ _ _ (l .inv .1) in sym e
 
-cause-after-requires : tie.Need-cause-after-requires Inv-loop μ-loop
-cause-after-requires c κs = search needs
-
-array-write-cause : tie.Need-array-write-cause Inv-loop μ-loop
-array-write-cause c = search needs
+mark-requires : tie.Need-mark-requires Inv-loop μ-loop
+mark-requires c κs =
+    let l = c .before .before .before .before .before .loop in
+    let e : length (l .cause) ≡ localCount = noted-long _ _ _ _ _ _ _ (l .inv .1) in omega (arith, e, l .inv .0)
 
 add-j : tie.Need-add-j Inv-loop μ-loop
 add-j c = search needs
@@ -56,8 +58,8 @@ loop-less c = search needs
 loop-again : tie.Need-loop-again Inv-loop μ-loop
 unfolding bit
 loop-again c =
-    let l = c .before .before .before .before .before .loop in
-    (search needs, rw (add-one, c .before .class-bit .ensures, c .cause-after .ensures) (noted-step _ _ _ _ _ _ _ (l .inv .1) (search needs)))
+    let l = c .before .before .before .before .before .before .before .loop in
+    (search needs, rw (add-one, c .before .before .before .class-bit .ensures, c .before .mark .ensures) (noted-step _ _ _ _ _ _ _ (l .inv .1) (search needs)))
 
 returns : tie.Need-returns Inv-loop μ-loop
 returns c = let e : c .before .loop .j ≡ localCount = omega arith in rw e at (c .before .loop .inv .1)
@@ -74,9 +76,8 @@ occur-spec =
     element-copy-out-on
     element-copy-out-class-bit
     class-bit-requires
-    array-read-cause-after
-    cause-after-requires
-    array-write-cause
+    slice-aggregate-mark
+    mark-requires
     add-j
     loop-less
     loop-again
