@@ -65,9 +65,12 @@ impl Class {
         }
     }
 
-    /// CTRL bit 0.
+    /// What steps 3 and 4 read as EN: CTRL bit 0 is 1 and at least one of the
+    /// line enables, CTRL bits 2 to 5, is 1.
     pub fn enabled(&self) -> bool {
-        self.ctrl & 1 == 1
+        let en = self.ctrl & 1 == 1;
+        let lines = (self.ctrl >> 2) & 0xF;
+        en && lines != 0
     }
 
     /// CTRL bit 1.
@@ -120,7 +123,7 @@ impl Class {
         }
     }
 
-    /// Step 4 in a phase. EN is not read.
+    /// Step 4 in a phase. Neither EN nor a line enable is read.
     fn advance_phase(&mut self, cleared: bool) {
         let length = self.phase_cyc[usize::from(self.state - PHASE0)];
         if cleared {

@@ -1,8 +1,8 @@
 //! Reference model of the alert handler, one tick at a time.
 //!
-//! Written from the paper "The product to build and its rules" alone. One
-//! register access and one wire sample go in; an answer, four interrupts and
-//! four escalation lines come out.
+//! Written from the paper "The product to build and its rules" and the change
+//! requests that have landed, alone. One register access and one wire sample
+//! go in; an answer, four interrupts and four escalation lines come out.
 
 mod access;
 pub mod answer;

@@ -1,9 +1,10 @@
-// The cases of document 01 that are run, its slips that look right, and two waves of the public papers, through the code's own tick.
+// The cases of document 01 that are run, its slips that look right, two waves of the public papers, and a class with no lines, through the code's own tick.
 // What each prints is held to the file `stdout`.
 mod play; // play.rt: one tick, played and shown
 mod refusals; // refusals.rt: answers of single accesses
 mod slips; // slips.rt: "Slips that look right"
 mod waves; // waves.rt: the waves of the public papers
+mod lines; // lines.rt: a class with no lines
 
 fn main() {
     refusals::making();
@@ -16,4 +17,7 @@ fn main() {
     slips::refusal_as_value();
     waves::gathering();
     waves::timeout();
+    lines::no_event();
+    lines::timeout();
+    lines::phase();
 }

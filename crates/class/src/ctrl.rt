@@ -13,11 +13,15 @@ fn is_set(ctrl: u16, k: u32) -> bool
     (ctrl >> k) % 2 == 1
 }
 
-// EN as steps 3 and 4 read it.
+// EN as steps 3 and 4 read it: EN is 1 and at least one line enable is 1.
 pub fn enabled(c: Class) -> bool
     ensures { λ r. ⌜ r ≡ enabled c ⌝ }
 {
-    is_set(c.ctrl, 0)
+    let a = line_enable(c, 0);
+    let b = line_enable(c, 1);
+    let d = line_enable(c, 2);
+    let e = line_enable(c, 3);
+    is_set(c.ctrl, 0) & (((a | b) | d) | e)
 }
 
 // LOCK.

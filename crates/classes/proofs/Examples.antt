@@ -5,6 +5,7 @@ use mathlib.Core.Path.{_≡_, refl}
 use mathlib.Core.Bool.{Bool, true, false}
 use mathlib.Core.List.{List, [], _∷_}
 use Rattle.bits.specs.Bits.{bit}
+use Rattle.bits.specs.Index.{anyTo}
 use Rattle.classes.specs.Class.{en, lock, lineEnable, lineMap, enabled, stateOf, stateNumber, drives, classFits}
 use Rattle.classes.specs.Step.{trigger, due, counted, at, startsFrom, movedFrom, moved, starts, classStep}
 use Rattle.classes.specs.declared.Class.{Class}
@@ -13,7 +14,7 @@ use Rattle.classes.specs.declared.Signals.{Signals}
 
 -- `unfolding rules` opens every definition that an example computes with
 rules : ℕ → ℕ
-unfolding bit stateOf drives classFits counted startsFrom movedFrom classStep
+unfolding bit anyTo stateOf drives classFits counted startsFrom movedFrom classStep
 rules n = n
 
 -- ── scenes ──
@@ -36,9 +37,9 @@ class state count ctrl accum thresh timeout =
 abbrev ctrlOf : ℕ → Class
 ctrlOf ctrl = class 0 0 ctrl 0 0 0
 
--- a class with EN at this STATE and count, threshold 9 and TIMEOUT_CYC 2
+-- a class with EN and line 0 at this STATE and count, threshold 9 and TIMEOUT_CYC 2
 abbrev waits : ℕ → ℕ → Class
-waits state count = class state count 1 0 9 2
+waits state count = class state count 5 0 9 2
 
 -- what it meets: nothing, an event, its interrupt bit, an accepted clear
 abbrev meets : Bool → Bool → Bool → Signals
@@ -77,10 +78,17 @@ enables = (refl, refl, refl, refl, refl, refl)
 maps : (lineMap (ctrlOf 0x3240) 0 ≡ 1) × (lineMap (ctrlOf 0x3240) 1 ≡ 2) × (lineMap (ctrlOf 0x3240) 2 ≡ 0) × (lineMap (ctrlOf 0x3240) 3 ≡ 3)
 maps = (refl, refl, refl, refl)
 
--- "EN is 1": CTRL 1 has no line enable and is enabled
-enabled-alone : (enabled (ctrlOf 1) ≡ true) × (enabled (ctrlOf 0x3C) ≡ false)
+-- request (i): "EN is 1 and at least one line enable is 1": none, all but EN, each alone, all maps and LOCK without an enable
+lines-enable : (enabled (ctrlOf 0x01) ≡ false)
+    × (enabled (ctrlOf 0x3FFE) ≡ false)
+    × (enabled (ctrlOf 0x05) ≡ true)
+    × (enabled (ctrlOf 0x09) ≡ true)
+    × (enabled (ctrlOf 0x11) ≡ true)
+    × (enabled (ctrlOf 0x21) ≡ true)
+    × (enabled (ctrlOf 0x3FC3) ≡ false)
+    × (enabled (ctrlOf 0x3F) ≡ true)
 unfolding rules
-enabled-alone = (refl, refl)
+lines-enable = (refl, refl, refl, refl, refl, refl, refl, refl)
 
 -- "STATE reads Idle 0, Timeout 1, Terminal 3, phases 4 to 7"
 states : (stateOf 0 ≡ Idle)
@@ -114,44 +122,45 @@ driven = (refl, refl, refl, refl, refl, refl, refl)
 -- ── step 3 ──
 
 -- "an event with no accepted clear in this tick and ACCUM_CNT at or above ACCUM_THRESH before counting"
-triggers : (trigger event (class 0 0 1 2 2 0) ≡ true)
-    × (trigger event (class 0 0 1 1 2 0) ≡ false)
-    × (trigger event (class 0 0 1 3 2 0) ≡ true)
-    × (trigger (meets true true true) (class 0 0 1 2 2 0) ≡ false)
-    × (trigger interrupt (class 0 0 1 2 2 0) ≡ false)
+triggers : (trigger event (class 0 0 5 2 2 0) ≡ true)
+    × (trigger event (class 0 0 5 1 2 0) ≡ false)
+    × (trigger event (class 0 0 5 3 2 0) ≡ true)
+    × (trigger (meets true true true) (class 0 0 5 2 2 0) ≡ false)
+    × (trigger interrupt (class 0 0 5 2 2 0) ≡ false)
 triggers = (refl, refl, refl, refl, refl)
 
 -- "A clear makes ACCUM_CNT 0 and the event isn't counted; otherwise an event adds 1, staying at 65,535"
-counts : (counted event (class 0 0 1 65534 0 0) ≡ 65535)
-    × (counted event (class 0 0 1 65535 0 0) ≡ 65535)
-    × (counted nothing (class 0 0 1 7 0 0) ≡ 7)
-    × (counted clear (class 0 0 1 7 0 0) ≡ 0)
-    × (counted (meets true true true) (class 0 0 1 7 0 0) ≡ 0)
+counts : (counted event (class 0 0 5 65534 0 0) ≡ 65535)
+    × (counted event (class 0 0 5 65535 0 0) ≡ 65535)
+    × (counted nothing (class 0 0 5 7 0 0) ≡ 7)
+    × (counted clear (class 0 0 5 7 0 0) ≡ 0)
+    × (counted (meets true true true) (class 0 0 5 7 0 0) ≡ 0)
 unfolding rules
 counts = (refl, refl, refl, refl, refl)
 
 -- "Counting goes on in every state": a phase and Terminal
-counts-on : (classStep event (class 6 1 1 7 0 0) .accum ≡ 8) × (classStep event (class 3 0 1 7 0 0) .accum ≡ 8) × (classStep clear (class 3 0 1 7 0 0) .accum ≡ 0)
+counts-on : (classStep event (class 6 1 5 7 0 0) .accum ≡ 8) × (classStep event (class 3 0 5 7 0 0) .accum ≡ 8) × (classStep clear (class 3 0 5 7 0 0) .accum ≡ 0)
 unfolding rules
 counts-on = (refl, refl, refl)
 
 -- ── step 4 ──
 
 -- "EN is 1, the interrupt bit is now 1 and TIMEOUT_CYC is above 0"
-dues : (due interrupt (class 0 0 1 0 0 1) ≡ true)
+dues : (due interrupt (class 0 0 5 0 0 1) ≡ true)
     × (due interrupt (class 0 0 0x3FFE 0 0 1) ≡ false)
-    × (due nothing (class 0 0 1 0 0 1) ≡ false)
-    × (due interrupt (class 0 0 1 0 0 0) ≡ false)
+    × (due nothing (class 0 0 5 0 0 1) ≡ false)
+    × (due interrupt (class 0 0 5 0 0 0) ≡ false)
+    × (due interrupt (class 0 0 0x3FC3 0 0 1) ≡ false)
 unfolding rules
-dues = (refl, refl, refl, refl)
+dues = (refl, refl, refl, refl, refl)
 
 -- "Idle: trigger to Phase 0, count 1; else if due to Timeout, count 1"; a clear with due goes to Timeout
-from-idle : (moved event (class 0 0 1 0 0 2) ≡ at Phase0 1)
+from-idle : (moved event (class 0 0 5 0 0 2) ≡ at Phase0 1)
     × (moved event (waits 0 0) ≡ at Timeout 1)
     × (moved interrupt (waits 0 0) ≡ at Timeout 1)
-    × (moved (meets true true true) (class 0 0 1 0 0 2) ≡ at Timeout 1)
+    × (moved (meets true true true) (class 0 0 5 0 0 2) ≡ at Timeout 1)
     × (moved nothing (waits 0 0) ≡ at Idle 0)
-    × (moved event (class 0 0 1 0 9 0) ≡ at Idle 0)
+    × (moved event (class 0 0 5 0 9 0) ≡ at Idle 0)
 unfolding rules
 from-idle = (refl, refl, refl, refl, refl, refl)
 
@@ -159,16 +168,18 @@ from-idle = (refl, refl, refl, refl, refl, refl)
 -- not stop a timeout."
 from-timeout : (moved interrupt (waits 1 1) ≡ at Timeout 2)
     × (moved interrupt (waits 1 2) ≡ at Phase0 1)
-    × (moved event (class 1 1 1 0 0 2) ≡ at Phase0 1)
+    × (moved event (class 1 1 5 0 0 2) ≡ at Phase0 1)
     × (moved nothing (waits 1 1) ≡ at Idle 0)
     × (moved nothing (waits 1 2) ≡ at Idle 0)
     × (moved (meets false true true) (waits 1 1) ≡ at Timeout 2)
     × (moved (meets false true true) (waits 1 2) ≡ at Phase0 1)
-    × (moved interrupt (class 1 1 1 0 9 1) ≡ at Phase0 1)
-    × (moved interrupt (class 1 1 1 0 9 0) ≡ at Idle 0)
+    × (moved interrupt (class 1 1 5 0 9 1) ≡ at Phase0 1)
+    × (moved interrupt (class 1 1 5 0 9 0) ≡ at Idle 0)
     × (moved interrupt (class 1 1 0x3FFE 0 9 2) ≡ at Idle 0)
+    × (moved interrupt (class 1 1 0x3FC3 0 9 2) ≡ at Idle 0)
+    × (moved interrupt (class 1 2 0x3FC3 0 9 2) ≡ at Idle 0)
 unfolding rules
-from-timeout = (refl, refl, refl, refl, refl, refl, refl, refl, refl, refl)
+from-timeout = (refl, refl, refl, refl, refl, refl, refl, refl, refl, refl, refl, refl)
 
 -- "Phase p: accepted clear to Idle, count 0; else count at or above PHASEp_CYC to the next phase, count 1 (after Phase 3 Terminal, count
 -- 0); else add 1. EN is not read.": lengths 3, 0, 2, 5
@@ -183,33 +194,35 @@ from-phase : (moved nothing (waits 4 2) ≡ at Phase0 3)
     × (moved (meets true true true) (waits 5 1) ≡ at Idle 0)
     × (moved clear (waits 7 1) ≡ at Idle 0)
     × (moved event (class 4 1 0 9 0 1) ≡ at Phase0 2)
+    × (moved nothing (class 4 3 0x3FC3 9 0 1) ≡ at Phase1 1)
+    × (moved nothing (class 7 5 0x3FC3 9 0 1) ≡ at Terminal 0)
 unfolding rules
-from-phase = (refl, refl, refl, refl, refl, refl, refl, refl, refl, refl, refl)
+from-phase = (refl, refl, refl, refl, refl, refl, refl, refl, refl, refl, refl, refl, refl)
 
 -- "Terminal: accepted clear to Idle"
-from-terminal : (moved clear (waits 3 0) ≡ at Idle 0) × (moved (meets true true false) (class 3 0 1 9 0 2) ≡ at Terminal 0)
+from-terminal : (moved clear (waits 3 0) ≡ at Idle 0) × (moved (meets true true false) (class 3 0 5 9 0 2) ≡ at Terminal 0)
 unfolding rules
 from-terminal = (refl, refl)
 
 -- a start is the move from Idle or Timeout to Phase 0 and nothing else
-starting : (starts event (class 0 0 1 0 0 0) ≡ true)
+starting : (starts event (class 0 0 5 0 0 0) ≡ true)
     × (starts interrupt (waits 1 2) ≡ true)
-    × (starts event (class 7 5 1 0 0 0) ≡ false)
-    × (starts event (class 3 0 1 0 0 0) ≡ false)
+    × (starts event (class 7 5 5 0 0 0) ≡ false)
+    × (starts event (class 3 0 5 0 0 0) ≡ false)
 unfolding rules
 starting = (refl, refl, refl, refl)
 
 -- "Entering Phase 0 from Idle or Timeout with LOCK set makes CLR_REGWEN 0"
-locking : (classStep event (class 0 0 3 0 0 0) .clrwen ≡ 0)
-    × (classStep interrupt (class 1 2 3 0 9 2) .clrwen ≡ 0)
-    × (classStep event (class 0 0 1 0 0 0) .clrwen ≡ 1)
-    × (classStep event (class 0 0 3 0 9 0) .clrwen ≡ 1)
-    × (classStep nothing (class 4 1 3 0 0 0) .clrwen ≡ 1)
+locking : (classStep event (class 0 0 7 0 0 0) .clrwen ≡ 0)
+    × (classStep interrupt (class 1 2 7 0 9 2) .clrwen ≡ 0)
+    × (classStep event (class 0 0 5 0 0 0) .clrwen ≡ 1)
+    × (classStep event (class 0 0 7 0 9 0) .clrwen ≡ 1)
+    × (classStep nothing (class 4 1 7 0 0 0) .clrwen ≡ 1)
 unfolding rules
 locking = (refl, refl, refl, refl, refl)
 
 -- the step moves state, count, ACCUM_CNT and CLR_REGWEN, and leaves the rest
-stepping : (classStep event (class 0 0 3 6 6 2) ≡ record { lengths = 3 ∷ 0 ∷ 2 ∷ 5 ∷ []; timeout = 2; count = 1; ctrl = 3; accum = 7; thresh = 6; regwen = 1; clrwen = 0; state = 4 })
+stepping : (classStep event (class 0 0 7 6 6 2) ≡ record { lengths = 3 ∷ 0 ∷ 2 ∷ 5 ∷ []; timeout = 2; count = 1; ctrl = 7; accum = 7; thresh = 6; regwen = 1; clrwen = 0; state = 4 })
     × (classStep nothing (waits 7 5) .state ≡ 3)
 unfolding rules
 stepping = (refl, refl)

@@ -6,6 +6,7 @@ use mathlib.Core.List.{List, []}
 use lib.Dec.{eqb}
 use lib.ListN.{getD}
 use Rattle.bits.specs.Bits.{bit, field, fits}
+use Rattle.bits.specs.Index.{anyTo}
 use Rattle.classes.specs.declared.Class.{Class}
 use Rattle.classes.specs.declared.ClassState.{ClassState}
 use Rattle.classes.specs.declared.ClassState.the-variants.{Idle, Timeout, Phase0, Phase1, Phase2, Phase3, Terminal}
@@ -25,9 +26,9 @@ lineEnable c e = bit (c .ctrl) (2 + e)
 abbrev pub lineMap : Class → ℕ → ℕ
 lineMap c e = field (6 + 2 * e) 2 (c .ctrl)
 
--- EN as steps 3 and 4 read it
+-- request (i): EN in steps 3 and 4 reads as "EN is 1 and at least one line enable is 1"
 abbrev pub enabled : Class → Bool
-enabled c = en c
+enabled c = en c && anyTo (lineEnable c) 4
 
 -- the length of phase p, PHASEp_CYC
 abbrev pub phaseCyc : Class → ℕ → ℕ

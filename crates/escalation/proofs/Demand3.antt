@@ -1,5 +1,5 @@
 -- Demand 3, "A started escalation", of every list of ticks from every state that refusal 7 does not meet.
--- It rests on these laws of the tick, and does not open it: of crate laws, Content (after-class, acted-place, line-is), Locks (acted-locked,
+-- It rests on these laws of the tick, and does not open it: of crate laws, Content (after-class, event-enabled, acted-place, line-is), Locks (acted-locked,
 -- after-locked), Clears (no-clear), Frame (after-n), MapLaws (decode-number, decode-assigned), KeepsValid (run-valid), ValidLaws (facts),
 -- Refusal7 (ticked-handler, ticked-lines), Runs (run-next, ticks-at).
 -- Assumes nothing.
@@ -15,7 +15,8 @@ use Rattle.classes.specs.Step.{starts, moved}
 use Rattle.classes.specs.declared.Class.{Class}
 use Rattle.classes.specs.declared.ClassState.the-variants.{Phase0}
 use Rattle.classes.specs.declared.Place.{Place}
-use Rattle.laws.proofs.Content.{after-class, acted-place}
+use Rattle.laws.proofs.Content.{after-class, event-enabled, acted-place}
+use Rattle.rules.specs.Access.{acted, clears}
 use Rattle.rules.specs.State.{classCount}
 use Rattle.rules.specs.Tick.{after}
 use Rattle.rules.specs.Valid.{valid}
@@ -26,7 +27,7 @@ use Rattle.escalation.specs.List.{IsTick, before, inputAt, givenAt, clas
 use Rattle.escalation.proofs.Escalation.{escalates}
 use Rattle.escalation.proofs.Going.{step-place}
 use Rattle.escalation.proofs.Locks.{locks, no-clear}
-use Rattle.escalation.proofs.Start.{Unstarted, unstarted, to-phase, is-start, reason}
+use Rattle.escalation.proofs.Start.{Unstarted, unstarted, to-phase, is-start, reason, has-line}
 use Rattle.escalation.proofs.Ticks.{at-next, given-handler}
 
 -- a start in one tick: step 1 does not move the class, and its step is what it comes to
@@ -40,7 +41,11 @@ module _ (g : Handler) (x : Input) (k : ℕ) (small : k < classCount) where
       ∙ ap (λ (w : Place). w .state) (step-place (met g x k) (classRead g x k))
 
   start-is : StartIs g x k (after g x)
-  start-is = record { move = (there, back); reason = λ e. ⊎-elim (λ t. inl t) (λ r. inr (sym read-state ∙ r .0, r .1, r .2)) (reason (met g x k) (classRead g x k) _ e) }
+  start-is = record {
+    move = (there, back);
+    line = λ e. has-line (met g x k) (classRead g x k) _ (event-enabled (acted g (x .access)) (x .sample .alerts) (clears g (x .access)) k) e;
+    reason = λ e. ⊎-elim (λ t. inl t) (λ r. inr (sym read-state ∙ r .0, r .1, r .2)) (reason (met g x k) (classRead g x k) _ e);
+  }
     where
       there : starts (met g x k) (classRead g x k) ≡ true → Unstarted (stateIn g k) × (stateIn (after g x) k ≡ Phase0)
       there e = (

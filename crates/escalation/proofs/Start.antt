@@ -1,13 +1,15 @@
 -- The start of a class's escalation: the step from Idle or Timeout to Phase 0.
 -- Assumes nothing.
-use Prim.Native.Nat.{ℕ, _+_, _≤_}
+use Prim.Native.Nat.{ℕ, _+_, _≤_, _<_}
 use mathlib.Core.Path.{_≡_, refl, sym, ap, _∙_}
 use mathlib.Core.Logic.{_⊎_, inl, inr, ⊎-elim}
 use mathlib.Core.Bool.{Bool, true, false, false≢true, cond, _&&_, _||_}
 use native.Mathlib.Omega.{arith}
 use borrow.Author.Tests.{leb-true}
 use lib.Dec.{leb}
-use Rattle.bits.proofs.IndexLaws.{and-true}
+use Rattle.bits.specs.Index.{anyTo}
+use Rattle.bits.proofs.IndexLaws.{and-true, any-some}
+use Rattle.classes.specs.Class.{en, enabled, lineEnable}
 use Rattle.classes.specs.Step.{trigger, due, at, startsFrom, movedFrom}
 use Rattle.classes.specs.declared.Class.{Class}
 use Rattle.classes.specs.declared.ClassState.{ClassState}
@@ -71,3 +73,10 @@ module _ (q : Signals) (c : Class) where
       (λ (i : m ≡ Timeout).
       ⊎-elim (λ t. inl t) (λ d. let b = and-true (due q c) (leb (c .timeout) (c .count)) d in inr (i, b .0, leb-true (c .timeout) (c .count) (b .1)))
       (or-true (trigger q c) (due q c && leb (c .timeout) (c .count)) (rw i at e))) (unstarted m e)
+
+  -- an event is of a class that is enabled, and so is being due; such a class has an enabled line
+  pub has-line : (m : ClassState) → (q .event ≡ true → enabled c ≡ true) → startsFrom m q c ≡ true → (e : ℕ) × (e < 4) × (lineEnable c e ≡ true)
+  has-line m of e =
+      let on : enabled c ≡ true =
+      ⊎-elim (λ t. of (and-true (q .event) _ t .0)) (λ d. and-true (enabled c) _ (d .1) .0) (reason m e) in
+      any-some (lineEnable c) 4 (and-true (en c) (anyTo (lineEnable c) 4) on .1)

@@ -7,6 +7,7 @@ use mathlib.Core.Bool.{true, false, false≢true}
 use mathlib.Core.List.{List, [], _∷_}
 use native.Mathlib.Omega.{arith}
 use lib.ListN.{set, replicate}
+use Rattle.classes.specs.Class.{lineEnable}
 use Rattle.classes.specs.Step.{trigger, starts}
 use Rattle.classes.specs.declared.Class.{Class}
 use Rattle.classes.specs.declared.ClassState.the-variants.{Timeout, Phase0}
@@ -113,3 +114,16 @@ unfolding rules
 timed-out =
     ⊎-elim (λ t. absurd (false≢true (sym (by-timeout .2) ∙ t))) (λ r. r .2)
     (start-is waiting (rest none) 3 refl (omega arith) .reason (by-timeout .0 .is-start))
+
+-- each has an enabled line
+with-line : (e : ℕ) × (e < 4) × (lineEnable (classRead waiting (rest none) 3) e ≡ true)
+unfolding rules
+with-line = start-is waiting (rest none) 3 refl (omega arith) .line (by-timeout .0 .is-start)
+
+-- and the same class without line enables does not start
+abbrev lineless : Handler
+lineless = post 2 (withSetting Setting.Regwen 0 (settings 0x3903 0 0 nines))
+
+no-start : starts (met lineless (raise 63 none) 2) (classRead lineless (raise 63 none) 2) ≡ false
+unfolding rules
+no-start = refl

@@ -49,6 +49,8 @@ pub record StartIs (g : Handler) (x : Input) (k : ℕ) (after : Handler) : Type 
   pub move :
       (starts (met g x k) (classRead g x k) ≡ true)
       ↔ (((stateIn g k ≡ Idle) ⊎ (stateIn g k ≡ Timeout)) × (stateIn after k ≡ Phase0))
+  -- request (i): "a start now has an enabled line"
+  pub line : starts (met g x k) (classRead g x k) ≡ true → (e : ℕ) × (e < 4) × (lineEnable (classRead g x k) e ≡ true)
   pub reason :
       starts (met g x k) (classRead g x k) ≡ true
       → (trigger (met g x k) (classRead g x k) ≡ true)

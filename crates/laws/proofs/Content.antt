@@ -11,11 +11,12 @@ use Rattle.bits.specs.Bits.{bit, fits}
 use Rattle.bits.specs.Index.{anyTo}
 use Rattle.bits.proofs.BitLaws.{bit-bitsOf}
 use Rattle.bits.proofs.IndexLaws.{and-true, any-at, any-some}
-use Rattle.classes.specs.Class.{drives}
+use Rattle.classes.specs.Class.{enabled, drives}
 use Rattle.classes.specs.Step.{classStep}
 use Rattle.classes.specs.declared.Class.{Class}
 use Rattle.rules.specs.Access.{value, locked, bars, withSetting, store, accepted, acted, settingIsClr, isClrOf, clears}
 use Rattle.rules.specs.Map.{decode, isRegister, settingBits, bits, settingReadOnly, readOnly, guard, settingLocks, isLock}
+use Rattle.rules.specs.Samples as samples
 use Rattle.rules.specs.State.{classCount, classAt}
 use Rattle.rules.specs.Tick.{event, interruptNow, signals, stepped, lines, after}
 use Rattle.rules.specs.declared.Access.{Access}
@@ -25,6 +26,7 @@ use Rattle.rules.specs.declared.Input.{Input}
 use Rattle.rules.specs.declared.Register.{Register}
 use Rattle.rules.specs.declared.Register.the-variants.{Block}
 use Rattle.rules.specs.declared.Setting.{Setting}
+use Rattle.rules.specs.declared.Wires.{Wires}
 use Rattle.laws.specs.Assigned.{assigned, settingExists}
 use Rattle.laws.specs.Block.{classStored, settingLocked, blockAccepts, blockWritten, blockClears, ofBlock, writesBlock, Unmoved}
 use Rattle.laws.proofs.Clears.{clears-by}
@@ -42,6 +44,11 @@ pub after-class : (h : Handler) (x : Input) (k : ℕ) → k < classCount
     ≡ classStep (signals (acted h (x .access)) (x .sample .alerts) (clears h (x .access)) k) (classAt (acted h (x .access)) k)
 unfolding after
 after-class h x k l = stepped-class (acted h (x .access)) (x .sample .alerts) (clears h (x .access)) k l
+
+-- an event is of an enabled class
+pub event-enabled : (g : Handler) (w : Wires) (clear : ℕ → Bool) (k : ℕ) → signals g w clear k .event ≡ true → enabled (classAt g k) ≡ true
+unfolding signals event
+event-enabled g w clear k e = and-true (samples.assigned g w k) (enabled (classAt g k)) e .1
 
 -- its interrupt bit: as the access left it, or set by an event
 pub after-bit : (h : Handler) (x : Input) (k : ℕ) → k < classCount

@@ -62,7 +62,7 @@ class-off = (refl, refl, refl)
 
 -- N = 64: alert 63 is at the last bit, positive wires first; the two swapped are a fall
 abbrev last : Handler
-last = station 64 (set (replicate 64 0) 63 1) (set (replicate 64 0) 63 2) 2 (settings 1 0 0 zeros)
+last = station 64 (set (replicate 64 0) 63 1) (set (replicate 64 0) 63 2) 2 (settings 5 0 0 zeros)
 
 places : (holds last (wired 1 (ones - 1) none ∷ []) (Alert Field.Cause 63) ≡ 1)
     × (holds last (wired 1 (ones - 1) none ∷ []) IntrState ≡ 4)
@@ -80,7 +80,7 @@ locals2 k h =
 
 -- "Samples at N and above count for nothing", and a new handler's arming is all ones for every N
 abbrev two : Handler
-two = locals2 0 (station 2 (replicate 64 1) (replicate 64 0) 0 (settings 1 0 0 zeros))
+two = locals2 0 (station 2 (replicate 64 1) (replicate 64 0) 0 (settings 5 0 0 zeros))
 
 above : (run two (wired ones 0 none ∷ []) .receivers .armed ≡ (ones - 2 ^ 63 - 2 ^ 62) ∷ [])
     × (run two (wired (wire 2) (ones - wire 2) none ∷ []) ≡ run two (rest none ∷ []))
@@ -95,7 +95,7 @@ abbrev integrity : Handler
 integrity = locals2 1 (station 2 (0 ∷ 1 ∷ replicate 62 0) (replicate 64 0) 0 (settings 0x393C 0 0 zeros))
 
 abbrev on1 : Handler
-on1 = locals2 1 (station 2 (0 ∷ 1 ∷ replicate 62 0) (replicate 64 0) 1 (settings 1 0 0 zeros))
+on1 = locals2 1 (station 2 (0 ∷ 1 ∷ replicate 62 0) (replicate 64 0) 1 (settings 5 0 0 zeros))
 
 locals : (holds integrity (bothHigh 1 none ∷ []) (Local Field.Cause 2) ≡ 1)
     × (holds integrity (bothLow 1 none ∷ []) (Local Field.Cause 2) ≡ 1)
@@ -113,7 +113,7 @@ locals = (refl, refl, refl, refl, refl, refl, refl, refl, refl)
 abbrev all7 : Handler
 all7 =
     withLocals (record { regwen = replicate 7 1; en = replicate 7 1; class = replicate 7 0; cause = replicate 7 0 })
-    (station 1 (1 ∷ replicate 63 0) (replicate 64 0) 0 (settings 1 0 0 zeros))
+    (station 1 (1 ∷ replicate 63 0) (replicate 64 0) 0 (settings 5 0 0 zeros))
 
 only-2 : run all7 (bothHigh 0 none ∷ []) .locals .cause ≡ 0 ∷ 0 ∷ 1 ∷ 0 ∷ 0 ∷ 0 ∷ 0 ∷ []
 unfolding rules
@@ -121,7 +121,7 @@ only-2 = refl
 
 -- P11: "Wires (1,1) on enabled alert 0, local 2 enabled in enabled class 1: register 42 reads 1 next tick"
 abbrev seal : Handler
-seal = locals2 1 (station 1 (1 ∷ replicate 63 0) (replicate 64 0) 1 (settings 1 0 0 zeros))
+seal = locals2 1 (station 1 (1 ∷ replicate 63 0) (replicate 64 0) 1 (settings 5 0 0 zeros))
 
 next-tick : (gives seal (bothHigh 0 (Access.Read 42)) ≡ pos 0) × (gives (run seal (bothHigh 0 none ∷ [])) (rest (Access.Read 42)) ≡ pos 1)
 unfolding rules

@@ -47,13 +47,30 @@ third : (state (ready 2) (events 2) ≡ 0)
 unfolding rules
 third = (refl, refl, refl, refl, refl)
 
--- CTRL 1 has EN and no line: one event at threshold 0 gives STATE 4, and drives no line
+-- one line enable is enough: CTRL 0x21 has EN and line 3, mapped to Phase 0; LOCK is not set
 abbrev lone : Handler
-lone = station 1 (1 ∷ replicate 63 0) (replicate 64 0) 0 (settings 1 0 0 zeros)
+lone = station 1 (1 ∷ replicate 63 0) (replicate 64 0) 0 (settings 0x21 0 0 zeros)
 
-en-alone : (state lone (raise 0 none ∷ []) ≡ 4) × (ticked lone (raise 0 none) .output .lines ≡ 0) × (holds lone (raise 0 none ∷ []) (Block ClrRegwen 0) ≡ 1)
+one-line : (state lone (raise 0 none ∷ []) ≡ 4) × (ticked lone (raise 0 none) .output .lines ≡ 8) × (holds lone (raise 0 none ∷ []) (Block ClrRegwen 0) ≡ 1)
 unfolding rules
-en-alone = (refl, refl, refl)
+one-line = (refl, refl, refl)
+
+-- request (i), all four line enables off: an alert's event sets its cause and nothing else, by way of alerts or of TIMEOUT_CYC
+abbrev noLines : ℕ
+noLines = 0x3903
+
+abbrev lineless : Handler
+lineless = station 2 (1 ∷ 1 ∷ replicate 62 0) (replicate 64 0) 0 (settings noLines 0 1 zeros)
+
+no-lines : (holds lineless (raise 0 none ∷ []) (Alert Field.Cause 0) ≡ 1)
+    × (holds lineless (raise 0 none ∷ []) IntrState ≡ 0)
+    × (holds lineless (raise 0 none ∷ []) (Block AccumCnt 0) ≡ 0)
+    × (state lineless (raise 0 none ∷ rest none ∷ []) ≡ 0)
+    × (holds lineless (raise 0 none ∷ []) (Block ClrRegwen 0) ≡ 1)
+    × (holds lineless (rest (write IntrTest 1) ∷ []) IntrState ≡ 1)
+    × (state lineless (rest (write IntrTest 1) ∷ rest none ∷ []) ≡ 0)
+unfolding rules
+no-lines = (refl, refl, refl, refl, refl, refl, refl)
 
 -- "due" reads this tick's event and this tick's INTR_TEST, which is no event and counts nothing
 abbrev timed : ℕ → Handler
@@ -71,6 +88,18 @@ due-now : (state (timed 1) (raise 0 none ∷ []) ≡ 1)
     × (state (timed 2) (rest (write IntrTest 2) ∷ []) ≡ 0)
 unfolding rules
 due-now = (refl, refl, refl, refl, refl, refl, refl, refl, refl, refl)
+
+-- request (i): a Timeout whose line enables are switched off falls back to Idle, the interrupt bit still 1; it is due again once one is back
+abbrev waiting : List Input
+waiting = raise 0 none ∷ rest (write (Block Ctrl 0) noLines) ∷ []
+
+falls-back : (state (timed 9) (raise 0 none ∷ []) ≡ 1)
+    × (state (timed 9) waiting ≡ 0)
+    × (holds (timed 9) waiting (Block EscCnt 0) ≡ 0)
+    × (holds (timed 9) waiting IntrState ≡ 1)
+    × (state (timed 9) (waiting ++ (rest (write (Block Ctrl 0) 0x3907) ∷ [])) ≡ 1)
+unfolding rules
+falls-back = (refl, refl, refl, refl, refl)
 
 -- "A trigger is an event with no accepted clear in this tick", "A clear makes ACCUM_CNT 0 and the event isn't counted"; a 0 does nothing
 clearing : (state (ready 0) (raise 0 (write (Block Clr 0) 1) ∷ []) ≡ 0)
@@ -97,11 +126,14 @@ under-lock : (gives started (rest (write (Block Clr 0) 1)) ≡ refused 3)
 unfolding rules
 under-lock = (refl, refl, refl)
 
--- a write acts in its own tick: EN off in a phase; a length shortened below the count
+-- a write acts in its own tick: EN or all lines off in a phase, which goes on; a length shortened below the count
 in-phase : (state started (rest (write (Block Ctrl 0) 0) ∷ rest none ∷ []) ≡ 4)
+    × (holds started (rest (write (Block Ctrl 0) noLines) ∷ rest none ∷ []) (Block EscCnt 0) ≡ 3)
+    × (state started (rest (write (Block Ctrl 0) noLines) ∷ replicate 11 (rest none)) ≡ 3)
+    × (ticked started (rest (write (Block Ctrl 0) noLines)) .output .lines ≡ 0)
     × (state started (rest none ∷ rest none ∷ rest (write (Block (PhaseCyc 0) 0) 1) ∷ []) ≡ 5)
 unfolding rules
-in-phase = (refl, refl)
+in-phase = (refl, refl, refl, refl, refl)
 
 -- "Phase p .. to the next phase, count 1 (after Phase 3 Terminal, count 0); else add 1": STATE and ESC_CNT after each tick from the start on
 abbrev places : Handler → ℕ → List (List ℕ)

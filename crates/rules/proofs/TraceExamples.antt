@@ -85,11 +85,11 @@ two-records : (batch (newHandler 1) (reads321 ++ writes1023) (7 ∷ 8 ∷ 9 ∷ 
 unfolding rules
 two-records = (refl, refl, refl)
 
--- a batch runs each record on the state that the one before it left: EN of alert 0, CTRL of class 0, then a rise
+-- a batch runs each record on the state that the one before it left: EN of alert 0, EN and line 0 of class 0, then a rise
 abbrev rises : List ℕ
-rises = bytes 0x88000000 1 0 (2 ^ 63) ++ bytes 0x94100000 1 0 (2 ^ 63) ++ bytes 0x54C00000 0 (2 ^ 63) 0 ++ bytes 0x54C00000 0 (2 ^ 63) 0
+rises = bytes 0x88000000 1 0 (2 ^ 63) ++ bytes 0x94100000 5 0 (2 ^ 63) ++ bytes 0x54C00000 0 (2 ^ 63) 0 ++ bytes 0x54C00000 0 (2 ^ 63) 0
 
-run-on : batch (newHandler 1) rises (0 ∷ 0 ∷ 0 ∷ 0 ∷ []) .out ≡ 0 ∷ 0 ∷ 0 ∷ 4 ∷ []
+run-on : batch (newHandler 1) rises (0 ∷ 0 ∷ 0 ∷ 0 ∷ []) .out ≡ 0 ∷ 0 ∷ 0x0800000000000000 ∷ 4 ∷ []
 unfolding rules
 run-on = refl
 

@@ -72,9 +72,11 @@ impl Scene {
             CTRL => {
                 let en = u32::from(!self.rng.once_in(8));
                 let lock = u32::from(self.rng.once_in(values.lock_once_in)) << 1;
-                let lines = match self.rng.below(3) {
+                let lines = match self.rng.below(4) {
                     0 => 0x393C,
                     1 => (self.rng.bits() as u32 & 0x3FC0) | 0x3C,
+                    // One line, or none: then the class is off.
+                    2 => (self.rng.bits() as u32 & 0x3FC0) | (4 << self.rng.below(5)) & 0x3C,
                     _ => self.rng.bits() as u32 & 0x3FFC,
                 };
                 lines | lock | en

@@ -217,4 +217,24 @@ pub const SLIPS: &[Slip] = &[
         right: "} else if self.esc_cnt < length {",
         wrong: "} else if self.esc_cnt < length & 0xFFFF {",
     },
+    Slip {
+        name: "a class with no lines is on",
+        file: "class.rs",
+        right: "en && lines != 0",
+        wrong: "en && lines < 16",
+    },
+    Slip {
+        name: "line 3 alone does not count",
+        file: "class.rs",
+        right: "let lines = (self.ctrl >> 2) & 0xF;",
+        wrong: "let lines = (self.ctrl >> 2) & 0x7;",
+    },
+    Slip {
+        name: "a phase stops without lines",
+        file: "class.rs",
+        right: "PHASE0)];
+        if cleared {",
+        wrong: "PHASE0)];
+        if cleared || (self.ctrl >> 2) & 0xF == 0 {",
+    },
 ];
