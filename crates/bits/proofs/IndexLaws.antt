@@ -106,3 +106,25 @@ pub any-none : (f : ℕ → Bool) (n : ℕ) → ((i : ℕ) → i < n → f i ≡
 unfolding anyTo
 any-none f zero e = refl
 any-none f (suc n) e = ap₂ _||_ (any-none f n (λ i h. e i (omega arith))) (e n (omega arith))
+
+-- where none has f, i has not
+pub none-at : (f : ℕ → Bool) (n i : ℕ) → anyTo f n ≡ false → i < n → f i ≡ false
+none-at f n i e l = go (f i) refl
+  where
+    go : (b : Bool) → f i ≡ b → b ≡ false
+    go true p = absurd (false≢true (sym e ∙ any-at f n i l p))
+    go false p = refl
+
+or-none : (a : Bool) → a ≡ (a || false)
+or-none true = refl
+or-none false = refl
+
+or-assoc : (a b c : Bool) → ((a || b) || c) ≡ (a || (b || c))
+or-assoc true b c = refl
+or-assoc false b c = refl
+
+-- the first, or one of those after it
+pub any-first : (f : ℕ → Bool) (n : ℕ) → anyTo f (suc n) ≡ (f 0 || anyTo (λ i. f (suc i)) n)
+unfolding anyTo
+any-first f zero = or-none (f 0)
+any-first f (suc n) = ap (λ (b : Bool). b || f (suc n)) (any-first f n) ∙ or-assoc (f 0) (anyTo (λ i. f (suc i)) n) (f (suc n))

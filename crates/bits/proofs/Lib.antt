@@ -3,4 +3,5 @@ pub mod Table
 pub mod IndexLaws
 pub mod FieldLaws
 pub mod PackLaws
+pub mod ByteLaws
 pub mod WordLaws

@@ -4,7 +4,7 @@ use Prim.Native.Nat.{ℕ, zero, suc, _+_, _*_, _^_, _<_}
 use mathlib.Core.Path.{_≡_, refl, sym, ap, _∙_}
 use mathlib.Core.List.{List, [], _∷_, _++_}
 use native.Mathlib.Omega.{arith}
-use native.Mathlib.Nat.{add-assoc, mul-assoc, add-mul, suc-inj}
+use native.Mathlib.Nat.{add-zero, add-assoc, mul-assoc, add-mul, suc-inj}
 use lib.ListN.{length, replicate, length-append, length-replicate, replicate-append-replicate}
 use lib.Pow.{pow-add}
 use Rattle.bits.specs.Fields.{total, pack, unpack, ofBytes, Fit, none, one}
@@ -36,7 +36,17 @@ unpack-append ws vs x ys h g =
     (sym (pack-append ws vs (unpack ws x) ys (fit-length f) ∙ ap (λ (n : ℕ). n * 2 ^ total vs + pack vs ys) (pack-unpack ws x h)))
     ∙ unpack-pack (fit-append f g)
 
-total-bytes : (n : ℕ) → total (replicate n 8) ≡ 8 * n
+-- a number above another
+pub unpack-parts : (ws vs : List ℕ) (x y : ℕ) → x < 2 ^ total ws → y < 2 ^ total vs → unpack (ws ++ vs) (x * 2 ^ total vs + y) ≡ unpack ws x ++ unpack vs y
+unpack-parts ws vs x y h g =
+    ap (λ (n : ℕ). unpack (ws ++ vs) (x * 2 ^ total vs + n)) (sym (pack-unpack vs y g)) ∙ unpack-append ws vs x (unpack vs y) h (unpack-fits vs y)
+
+-- two fields
+pub pack-two : (w v x y : ℕ) → pack (w ∷ v ∷ []) (x ∷ y ∷ []) ≡ x * 2 ^ v + y
+unfolding pack
+pack-two w v x y = rw (add-zero v) (omega arith)
+
+pub total-bytes : (n : ℕ) → total (replicate n 8) ≡ 8 * n
 total-bytes zero = refl
 total-bytes (suc n) = omega (arith, total-bytes n)
 

@@ -65,21 +65,21 @@ each-append {A} m n f g k d p q =
         ∙ at-each n g (i - m) d c ∙ q (i - m) c ∙ ap k r
 
 module _ (a b : List ℕ) (w : length a % recordBytes ≡ 0) where
-  count-append : recordCount (a ++ b) ≡ recordCount a + recordCount b
+  pub count-append : recordCount (a ++ b) ≡ recordCount a + recordCount b
   count-append = simp length-append (omega arith)
 
   -- the records of a, and then those of b
-  record-first : (i : ℕ) → i < recordCount a → recordAt (a ++ b) i ≡ recordAt a i
+  pub record-first : (i : ℕ) → i < recordCount a → recordAt (a ++ b) i ≡ recordAt a i
   record-first i l =
       ap (take recordBytes) (drop-append-le (i * recordBytes) a b (omega arith))
       ∙ take-append-le recordBytes (drop (i * recordBytes) a) b (simp length-drop (omega arith))
 
-  record-second : (i : ℕ) → recordAt (a ++ b) (recordCount a + i) ≡ recordAt b i
+  pub record-second : (i : ℕ) → recordAt (a ++ b) (recordCount a + i) ≡ recordAt b i
   record-second i =
       let e : (recordCount a + i) * recordBytes ≡ length a + i * recordBytes = omega arith in
       ap (λ (n : ℕ). take recordBytes (drop n (a ++ b))) e ∙ ap (take recordBytes) (drop-append-add a b (i * recordBytes))
 
-  inputs-append : inputsOf (a ++ b) ≡ inputsOf a ++ inputsOf b
+  pub inputs-append : inputsOf (a ++ b) ≡ inputsOf a ++ inputsOf b
   unfolding inputsOf
   inputs-append =
       ap (λ (n : ℕ). each n (λ i. inputOf (recordAt (a ++ b) i))) count-append

@@ -17,3 +17,7 @@ pub mod Clears
 pub mod Content
 pub mod Runs
 pub mod BatchLaws
+pub mod RecordLaws
+pub mod WellFormedLaws
+pub mod Recordable
+pub mod WriterLaws

@@ -10,7 +10,7 @@ use Rattle.rules.specs.State.{newHandler, made, withClasses}
 use Rattle.rules.specs.declared.Access.{Access}
 use Rattle.rules.specs.declared.Answer.{Answer}
 use Rattle.rules.specs.declared.Handler.{Handler}
-use Rattle.rules.specs.declared.Refusal.the-variants.{NoRegister, WrongWay, Locked, TooWide, BadRecord, BadCount, BadState, BadLength, ShortList}
+use Rattle.rules.specs.declared.Refusal.the-variants.{NoRegister, WrongWay, Locked, TooWide, BadRecord, BadCount, BadState, BadLength, ShortList, NoRecord, ShortBuffer}
 use Rattle.rules.proofs.Scenes.{rules, rest, then, gives, refused}
 
 -- "a read gives 0 to 4,294,967,295, anything else accepted gives 0, and a refusal gives the negated refusal number"
@@ -26,8 +26,10 @@ numbers : (number (Answer.Value 4294967295) ≡ pos 4294967295)
     × (number (Answer.Refused BadState) ≡ negsuc 6)
     × (number (Answer.Refused BadLength) ≡ negsuc 7)
     × (number (Answer.Refused ShortList) ≡ negsuc 8)
+    × (number (Answer.Refused NoRecord) ≡ negsuc 9)
+    × (number (Answer.Refused ShortBuffer) ≡ negsuc 10)
 unfolding rules
-numbers = (refl, refl, refl, refl, refl, refl, refl, refl, refl, refl, refl, refl)
+numbers = (refl, refl, refl, refl, refl, refl, refl, refl, refl, refl, refl, refl, refl, refl)
 
 -- "N is 0 or over 64: a handler of no alerts, otherwise as new"
 makes : (made 0 ≡ record { handler = newHandler 0; answer = refused 6 })

@@ -6,3 +6,4 @@ pub mod ValidExamples
 pub mod SampleExamples
 pub mod TickExamples
 pub mod TraceExamples
+pub mod WriterExamples

@@ -18,9 +18,11 @@ use Rattle.rules.specs.Access.{value, locked, verdict, store, acted, ans
 use Rattle.rules.specs.Samples.{alertEvent, alertBroken, rearmed, raised, occurs, sampled, assigned}
 use Rattle.rules.specs.Tick.{event, interruptNow, signals, stepped, interrupts, lines, outputOf, after, tick, ticked}
 use Rattle.rules.specs.Run.{run, ticks}
-use Rattle.rules.specs.Record.{accessOf, inputOf}
+use Rattle.rules.specs.Record.{accessOf, inputOf, recordOf, recordable}
 use Rattle.rules.specs.Record
 use Rattle.rules.specs.Batch.{inputsOf, batchVerdict, batchOf, batch}
+use Rattle.rules.specs.Writer.{recordsOf, anyUnrecordable, writeVerdict, writeOf}
+use Rattle.rules.specs.Writer
 use Rattle.rules.specs.declared.Access.{Access}
 use Rattle.rules.specs.declared.Handler.{Handler}
 use Rattle.rules.specs.declared.Input.{Input}
@@ -28,7 +30,7 @@ use Rattle.rules.specs.declared.Register.{Register}
 
 -- names every definition that an example computes with: `unfolding rules` opens them all
 unfoldable pub rules : ℕ → ℕ
-unfolding bit bitsOf wordOf eachFrom anyTo allTo pack unpack stateOf drives classFits counted startsFrom movedFrom classStep number firstOf put newHandler made blockAt decode numberOf bits writeOnly readOnly guard isLock valid value locked verdict store acted answerTo clears accessed alertEvent alertBroken rearmed raised occurs sampled assigned event interruptNow signals stepped interrupts lines outputOf after tick ticked run ticks accessOf inputOf Record.wordOf inputsOf batchVerdict batchOf batch
+unfolding bit bitsOf wordOf eachFrom anyTo allTo pack unpack stateOf drives classFits counted startsFrom movedFrom classStep number firstOf put newHandler made blockAt decode numberOf bits writeOnly readOnly guard isLock valid value locked verdict store acted answerTo clears accessed alertEvent alertBroken rearmed raised occurs sampled assigned event interruptNow signals stepped interrupts lines outputOf after tick ticked run ticks accessOf inputOf Record.wordOf recordOf recordable inputsOf batchVerdict batchOf batch recordsOf anyUnrecordable writeVerdict writeOf Writer.write
 rules n = n
 
 -- ── inputs ──

@@ -8,3 +8,4 @@ pub mod Tick
 pub mod Run
 pub mod Record
 pub mod Batch
+pub mod Writer

@@ -120,6 +120,8 @@ pub enum Refusal {
     BadState,
     BadLength,
     ShortList,
+    NoRecord,
+    ShortBuffer,
 }
 
 pub enum Verdict {

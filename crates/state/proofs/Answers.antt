@@ -13,7 +13,7 @@ use borrow.Author.Needs.{sfits-of, needs}
 use Rattle.rules.specs.Answer.{refusalNumber, number}
 use Rattle.rules.specs.declared.Answer.{Answer}
 use Rattle.rules.specs.declared.Refusal.{Refusal}
-use Rattle.rules.specs.declared.Refusal.the-variants.{NoRegister, WrongWay, Locked, TooWide, BadRecord, BadCount, BadState, BadLength, ShortList}
+use Rattle.rules.specs.declared.Refusal.the-variants.{NoRegister, WrongWay, Locked, TooWide, BadRecord, BadCount, BadState, BadLength, ShortList, NoRecord, ShortBuffer}
 use Rattle.state.specs.Meaning.{isNegative, InRange, Meaning}
 
 -- ── the number of a refusal ──
@@ -24,7 +24,7 @@ refusalOf n =
     (cond (eqb n 2) WrongWay
     (cond (eqb n 3) Locked
     (cond (eqb n 4) TooWide
-    (cond (eqb n 5) BadRecord (cond (eqb n 6) BadCount (cond (eqb n 7) BadState (cond (eqb n 8) BadLength ShortList)))))))
+    (cond (eqb n 5) BadRecord (cond (eqb n 6) BadCount (cond (eqb n 7) BadState (cond (eqb n 8) BadLength (cond (eqb n 9) ShortList (cond (eqb n 10) NoRecord ShortBuffer)))))))))
 
 refusal-number : (m : Refusal) → refusalOf (refusalNumber m) ≡ m
 refusal-number NoRegister = refl
@@ -36,9 +36,11 @@ refusal-number BadCount = refl
 refusal-number BadState = refl
 refusal-number BadLength = refl
 refusal-number ShortList = refl
+refusal-number NoRecord = refl
+refusal-number ShortBuffer = refl
 
--- it is 1 to 9
-pub number-range : (m : Refusal) → (1 ≤ refusalNumber m) × (refusalNumber m ≤ 9)
+-- it is 1 to 11
+pub number-range : (m : Refusal) → (1 ≤ refusalNumber m) × (refusalNumber m ≤ 11)
 number-range NoRegister = (omega arith, omega arith)
 number-range WrongWay = (omega arith, omega arith)
 number-range Locked = (omega arith, omega arith)
@@ -48,6 +50,8 @@ number-range BadCount = (omega arith, omega arith)
 number-range BadState = (omega arith, omega arith)
 number-range BadLength = (omega arith, omega arith)
 number-range ShortList = (omega arith, omega arith)
+number-range NoRecord = (omega arith, omega arith)
+number-range ShortBuffer = (omega arith, omega arith)
 
 -- ── negated numbers ──
 
@@ -60,8 +64,8 @@ neg-fits (suc n) h = sfits-of (omega arith)
 
 -- ── the meaning of every answer that is in range ──
 
--- the number of a refusal is below zero, by 1 to 9
-refused-number : (m : Refusal) → (k : ℕ) × (k ≤ 8) × (number (Answer.Refused m) ≡ negsuc k)
+-- the number of a refusal is below zero, by 1 to 11
+refused-number : (m : Refusal) → (k : ℕ) × (k ≤ 10) × (number (Answer.Refused m) ≡ negsuc k)
 unfolding number
 refused-number m =
     let r = number-range m in

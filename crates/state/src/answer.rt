@@ -2,12 +2,13 @@
 use rules::Answer;
 use rules::Refusal;
 ghost use mathlib.Core.Path.{_≡_};
+ghost use Prim.Native.Nat.{_<_};
 ghost use Rattle.rules.specs.Answer.{refusalNumber, number};
 ghost use Rattle.state.specs.Meaning.{Meaning};
 
-// The table's first column.
+// The table's first column. Four bits hold it, as a word of a batch does.
 pub fn refusal_number(m: Refusal) -> u8
-    ensures { λ r. ⌜ r ≡ refusalNumber m ⌝ }
+    ensures { λ r. ⌜ (r ≡ refusalNumber m) × (r < 16) ⌝ }
 {
     match m {
         Refusal::NoRegister => 1,
@@ -19,6 +20,8 @@ pub fn refusal_number(m: Refusal) -> u8
         Refusal::BadState => 7,
         Refusal::BadLength => 8,
         Refusal::ShortList => 9,
+        Refusal::NoRecord => 10,
+        Refusal::ShortBuffer => 11,
     }
 }
 

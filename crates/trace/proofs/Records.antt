@@ -12,7 +12,7 @@ use lib.Seq.{getD-take, getD-drop, length-take-le, take-add, drop-drop}
 use Rattle.bits.specs.Fields.{pack, unpack, ofBytes, none, one}
 use Rattle.bits.specs.Index.{each, eachFrom}
 use Rattle.bits.proofs.IndexLaws.{is-each}
-use Rattle.bits.proofs.PackLaws.{unpack-append, bytes-append}
+use Rattle.bits.proofs.PackLaws.{pack-two, unpack-append, bytes-append}
 use Rattle.rules.specs.Record.{recordBytes, recordLayout, badRecord, accessOf, inputOfFields, inputOf}
 use Rattle.rules.specs.declared.Access.{Access}
 
@@ -38,11 +38,7 @@ part-bytes m n at xs h =
 
 -- kind, register, zero bits and value
 abbrev firstLayout : List ℕ
-firstLayout = 2 ∷ 10 ∷ 20 ∷ 32 ∷ []
-
-wires : (b c : ℕ) → pack (64 ∷ 64 ∷ []) (b ∷ c ∷ []) ≡ b * 2 ^ 64 + c
-unfolding pack
-wires b c = omega arith
+firstLayout = take 4 recordLayout
 
 -- a record by its three words a, b and c
 pub record-input : (at : ℕ) (xs : List ℕ) (a b c : ℕ) → at + recordBytes ≤ length xs
@@ -53,7 +49,7 @@ unfolding inputOf
 record-input at xs a b c h d e f p q r =
     let i : at + 8 + 8 ≡ at + 16 = omega arith in
     let low : ofBytes (take 16 (drop (at + 8) xs)) ≡ pack (64 ∷ 64 ∷ []) (b ∷ c ∷ []) =
-    rw i at (part-bytes 8 8 (at + 8) xs (omega arith)) ∙ ap₂ (λ (m n : ℕ). m * 2 ^ 64 + n) (sym e) (sym f) ∙ sym (wires b c) in
+    rw i at (part-bytes 8 8 (at + 8) xs (omega arith)) ∙ ap₂ (λ (m n : ℕ). m * 2 ^ 64 + n) (sym e) (sym f) ∙ sym (pack-two 64 64 b c) in
     ap (λ (n : ℕ). inputOfFields (unpack recordLayout n))
     (part-bytes 8 16 at xs h ∙ ap₂ (λ (m n : ℕ). m * 2 ^ 128 + n) (sym d) low)
     ∙ ap inputOfFields (unpack-append firstLayout (64 ∷ 64 ∷ []) a (b ∷ c ∷ []) p (one q (one r none)))

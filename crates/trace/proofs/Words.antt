@@ -18,7 +18,7 @@ use Rattle.rules.specs.Record.{wordLayout, refusalOf, readOf, wordFields, wordO
 use Rattle.rules.specs.declared.Answer.{Answer}
 use Rattle.rules.specs.declared.Output.{Output}
 use Rattle.rules.specs.declared.Refusal.{Refusal}
-use Rattle.rules.specs.declared.Refusal.the-variants.{NoRegister, WrongWay, Locked, TooWide, BadRecord, BadCount, BadState, BadLength, ShortList}
+use Rattle.rules.specs.declared.Refusal.the-variants.{NoRegister, WrongWay, Locked, TooWide, BadRecord, BadCount, BadState, BadLength, ShortList, NoRecord, ShortBuffer}
 use Rattle.rules.specs.declared.Ticked.{Ticked}
 use Rattle.trace.proofs.Digits.{num-one}
 
@@ -33,6 +33,8 @@ refusal-lt BadCount = omega arith
 refusal-lt BadState = omega arith
 refusal-lt BadLength = omega arith
 refusal-lt ShortList = omega arith
+refusal-lt NoRecord = omega arith
+refusal-lt ShortBuffer = omega arith
 
 answer-lt : (a : Answer) → refusalOf a < 2 ^ 4
 answer-lt Answer.Done = omega arith

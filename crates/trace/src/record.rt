@@ -8,7 +8,9 @@ ghost use Prim.Native.Nat.{_+_, _≤_};
 ghost use lib.ListN.{length, take, drop};
 ghost use Rattle.bits.specs.Bits.{field};
 ghost use Rattle.bits.specs.Fields.{ofBytes};
-ghost use Rattle.rules.specs.Record.{recordBytes, badRecord, accessOf, inputOf};
+ghost use mathlib.Core.Bool.{false};
+ghost use Rattle.rules.specs.Access.{malformed};
+ghost use Rattle.rules.specs.Record.{recordBytes, badRecord, accessOf, inputOf, recordOf};
 
 // Four bytes as one number.
 fn half_at(bytes: &[u8], at: usize) -> u32
@@ -86,9 +88,10 @@ pub fn input_at(bytes: &[u8], at: usize) -> Input
     }
 }
 
-// The record of 24 bytes.
+// The record of 24 bytes. Writing what was read gives the same bytes, if it is well-formed.
 pub fn input_of(bytes: [u8; 24]) -> Input
     ensures { λ r. ⌜ r ≡ inputOf bytes ⌝ }
+    ensures written { λ r. ⌜ (malformed (r .access) ≡ false → recordOf r ≡ bytes) ⌝ }
 {
     input_at(&bytes, 0)
 }

@@ -1,13 +1,12 @@
 // "Traces": the word of a tick.
 use rules::Answer;
 use rules::Output;
-use rules::Refusal;
+use state::answer::refusal_number;
 ghost use mathlib.Core.Path.{_≡_};
 ghost use mathlib.Core.List.{[], _∷_};
 ghost use Prim.Native.Nat.{_<_};
 ghost use Rattle.bits.specs.Bits.{bit, num};
 ghost use Rattle.bits.specs.Fields.{pack};
-ghost use Rattle.rules.specs.Answer.{refusalNumber};
 ghost use Rattle.rules.specs.Record.{wordLayout, refusalOf, readOf, wordFields};
 
 // Bit k as a number.
@@ -25,23 +24,6 @@ fn four(x: u8) -> u64
     digit(x, 0) * 8 + digit(x, 1) * 4 + digit(x, 2) * 2 + digit(x, 3)
 }
 
-// The table's first column.
-fn refusal_number(m: Refusal) -> u64
-    ensures { λ r. ⌜ (r ≡ refusalNumber m) × (r < 16) ⌝ }
-{
-    match m {
-        Refusal::NoRegister => 1,
-        Refusal::WrongWay => 2,
-        Refusal::Locked => 3,
-        Refusal::TooWide => 4,
-        Refusal::BadRecord => 5,
-        Refusal::BadCount => 6,
-        Refusal::BadState => 7,
-        Refusal::BadLength => 8,
-        Refusal::ShortList => 9,
-    }
-}
-
 // The refusal number of an answer, 0 where it is none.
 fn refusal_of(a: Answer) -> u64
     ensures { λ r. ⌜ (r ≡ refusalOf a) × (r < 16) ⌝ }
@@ -49,7 +31,7 @@ fn refusal_of(a: Answer) -> u64
     match a {
         Answer::Done => 0,
         Answer::Value(_) => 0,
-        Answer::Refused(m) => refusal_number(m),
+        Answer::Refused(m) => refusal_number(m) as u64,
     }
 }
 

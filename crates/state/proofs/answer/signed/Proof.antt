@@ -53,7 +53,7 @@ returns-3 c =
     let n = c .refusal-number .result in
     let l : n < 256 = search needs in
     let e = c .before .before .a2 .given .1 in (
-      rw (toZ-pos w64 {n = n} (omega arith), sub-zero, toZ-ofZ (neg-fits n l), e, c .refusal-number .ensures),
+      rw (toZ-pos w64 {n = n} (omega arith), sub-zero, toZ-ofZ (neg-fits n l), e, c .refusal-number .ensures .0),
       meaning (c .before .before .before .before .args .a) (λ v d. let z : _≡_ {A = ℕ} 0 1 = cc in absurd (omega arith)),
     )
 

@@ -1,9 +1,17 @@
--- `record::input_of` meets its contract: a list of 24 is its first 24.
+-- `record::input_of` meets its contract: a list of 24 is its first 24, and each of its bytes fits 8 bits.
 -- Assumes nothing.
-use mathlib.Core.Path.{ap, _∙_}
+use Prim.Native.Nat.{ℕ, _^_, _<_}
+use mathlib.Core.Path.{_≡_, sym, ap, _∙_}
+use native.Mathlib.Omega.{arith}
 use borrow.Author.Needs.{needs}
+use mir.Syntax.{w8}
+use mir.Val.{Fits}
+use lib.ListN.{getD, length}
 use lib.Seq.{take-all}
-use Rattle.rules.specs.Record.{recordBytes, inputOf}
+use Rattle.laws.proofs.RecordLaws as laws
+use Rattle.rules.specs.Access.{malformed}
+use Rattle.rules.specs.Record.{recordBytes, inputOf, recordOf}
+use Rattle.rules.specs.declared.Input.{Input}
 use Rattle.trace.proofs.record.input_of.Statement.{statement}
 use Rattle.trace.proofs.record.input_of.Tie as tie
 
@@ -14,7 +22,13 @@ input-at-requires : tie.Need-input-at-requires
 input-at-requires c κs = search needs
 
 returns : tie.Need-returns
-returns c = c .input-at .ensures ∙ ap inputOf (take-all recordBytes (c .before .before .args .t1) (search needs))
+returns c =
+    let bytes = c .before .before .args .t1 in
+    let long : length bytes ≡ recordBytes = search needs in
+    let fit : (i : ℕ) → Fits w8 (getD bytes i 0) = λ i. search needs in
+    let byte : (i : ℕ) → getD bytes i 0 < 2 ^ 8 = λ i. omega (arith, fit i) in
+    let read = c .input-at .ensures ∙ ap inputOf (take-all recordBytes bytes (search needs)) in
+    (read, λ f. ap recordOf read ∙ laws.record-input bytes long byte (ap (λ (x : Input). malformed (x .access)) (sym read) ∙ f))
 
 pub input-of-spec : {M : Type 1} → statement M
 input-of-spec = tie.close (tie.spec slice-aggregate-input-at input-at-requires returns)
