@@ -1,8 +1,9 @@
 /* Tarravane: the proved alert handler, for C. Link target/staticlib/libboundary.a (x86-64, System V ABI; it needs memcpy).
  *
- * Every function answers one signed 64-bit number: a read gives 0 to 4294967295, anything else accepted gives 0, and a
- * refusal gives the negated refusal number. No function has a precondition on the state: any bytes are a state, and
- * refusal 7 judges them. No function keeps anything between calls, allocates, or fails in another way.
+ * Every function answers one signed 64-bit number: a read gives 0 to 4294967295, the writer the bytes written, anything
+ * else accepted gives 0, and a refusal gives the negated refusal number. No function has a precondition on the state:
+ * any bytes are a state, and refusal 7 judges them. No function keeps anything between calls, allocates, or fails in
+ * another way.
  *
  * The promises are proved for the functions of crates/boundary. Trusted: the compiler's back end, the C ABI, this header. */
 #ifndef TARRAVANE_H
@@ -105,15 +106,17 @@ struct tarravane_batched {
 
 /* ---- Refusal numbers: an answer of -number ---- */
 
-#define TARRAVANE_NO_REGISTER 1 /* no such register */
-#define TARRAVANE_WRONG_WAY 2   /* read of a write-only or write of a read-only register */
-#define TARRAVANE_LOCKED 3      /* register locked */
-#define TARRAVANE_TOO_WIDE 4    /* written value has a bit outside the field */
-#define TARRAVANE_BAD_RECORD 5  /* trace record malformed, or a kind over 2 */
-#define TARRAVANE_BAD_COUNT 6   /* n is 0 or over 64 */
-#define TARRAVANE_BAD_STATE 7   /* n over 64, a register over its bits, a STATE of 2, a count that its state rules out */
-#define TARRAVANE_BAD_LENGTH 8  /* batch length not a multiple of 24 */
-#define TARRAVANE_SHORT_LIST 9  /* output list shorter than the records */
+#define TARRAVANE_NO_REGISTER 1   /* no such register */
+#define TARRAVANE_WRONG_WAY 2     /* read of a write-only or write of a read-only register */
+#define TARRAVANE_LOCKED 3        /* register locked */
+#define TARRAVANE_TOO_WIDE 4      /* written value has a bit outside the field */
+#define TARRAVANE_BAD_RECORD 5    /* trace record malformed, or a kind over 2 */
+#define TARRAVANE_BAD_COUNT 6     /* n is 0 or over 64 */
+#define TARRAVANE_BAD_STATE 7     /* n over 64, a register over its bits, a STATE of 2, a count that its state rules out */
+#define TARRAVANE_BAD_LENGTH 8    /* batch length not a multiple of 24 */
+#define TARRAVANE_SHORT_LIST 9    /* output list shorter than the records */
+#define TARRAVANE_NO_RECORD 10    /* an access that no well-formed record holds */
+#define TARRAVANE_SHORT_BUFFER 11 /* buffer shorter than the records to write */
 
 /* ---- Kinds of access ---- */
 
@@ -186,6 +189,21 @@ struct tarravane_answered tarravane_tick(struct tarravane_handler h, uint8_t kin
  * neither is null, also where its length is 0. */
 struct tarravane_batched tarravane_batch(struct tarravane_handler h, const uint8_t *bytes, size_t length, uint64_t *out,
                                          size_t words);
+
+/* Writes a trace record of 24 bytes for each entry of the five lists, one after another from the start of bytes, and
+ * answers the bytes written: 24 times the entries. Entry i of kinds, registers and values is the access of record i:
+ * TARRAVANE_NONE with register and value 0, TARRAVANE_READ with value 0, or TARRAVANE_WRITE; bit 63 - m of its positive and
+ * negative is alert m's. Later bytes stay as they were. No entries: nothing is written, and it answers 0.
+ * Reading what was written (tarravane_batch) gives these accesses and wires; writing what was read of a well-formed record
+ * gives its bytes.
+ * -10: an entry that no well-formed record holds (a kind over 2, TARRAVANE_NONE with a register or value, a read with a
+ * value, a register over 1023), or lists of unequal lengths. -11: length is less than 24 times the entries. In this order;
+ * each leaves bytes as they were.
+ * The caller owes: each list points to as many readable entries as its length says, aligned, and bytes to length writable
+ * bytes that overlap none of them; no pointer is null, also where its length is 0. */
+int64_t tarravane_record(const uint8_t *kinds, size_t kinds_length, const uint16_t *registers, size_t registers_length,
+                         const uint32_t *values, size_t values_length, const uint64_t *positive, size_t positive_length,
+                         const uint64_t *negative, size_t negative_length, uint8_t *bytes, size_t length);
 
 /* ---- The layout that the library has ---- */
 

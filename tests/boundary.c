@@ -1,5 +1,6 @@
-/* The boundary from C's side: every field crosses to its register and back, a damaged field gets refusal 7, a batch stays
- * in its buffers, and example traces give the same words by batch, by single ticks and by the replay program.
+/* The boundary from C's side: every field crosses to its register and back, a damaged field gets refusal 7, a batch and the
+ * writer stay in their buffers, example traces give the same words by batch, by single ticks and by the replay program, and
+ * the writer gives their bytes again.
  * usage: boundary [TRACE WORDS]...   WORDS: what the replay program printed of TRACE, or - for none */
 #include <stdbool.h>
 #include <stdio.h>
@@ -340,14 +341,21 @@ static uint64_t number_at(const uint8_t *bytes) {
     return n;
 }
 
-/* One record as a tick of its own; a malformed one as kind 3. */
-static struct tarravane_answered tick_of(const handler *h, const uint8_t *record) {
-    uint64_t first = number_at(record);
+/* The first 8 bytes of a record are malformed. */
+static bool malformed(uint64_t first) {
     unsigned kind = (unsigned)(first >> 62);
     unsigned number = (unsigned)(first >> 52 & 1023);
     uint32_t value = (uint32_t)first;
-    bool bad = (first >> 32 & 0xFFFFF) != 0 || (kind == 1 && value != 0) || (kind == 0 && (number != 0 || value != 0));
-    return tarravane_tick(*h, (uint8_t)(bad ? 3 : kind), (uint16_t)number, value, number_at(record + 8), number_at(record + 16));
+    if (kind == 3 || (first >> 32 & 0xFFFFF) != 0) return true;
+    return (kind == 1 && value != 0) || (kind == 0 && (number != 0 || value != 0));
+}
+
+/* One record as a tick of its own; a malformed one as kind 3. */
+static struct tarravane_answered tick_of(const handler *h, const uint8_t *record) {
+    uint64_t first = number_at(record);
+    uint8_t kind = malformed(first) ? 3 : (uint8_t)(first >> 62);
+    uint16_t number = (uint16_t)(first >> 52 & 1023);
+    return tarravane_tick(*h, kind, number, (uint32_t)first, number_at(record + 8), number_at(record + 16));
 }
 
 static void word_says(uint64_t word, const struct tarravane_answered *t) {
@@ -407,6 +415,189 @@ static void as_printed(const uint64_t *words, size_t count, const char *path) {
     free(printed.at);
 }
 
+/* ---- The writer ---- */
+
+#define ENTRIES 64 /* the most entries that a list here has */
+#define MARGIN 16  /* guard bytes before and after a buffer */
+#define GUARD_BYTE 0xA5
+
+/* What the writer takes, a list for each part. */
+struct entries {
+    size_t count;
+    uint8_t kinds[ENTRIES];
+    uint16_t registers[ENTRIES];
+    uint32_t values[ENTRIES];
+    uint64_t positive[ENTRIES];
+    uint64_t negative[ENTRIES];
+};
+
+/* A buffer between guard bytes, all of them at the guard's value. */
+struct room {
+    uint8_t all[MARGIN + ENTRIES * TARRAVANE_RECORD + MARGIN];
+};
+
+static void add(struct entries *e, unsigned kind, unsigned number, uint32_t value, uint64_t pos, uint64_t neg) {
+    size_t i = e->count++;
+    CHECK(i < ENTRIES);
+    e->kinds[i] = (uint8_t)kind;
+    e->registers[i] = (uint16_t)number;
+    e->values[i] = value;
+    e->positive[i] = pos;
+    e->negative[i] = neg;
+}
+
+static int64_t recorded(const struct entries *e, uint8_t *bytes, size_t length) {
+    size_t n = e->count;
+    return tarravane_record(e->kinds, n, e->registers, n, e->values, n, e->positive, n, e->negative, n, bytes, length);
+}
+
+static void store(uint8_t *at, uint64_t number) {
+    for (int b = 7; b >= 0; b--, number >>= 8) at[b] = (uint8_t)number;
+}
+
+/* The record of document 01, from its widths. */
+static void packed(const struct entries *e, size_t i, uint8_t *at) {
+    store(at, (uint64_t)e->kinds[i] << 62 | (uint64_t)e->registers[i] << 52 | e->values[i]);
+    store(at + 8, e->positive[i]);
+    store(at + 16, e->negative[i]);
+}
+
+static struct room fresh(void) {
+    struct room r;
+    memset(r.all, GUARD_BYTE, sizeof r.all);
+    return r;
+}
+
+/* Writes into this length: every byte of the records, and every byte around them, is as it is to be. */
+static void writes(const struct entries *e, size_t length) {
+    struct room is = fresh(), wanted = fresh();
+    for (size_t i = 0; i < e->count; i++) packed(e, i, wanted.all + MARGIN + i * TARRAVANE_RECORD);
+    CHECK(recorded(e, is.all + MARGIN, length) == (int64_t)(e->count * TARRAVANE_RECORD));
+    CHECK(memcmp(is.all, wanted.all, sizeof is.all) == 0);
+}
+
+/* Refused: the buffer, of this length, keeps its bytes. */
+static void keeps(const struct entries *e, size_t length, int refusal) {
+    struct room is = fresh(), wanted = fresh();
+    CHECK(recorded(e, is.all + MARGIN, length) == -refusal);
+    CHECK(memcmp(is.all, wanted.all, sizeof is.all) == 0);
+}
+
+/* Accesses at both ends of register and value, on wires that are told apart. */
+static struct entries sound(void) {
+    struct entries e = {0};
+    uint64_t pos = UINT64_C(0x0123456789ABCDEF), neg = UINT64_C(0xFEDCBA9876543211);
+    add(&e, TARRAVANE_NONE, 0, 0, 0, UINT64_MAX);
+    add(&e, TARRAVANE_NONE, 0, 0, UINT64_MAX, 0);
+    add(&e, TARRAVANE_READ, 0, 0, 1, 2);
+    add(&e, TARRAVANE_READ, 1023, 0, pos, neg);
+    add(&e, TARRAVANE_WRITE, 0, 0, neg, pos);
+    add(&e, TARRAVANE_WRITE, 1023, UINT32_MAX, UINT64_MAX, UINT64_MAX);
+    add(&e, TARRAVANE_WRITE, 341, 0x01020304, 0, 0);
+    return e;
+}
+
+/* Any buffer that is long enough takes them and keeps what is later; one that is too short keeps all, refused with 11. */
+static void lengths(void) {
+    struct entries e = sound();
+    size_t need = e.count * TARRAVANE_RECORD;
+    for (size_t length = 0; length < need; length++) keeps(&e, length, TARRAVANE_SHORT_BUFFER);
+    for (size_t spare = 0; spare <= TARRAVANE_RECORD; spare++) writes(&e, need + spare);
+    for (e.count = 0; e.count <= 3; e.count++) writes(&e, need);
+    e.count = 0;
+    writes(&e, 0);
+}
+
+/* An entry that no record holds, at each place of the list: 10, also where the buffer is too short. */
+static void unheld(unsigned kind, unsigned number, uint32_t value) {
+    for (size_t at = 0; at < 3; at++) {
+        struct entries e = {0};
+        for (size_t i = 0; i < 3; i++)
+            if (i == at) add(&e, kind, number, value, REST);
+            else add(&e, TARRAVANE_READ, 321, 0, REST);
+        keeps(&e, 3 * TARRAVANE_RECORD, TARRAVANE_NO_RECORD);
+        keeps(&e, 3 * TARRAVANE_RECORD - 1, TARRAVANE_NO_RECORD);
+        keeps(&e, 0, TARRAVANE_NO_RECORD);
+    }
+}
+
+static void unheld_accesses(void) {
+    for (unsigned kind = 3; kind < 256; kind++) unheld(kind, 0, 0);
+    for (int b = 0; b < 16; b++) unheld(TARRAVANE_NONE, 1u << b, 0);
+    for (int b = 0; b < 32; b++) {
+        unheld(TARRAVANE_NONE, 0, UINT32_C(1) << b);
+        unheld(TARRAVANE_READ, 321, UINT32_C(1) << b);
+    }
+    for (unsigned number = 1024; number < 65536; number += number < 2048 ? 1 : 1021) {
+        unheld(TARRAVANE_READ, number, 0);
+        unheld(TARRAVANE_WRITE, number, 0);
+    }
+    unheld(TARRAVANE_WRITE, 65535, UINT32_MAX);
+}
+
+/* One list shorter or longer than the others: 10, also where the buffer is too short for any of them. */
+static void unequal(void) {
+    struct entries e = sound();
+    for (int list = 0; list < 5; list++)
+        for (size_t other = 0; other <= e.count; other++)
+            for (size_t rest = 0; rest <= e.count; rest++) {
+                size_t n[5] = {rest, rest, rest, rest, rest};
+                struct room is = fresh(), wanted = fresh();
+                if (other == rest) continue;
+                n[list] = other;
+                for (size_t length = 0; length <= ENTRIES * TARRAVANE_RECORD; length += ENTRIES * TARRAVANE_RECORD / 2)
+                    CHECK(tarravane_record(e.kinds, n[0], e.registers, n[1], e.values, n[2], e.positive, n[3], e.negative,
+                                           n[4], is.all + MARGIN, length) == -TARRAVANE_NO_RECORD);
+                CHECK(memcmp(is.all, wanted.all, sizeof is.all) == 0);
+            }
+}
+
+/* Each bit of register, value and wires stands where the reader looks for it. */
+static void single_bits(void) {
+    for (int b = 0; b < 64; b++) {
+        struct entries e = {0};
+        add(&e, TARRAVANE_NONE, 0, 0, UINT64_C(1) << b, 0);
+        add(&e, TARRAVANE_NONE, 0, 0, 0, UINT64_C(1) << b);
+        if (b < 32) add(&e, TARRAVANE_WRITE, 0, UINT32_C(1) << b, REST);
+        if (b < 10) add(&e, TARRAVANE_READ, 1u << b, 0, REST);
+        writes(&e, e.count * TARRAVANE_RECORD);
+    }
+}
+
+/* A record of a trace, written again. A malformed one has kind 3 here, and no well-formed record holds that. */
+static void written_again(const uint8_t *record) {
+    struct entries e = {0};
+    uint8_t again[TARRAVANE_RECORD] = {0};
+    uint64_t first = number_at(record);
+    unsigned kind = malformed(first) ? 3 : (unsigned)(first >> 62);
+    add(&e, kind, (unsigned)(first >> 52 & 1023), (uint32_t)first, number_at(record + 8), number_at(record + 16));
+    if (kind == 3) {
+        keeps(&e, TARRAVANE_RECORD, TARRAVANE_NO_RECORD);
+        return;
+    }
+    CHECK(recorded(&e, again, sizeof again) == TARRAVANE_RECORD);
+    CHECK(memcmp(again, record, sizeof again) == 0);
+}
+
+/* A batch of what was written gives what the ticks of its entries give. */
+static void read_back(void) {
+    struct entries e = sound();
+    struct room r = fresh();
+    uint64_t words[ENTRIES];
+    handler first = new_handler(64), h = first;
+    int64_t length = recorded(&e, r.all + MARGIN, e.count * TARRAVANE_RECORD);
+    CHECK(length == (int64_t)(e.count * TARRAVANE_RECORD));
+    struct tarravane_batched b = tarravane_batch(first, r.all + MARGIN, (size_t)length, words, e.count);
+    CHECK(b.answer == 0);
+    for (size_t i = 0; i < e.count; i++) {
+        struct tarravane_answered t =
+            tarravane_tick(h, e.kinds[i], e.registers[i], e.values[i], e.positive[i], e.negative[i]);
+        word_says(words[i], &t);
+        h = t.handler;
+    }
+    CHECK(same(&h, &b.handler));
+}
+
 static void replayed(const char *trace, const char *printed) {
     struct bytes b = contents(trace);
     size_t count = (b.length - 1) / TARRAVANE_RECORD;
@@ -420,6 +611,7 @@ static void replayed(const char *trace, const char *printed) {
     for (size_t i = 0; i < count; i++) {
         struct tarravane_answered t = tick_of(&h, records + i * TARRAVANE_RECORD);
         word_says(all[SPARE + i], &t);
+        written_again(records + i * TARRAVANE_RECORD);
         h = t.handler;
     }
     CHECK(same(&h, &whole.handler));
@@ -437,6 +629,11 @@ int main(int argc, char **argv) {
     patterns();
     damages();
     entries_above();
+    lengths();
+    unheld_accesses();
+    unequal();
+    single_bits();
+    read_back();
     for (int i = 1; i + 1 < argc; i += 2) replayed(argv[i], argv[i + 1]);
     printf("boundary: %lu checks from C hold\n", checks);
     return 0;

@@ -1,6 +1,7 @@
 //! The refusals and the signed number that every call answers.
 
-/// Why an access, a batch or the making of a handler was refused.
+/// Why an access, a batch, the making of a handler or the writing of a trace
+/// was refused.
 #[derive(Clone, Copy, Debug, PartialEq, Eq)]
 pub enum Refusal {
     /// No such register.
@@ -21,6 +22,10 @@ pub enum Refusal {
     BatchLength = 8,
     /// The output list is shorter than the records.
     ShortList = 9,
+    /// No well-formed record holds an access of the written list.
+    Unrecordable = 10,
+    /// The buffer is shorter than the records to write.
+    ShortBuffer = 11,
 }
 
 impl Refusal {

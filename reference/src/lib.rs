@@ -10,8 +10,10 @@ pub mod class;
 pub mod handler;
 pub mod register;
 pub mod trace;
+pub mod writer;
 
 pub use answer::Refusal;
 pub use class::Class;
 pub use handler::{Access, Handler, Source, Ticked};
 pub use trace::batch;
+pub use writer::record;

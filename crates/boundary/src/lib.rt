@@ -1,4 +1,4 @@
-// The handler for callers in C and Rust: making one, one tick, and a batch. Any state may come in, and any bytes are one.
+// The handler for callers in C and Rust: making one, one tick, a batch, and the trace writer. Any state may come in, and any bytes are one.
 use batch::Batched;
 use batch::batch;
 use handler::tick::Answered;
@@ -10,6 +10,7 @@ use rules::Made;
 use rules::Sample;
 use rules::Wires;
 use state::new::new;
+use writer::write;
 ghost use mathlib.Core.Path.{_≡_};
 ghost use mathlib.Core.Bool.{true};
 ghost use Rattle.batch.specs.Given.{Given};
@@ -20,6 +21,7 @@ ghost use Rattle.rules.specs.Batch.{batchVerdict, batchInputs};
 ghost use Rattle.rules.specs.State.{made};
 ghost use Rattle.rules.specs.Tick.{ticked};
 ghost use Rattle.rules.specs.Valid.{valid};
+ghost use Rattle.writer.specs.Lent.{lent, Wrote, ReadBack, WrittenBack};
 
 // The access by a kind's number: 0 none, 1 read, 2 write. Any other is a malformed record.
 fn access_by(kind: u8, register: u16, value: u32) -> Access
@@ -73,4 +75,21 @@ pub extern "C" fn tarravane_batch(h: Handler, bytes: &[u8], out: &mut [u64]) -> 
     ensures demand3 { λ r. ⌜ (valid h ≡ true → Demand3 h (batchInputs (batchVerdict h (now (bytes .entry)) (now (out .entry))) (now (bytes .entry)))) ⌝ }
 {
     batch(h, bytes, out)
+}
+
+// A record for each entry of the lent lists, into the lent buffer.
+#[no_mangle]
+pub extern "C" fn tarravane_record(
+    kinds: &[u8],
+    registers: &[u16],
+    values: &[u32],
+    positive: &[u64],
+    negative: &[u64],
+    out: &mut [u8],
+) -> i64
+    ensures { λ r. ⌜ Wrote (lent (now (kinds .entry)) (now (registers .entry)) (now (values .entry)) (now (positive .entry)) (now (negative .entry))) (now (out .entry)) r (now (out .exit)) ⌝ }
+    ensures readback { λ r. ⌜ ReadBack (lent (now (kinds .entry)) (now (registers .entry)) (now (values .entry)) (now (positive .entry)) (now (negative .entry))) (now (out .entry)) (now (out .exit)) ⌝ }
+    ensures writtenback { λ r. ⌜ WrittenBack (lent (now (kinds .entry)) (now (registers .entry)) (now (values .entry)) (now (positive .entry)) (now (negative .entry))) (now (out .entry)) (now (out .exit)) ⌝ }
+{
+    write(kinds, registers, values, positive, negative, out)
 }

@@ -1,10 +1,17 @@
 //! The one signed number that every call answers.
 
-/// A refusal by its number in document 01, "Numbers that come back".
+/// A refusal by its number in document 01, "Numbers that come back", and in the requests of document 02.
 #[derive(Clone, Copy, Debug, PartialEq, Eq)]
 pub struct Refusal(pub u8);
 
-/// A read gives 0 to 4294967295, anything else accepted 0, a refusal its negated number.
+impl Refusal {
+    /// An access that no well-formed record holds.
+    pub const NO_RECORD: Refusal = Refusal(10);
+    /// A lent buffer that is too short for the records.
+    pub const SHORT_BUFFER: Refusal = Refusal(11);
+}
+
+/// A read gives 0 to 4294967295, writing records the bytes written, anything else accepted 0, a refusal its negated number.
 #[derive(Clone, Copy, Debug, PartialEq, Eq)]
 pub struct Answer(pub i64);
 
@@ -13,7 +20,19 @@ impl Answer {
     pub fn value(self) -> Result<u32, Refusal> {
         match u32::try_from(self.0) {
             Ok(value) => Ok(value),
-            Err(_) => Err(Refusal(self.0.unsigned_abs() as u8)),
+            Err(_) => Err(self.refusal()),
         }
+    }
+
+    /// The bytes that `record` wrote, or the refusal.
+    pub fn bytes(self) -> Result<usize, Refusal> {
+        match usize::try_from(self.0) {
+            Ok(bytes) => Ok(bytes),
+            Err(_) => Err(self.refusal()),
+        }
+    }
+
+    fn refusal(self) -> Refusal {
+        Refusal(self.0.unsigned_abs() as u8)
     }
 }

@@ -3,35 +3,22 @@
 //! The promises stand in `include/tarravane.h` and are proved in `crates/boundary`.
 
 mod answer;
+mod input;
 mod library;
 mod state;
 mod word;
+mod writer;
 
 pub use answer::{Answer, Refusal};
+pub use input::{Access, Input, Wires};
 pub use state::{
     Alerts, Class, Handler, Interrupts, Locals, Output, Receivers, ALERTS, CLASSES, LOCALS, PHASES,
 };
 pub use word::Word;
+pub use writer::{record, record_numbers};
 
 /// The bytes of a trace record.
 pub const RECORD: usize = 24;
-
-/// What goes in as the access of a tick.
-#[derive(Clone, Copy, Debug, PartialEq, Eq)]
-pub enum Access {
-    Nothing,
-    Read(u16),
-    Write(u16, u32),
-    /// what a malformed trace record holds: refusal 5
-    Malformed,
-}
-
-/// The wires of a tick: alert 0 at the highest bit.
-#[derive(Clone, Copy, Debug, PartialEq, Eq)]
-pub struct Wires {
-    pub pos: u64,
-    pub neg: u64,
-}
 
 /// What a tick gives.
 #[derive(Clone, Copy, Debug, PartialEq, Eq)]
@@ -50,12 +37,7 @@ impl Handler {
 
     /// One tick. Refusal 7: state unchanged, tick not run, no outputs. Refusals 1 to 5: the access does nothing, the tick runs.
     pub fn tick(self, access: Access, wires: Wires) -> Ticked {
-        let (kind, register, value) = match access {
-            Access::Nothing => (0, 0, 0),
-            Access::Read(register) => (1, register, 0),
-            Access::Write(register, value) => (2, register, value),
-            Access::Malformed => (3, 0, 0),
-        };
+        let (kind, register, value) = access.numbers();
         let given = library::tick(self, kind, register, value, wires.pos, wires.neg);
         Ticked {
             handler: given.handler,

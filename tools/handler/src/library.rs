@@ -38,6 +38,20 @@ extern "C" {
         out: *mut Word,
         words: usize,
     ) -> Batched;
+    fn tarravane_record(
+        kinds: *const u8,
+        kinds_length: usize,
+        registers: *const u16,
+        registers_length: usize,
+        values: *const u32,
+        values_length: usize,
+        positive: *const u64,
+        positive_length: usize,
+        negative: *const u64,
+        negative_length: usize,
+        bytes: *mut u8,
+        length: usize,
+    ) -> i64;
 }
 
 pub fn new(n: usize) -> Made {
@@ -53,4 +67,31 @@ pub fn tick(h: Handler, kind: u8, register: u16, value: u32, pos: u64, neg: u64)
 pub fn batch(h: Handler, bytes: &[u8], out: &mut [Word]) -> Batched {
     // Safe: both slices are as long as said, not null, aligned, and apart; a Word is a u64.
     unsafe { tarravane_batch(h, bytes.as_ptr(), bytes.len(), out.as_mut_ptr(), out.len()) }
+}
+
+pub fn record(
+    kinds: &[u8],
+    registers: &[u16],
+    values: &[u32],
+    positive: &[u64],
+    negative: &[u64],
+    out: &mut [u8],
+) -> i64 {
+    // Safe: each slice is as long as said, not null and aligned; the one that is written is apart from the others.
+    unsafe {
+        tarravane_record(
+            kinds.as_ptr(),
+            kinds.len(),
+            registers.as_ptr(),
+            registers.len(),
+            values.as_ptr(),
+            values.len(),
+            positive.as_ptr(),
+            positive.len(),
+            negative.as_ptr(),
+            negative.len(),
+            out.as_mut_ptr(),
+            out.len(),
+        )
+    }
 }

@@ -1,10 +1,7 @@
 //! The wrapper asks the library and loses nothing on the way.
 use handler::{Access, Answer, Handler, Refusal, Wires, Word, RECORD};
 
-const REST: Wires = Wires {
-    pos: 0,
-    neg: u64::MAX,
-};
+const REST: Wires = Wires::REST;
 const RAISE: Wires = Wires {
     pos: 1 << 63,
     neg: u64::MAX >> 1,

@@ -12,7 +12,7 @@ use handler::{Access, Wires, Word};
 pub const GUARD: usize = 8;
 
 /// A register number: mostly an assigned one, now and then a CLR.
-fn register(rng: &mut Rng) -> u16 {
+pub fn register(rng: &mut Rng) -> u16 {
     let k = rng.below(4);
     let offset = rng.below(13) as u32;
     let near = rng.below(400) as u16;

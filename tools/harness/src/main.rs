@@ -7,6 +7,8 @@ use harness::compare::{
 use harness::coverage::Coverage;
 use harness::generate::Kind;
 use harness::states::{try_all, Summary, DEFAULT_STATES, PROVED};
+use harness::write::{self, try_lists, DEFAULT_LISTS};
+use std::fmt::Display;
 use std::io::{self, Write};
 use std::path::{Path, PathBuf};
 use std::process::ExitCode;
@@ -20,6 +22,7 @@ const USAGE: &str = "usage:
   harness repeat REPLAY KIND SEED [--records R]  one trace, or its first R records
   harness trace KIND SEED [--records R]          the bytes of a trace
   harness states [--states N] [--seed S]         damaged states through the proved library
+  harness write [--lists N] [--seed S]           lists through the proved trace writer
   harness bench                                  times of proved library and reference
 REPLAY is the program to compare with the reference.
 Exit status: 0 equal, 1 different, 2 bad usage or no such program.";
@@ -45,11 +48,16 @@ fn command(mut words: Vec<String>) -> Result<bool, Trouble> {
     let seed = option(&mut words, "--seed")?;
     let records = option(&mut words, "--records")?;
     let states = option(&mut words, "--states")?;
+    let lists = option(&mut words, "--lists")?;
     let words: Vec<&str> = words.iter().map(String::as_str).collect();
     let first = seed.unwrap_or(DEFAULT_SEED);
     match (words.as_slice(), traces, seed, records) {
-        (["states"], None, _, None) => damaged_states(first, states.unwrap_or(DEFAULT_STATES)),
+        (["states"], None, _, None) if lists.is_none() => {
+            Ok(damaged_states(first, states.unwrap_or(DEFAULT_STATES)))
+        }
         _ if states.is_some() => Err("--states is for states".to_string()),
+        (["write"], None, _, None) => Ok(written_lists(first, lists.unwrap_or(DEFAULT_LISTS))),
+        _ if lists.is_some() => Err("--lists is for write".to_string()),
         (["bench"], None, None, None) => Ok(bench()),
         (["diff", path], _, _, None) => set(path, generated(first), traces),
         (["damage", path], _, _, None) => set(path, damage(first), traces),
@@ -103,7 +111,7 @@ fn set(
     let mut coverage = Coverage::default();
     let cases = cases.take(traces.unwrap_or(DEFAULT_TRACES) as usize);
     let found = compare_all(&program(path), cases, &mut coverage).map_err(trouble)?;
-    Ok(report(found, &coverage, begin.elapsed()))
+    Ok(report(begin, &coverage, found, Difference::command))
 }
 
 /// Compares fresh traces until the time is over.
@@ -125,7 +133,7 @@ fn fuzz(path: &str, seconds: u64, seed: Option<u64>) -> Result<bool, Trouble> {
         now < end
     });
     let found = compare_all(&program(path), cases, &mut coverage).map_err(trouble)?;
-    Ok(report(found, &coverage, begin.elapsed()))
+    Ok(report(begin, &coverage, found, Difference::command))
 }
 
 /// A seed from the clock, small enough to type.
@@ -139,7 +147,7 @@ fn repeat(path: &str, case: Case) -> Result<bool, Trouble> {
     let begin = Instant::now();
     let mut coverage = Coverage::default();
     let found = compare(&program(path), case, &mut coverage).map_err(trouble)?;
-    Ok(report(found, &coverage, begin.elapsed()))
+    Ok(report(begin, &coverage, found, Difference::command))
 }
 
 /// Writes a trace's bytes to standard output.
@@ -149,20 +157,23 @@ fn print_trace(case: Case) -> Result<bool, Trouble> {
 }
 
 /// Tries damaged states and prints how many were refused.
-fn damaged_states(seed: u64, states: u64) -> Result<bool, Trouble> {
+fn damaged_states(seed: u64, states: u64) -> bool {
     let begin = Instant::now();
     let mut summary = Summary::default();
     let found = try_all(&PROVED, seed, states, &mut summary);
-    println!("{summary}");
-    println!("time {:.1} seconds", begin.elapsed().as_secs_f64());
-    let Some(found) = found else {
-        println!("EQUAL");
-        return Ok(true);
-    };
-    println!("{found}");
-    let own = std::env::args().next().unwrap_or_default();
-    println!("repeat: {own} states --states 1 --seed {}", found.seed);
-    Ok(false)
+    report(begin, &summary, found, |found| {
+        format!("states --states 1 --seed {}", found.seed)
+    })
+}
+
+/// Tries lists for the trace writer and prints how many were written.
+fn written_lists(seed: u64, lists: u64) -> bool {
+    let begin = Instant::now();
+    let mut summary = write::Summary::default();
+    let found = try_lists(&write::PROVED, seed, lists, &mut summary);
+    report(begin, &summary, found, |found| {
+        format!("write --lists 1 --seed {}", found.seed)
+    })
 }
 
 /// Prints the times of every load; says whether all words were equal.
@@ -181,22 +192,24 @@ fn bench() -> bool {
     equal
 }
 
-/// Prints the outcome; says whether all was equal.
-fn report(found: Option<Difference>, coverage: &Coverage, time: Duration) -> bool {
-    println!("{coverage}");
-    println!("time {:.1} seconds", time.as_secs_f64());
-    match found {
-        None => {
-            println!("EQUAL");
-            true
-        }
-        Some(difference) => {
-            println!("{difference}");
-            let own = std::env::args().next().unwrap_or_default();
-            println!("repeat: {own} {}", difference.command());
-            false
-        }
-    }
+/// Prints the outcome, and for a difference the words after the harness's own
+/// name that repeat it; says whether all was equal.
+fn report<D: Display>(
+    begin: Instant,
+    summary: &impl Display,
+    found: Option<D>,
+    command: impl Fn(&D) -> String,
+) -> bool {
+    println!("{summary}");
+    println!("time {:.1} seconds", begin.elapsed().as_secs_f64());
+    let Some(found) = found else {
+        println!("EQUAL");
+        return true;
+    };
+    println!("{found}");
+    let own = std::env::args().next().unwrap_or_default();
+    println!("repeat: {own} {}", command(&found));
+    false
 }
 
 fn trouble(error: io::Error) -> Trouble {

@@ -3,6 +3,7 @@
 
 use crate::generate::{trace, Kind};
 use crate::lists::{access, wires, Lists};
+use crate::odd::Odd;
 use crate::place::Place;
 use crate::record::RECORD;
 use crate::rng::Rng;
@@ -36,19 +37,6 @@ pub const PROVED: Subject = Subject {
     tick: Handler::tick,
     batch: Handler::batch,
 };
-
-/// Something that is not as the reference has it.
-#[derive(Debug)]
-pub struct Odd {
-    /// The call.
-    pub call: &'static str,
-    /// The answer, output, word or field of the next state.
-    pub field: String,
-    /// What the reference has.
-    pub reference: String,
-    /// What the subject gave.
-    pub got: String,
-}
 
 /// A state that shows a difference.
 #[derive(Debug)]
@@ -189,12 +177,8 @@ fn batch(subject: &Subject, state: &Handler, rng: &mut Rng, summary: &mut Summar
     )
     .or_else(|| word_odd(&numbers, &lists.numbers()))
     .or_else(|| {
-        lists.disturbed(&before).map(|field| Odd {
-            call: "batch",
-            field,
-            reference: "as before".to_string(),
-            got: "changed".to_string(),
-        })
+        let field = lists.disturbed(&before)?;
+        Some(Odd::new("batch", field, "as before", "changed"))
     })
     .or_else(|| state_odd("batch", &handler_of(&twin), &after))
 }
@@ -202,23 +186,13 @@ fn batch(subject: &Subject, state: &Handler, rng: &mut Rng, summary: &mut Summar
 /// The first number that differs.
 fn first_odd(call: &'static str, pairs: &[(&str, i64, i64)]) -> Option<Odd> {
     let (field, reference, got) = pairs.iter().find(|pair| pair.1 != pair.2)?;
-    Some(Odd {
-        call,
-        field: field.to_string(),
-        reference: reference.to_string(),
-        got: got.to_string(),
-    })
+    Some(Odd::new(call, field, reference, got))
 }
 
 /// The first word that differs; later words count too.
 fn word_odd(wanted: &[u64], got: &[u64]) -> Option<Odd> {
     let at = (0..wanted.len()).find(|at| wanted[*at] != got[*at])?;
-    Some(Odd {
-        call: "batch",
-        field: format!("word {at}"),
-        reference: format!("{:016x}", wanted[at]),
-        got: format!("{:016x}", got[at]),
-    })
+    Some(Odd::word("batch", at, wanted[at], got[at]))
 }
 
 /// The first field of the next state that differs.
@@ -229,14 +203,10 @@ fn state_odd(call: &'static str, wanted: &Handler, got: &Handler) -> Option<Odd>
     let mut places = Place::all().into_iter();
     let place = places.find(|place| place.get(wanted) != place.get(got));
     let hex = |state| place.map_or(String::new(), |place| format!("{:#x}", place.get(state)));
-    Some(Odd {
-        call,
-        field: place.map_or("a field without a name".to_string(), |place| {
-            place.to_string()
-        }),
-        reference: hex(wanted),
-        got: hex(got),
-    })
+    let name = place.map_or("a field without a name".to_string(), |place| {
+        place.to_string()
+    });
+    Some(Odd::new(call, name, hex(wanted), hex(got)))
 }
 
 impl fmt::Display for Summary {

@@ -1,59 +1,10 @@
 //! `explain`: a row for each tick of a trace, record by record, so that memory stays bounded.
-use crate::args::Explain;
+use crate::args::explain::Explain;
 use crate::progress::Progress;
 use crate::row::{changes, row, Tick, HEADER};
+use crate::trace::{self, filled, made};
 use handler::{Handler, Word, RECORD};
-use std::fs::File;
-use std::io::{stdin, stdout, BufReader, BufWriter, ErrorKind, Read, Write};
-
-/// The trace, and how many ticks it has where that is known.
-fn opened(trace: &str) -> Result<(Box<dyn Read>, Option<u64>), String> {
-    if trace == "-" {
-        return Ok((Box::new(stdin()), None));
-    }
-    let file = File::open(trace).map_err(|e| format!("cannot open {trace}: {e}"))?;
-    let length = file
-        .metadata()
-        .ok()
-        .filter(|m| m.is_file())
-        .map(|m| m.len());
-    Ok((
-        Box::new(file),
-        length.map(|bytes| bytes.saturating_sub(1) / RECORD as u64),
-    ))
-}
-
-/// Fills as much of the buffer as the trace has bytes left.
-fn filled(from: &mut impl Read, buffer: &mut [u8], trace: &str) -> Result<usize, String> {
-    let mut have = 0;
-    while have < buffer.len() {
-        match from.read(&mut buffer[have..]) {
-            Ok(0) => break,
-            Ok(more) => have += more,
-            Err(e) if e.kind() == ErrorKind::Interrupted => {}
-            Err(e) => return Err(format!("cannot read {trace}: {e}")),
-        }
-    }
-    Ok(have)
-}
-
-/// The handler that the first byte asks for.
-fn made(from: &mut impl Read, trace: &str) -> Result<Handler, String> {
-    let mut n = [0];
-    if filled(from, &mut n, trace)? == 0 {
-        return Err(format!(
-            "{trace} is empty: a trace begins with the number of alerts"
-        ));
-    }
-    let (handler, answer) = Handler::new(usize::from(n[0]));
-    match answer.value() {
-        Ok(_) => Ok(handler),
-        Err(_) => Err(format!(
-            "{trace} asks for {} alerts: a handler is made for 1 to 64",
-            n[0]
-        )),
-    }
-}
+use std::io::{stdout, BufWriter, ErrorKind, Read, Write};
 
 /// The state and the word after one record.
 fn ticked(h: Handler, record: &[u8; RECORD]) -> Result<(Handler, Word), String> {
@@ -133,10 +84,9 @@ fn rows(
 }
 
 pub fn explain(asked: &Explain) -> Result<(), String> {
-    let (from, ticks) = opened(&asked.trace)?;
-    let mut from = BufReader::with_capacity(4096 * RECORD, from);
+    let (mut from, bytes) = trace::opened(&asked.trace)?;
     let mut out = BufWriter::new(stdout().lock());
-    let mut progress = Progress::new(ticks);
+    let mut progress = Progress::new("tick", bytes.map(trace::records));
     let done = rows(asked, &mut from, &mut out, &mut progress);
     progress.clear();
     match out.flush() {

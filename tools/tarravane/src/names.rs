@@ -1,5 +1,7 @@
 //! Document 01's words for the numbers of a trace.
 use handler::Refusal;
+use std::collections::HashMap;
+use std::sync::OnceLock;
 
 const SETTINGS: [&str; 13] = [
     "REGWEN",
@@ -26,9 +28,9 @@ fn setting(number: u16) -> Option<(char, &'static str)> {
     Some((*class, SETTINGS.get(usize::from(at % 16))?))
 }
 
-/// The name of a register number; `#` and the number where the map has none.
-pub fn register(number: u16) -> String {
-    match number {
+/// The name of a register number, where the map has one.
+fn name(number: u16) -> Option<String> {
+    let name = match number {
         0 => "INTR_STATE".to_string(),
         1 => "INTR_ENABLE".to_string(),
         2 => "INTR_TEST".to_string(),
@@ -40,11 +42,24 @@ pub fn register(number: u16) -> String {
         128..=191 => format!("ALERT{}_EN", number - 128),
         192..=255 => format!("ALERT{}_CLASS", number - 192),
         256..=319 => format!("ALERT{}_CAUSE", number - 256),
-        _ => match setting(number) {
-            Some((class, name)) => format!("CLASS{class}_{name}"),
-            None => format!("#{number}"),
-        },
-    }
+        _ => {
+            let (class, name) = setting(number)?;
+            format!("CLASS{class}_{name}")
+        }
+    };
+    Some(name)
+}
+
+/// A register by its name; by its number where the map has none.
+pub fn register(number: u16) -> String {
+    name(number).unwrap_or_else(|| number.to_string())
+}
+
+/// The number of a register's name.
+pub fn number(register: &str) -> Option<u16> {
+    static NUMBERS: OnceLock<HashMap<String, u16>> = OnceLock::new();
+    let all = || (0..1024).filter_map(|n| Some((name(n)?, n))).collect();
+    NUMBERS.get_or_init(all).get(register).copied()
 }
 
 /// A value that is written: to CTRL in hex, to any other register in decimal.
@@ -91,7 +106,7 @@ pub fn short_state(number: u8) -> &'static str {
     }
 }
 
-/// A refusal of an access; `reads` tells which way 2 means.
+/// A refusal of an access or of the writer; `reads` tells which way 2 means.
 pub fn refusal(refusal: Refusal, reads: bool) -> &'static str {
     match refusal.0 {
         1 => "no register",
@@ -100,6 +115,8 @@ pub fn refusal(refusal: Refusal, reads: bool) -> &'static str {
         3 => "locked",
         4 => "too wide",
         5 => "malformed",
+        10 => "no record holds it",
+        11 => "buffer too short",
         _ => "refused",
     }
 }
@@ -113,9 +130,9 @@ mod tests {
         for (number, name) in [
             (0, "INTR_STATE"),
             (2, "INTR_TEST"),
-            (3, "#3"),
+            (3, "3"),
             (22, "LOC_ALERT6_REGWEN"),
-            (23, "#23"),
+            (23, "23"),
             (42, "LOC_ALERT2_CAUSE"),
             (64, "ALERT0_REGWEN"),
             (133, "ALERT5_EN"),
@@ -124,14 +141,32 @@ mod tests {
             (320, "CLASSA_REGWEN"),
             (321, "CLASSA_CTRL"),
             (332, "CLASSA_STATE"),
-            (333, "#333"),
+            (333, "333"),
             (336, "CLASSB_REGWEN"),
             (378, "CLASSD_PHASE3_CYC"),
             (380, "CLASSD_STATE"),
-            (384, "#384"),
-            (1023, "#1023"),
+            (384, "384"),
+            (1023, "1023"),
         ] {
             assert_eq!(register(number), name);
+        }
+    }
+
+    #[test]
+    fn a_name_gives_its_number_and_nothing_else_does() {
+        for n in 0..=u16::MAX {
+            assert_eq!(number(&register(n)), name(n).map(|_| n));
+        }
+        for other in [
+            "",
+            "CLASSA",
+            "CLASSE_CTRL",
+            "ALERT64_EN",
+            "ALERT00_EN",
+            "classa_ctrl",
+            "1",
+        ] {
+            assert_eq!(number(other), None, "{other}");
         }
     }
 

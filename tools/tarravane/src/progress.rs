@@ -1,34 +1,37 @@
-//! How far a long trace has been read, on standard error where that is a terminal.
+//! How far a long input has been read, on standard error where that is a terminal.
 use std::io::{stderr, IsTerminal};
 
-/// Ticks from one word to the next.
+/// Units from one word to the next.
 const EVERY: u64 = 1 << 16;
 
 pub struct Progress {
     on: bool,
     shown: bool,
-    ticks: Option<u64>,
+    unit: &'static str,
+    all: Option<u64>,
 }
 
 impl Progress {
-    /// `ticks`: how many the trace has, where that is known.
-    pub fn new(ticks: Option<u64>) -> Progress {
+    /// `unit`: what is counted; `all`: how many there are, where that is known.
+    pub fn new(unit: &'static str, all: Option<u64>) -> Progress {
         Progress {
             on: stderr().is_terminal(),
             shown: false,
-            ticks,
+            unit,
+            all,
         }
     }
 
-    /// Is there a word to say at this tick?
-    pub fn is_due(&self, tick: u64) -> bool {
-        self.on && tick.is_multiple_of(EVERY)
+    /// Is there a word to say at this number?
+    pub fn is_due(&self, number: u64) -> bool {
+        self.on && number.is_multiple_of(EVERY)
     }
 
-    pub fn say(&mut self, tick: u64) {
-        match self.ticks {
-            Some(ticks) => eprint!("\rtick {tick} of {ticks}"),
-            None => eprint!("\rtick {tick}"),
+    pub fn say(&mut self, number: u64) {
+        let unit = self.unit;
+        match self.all {
+            Some(all) => eprint!("\r{unit} {number} of {all}"),
+            None => eprint!("\r{unit} {number}"),
         }
         self.shown = true;
     }

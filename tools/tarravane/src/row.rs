@@ -1,12 +1,13 @@
 //! The row of a tick.
-use crate::names;
-use handler::{Class, Handler, Word, RECORD};
+use crate::text::{access, line, wires};
+use crate::{names, trace};
+use handler::{Access, Class, Handler, Input, Word, RECORD};
 
 /// No row is wider.
 pub const WIDTH: usize = 120;
 
 pub const HEADER: &str =
-    "  tick access                          answer               intr line A        B        C        D        causes set";
+    "  tick access, wires                   answer               intr line A        B        C        D        causes set";
 
 /// In columns, else squeezed, else with short words and counts: the first that fits.
 #[derive(Clone, Copy, PartialEq, Eq)]
@@ -25,46 +26,36 @@ pub struct Tick<'a> {
     pub word: Word,
 }
 
-/// The first 8 bytes of a record, as they are written, for reading only: the library judges them.
-struct Written {
-    kind: u8,
-    register: u16,
-    value: u32,
-}
-
-fn written(record: &[u8; RECORD]) -> Written {
-    let first = record[..8]
-        .iter()
-        .fold(0, |all: u64, byte| all << 8 | u64::from(*byte));
-    Written {
-        kind: (first >> 62) as u8,
-        register: (first >> 52 & 1023) as u16,
-        value: first as u32,
+/// Wires as the number of alerts that are off rest, after these words; nothing where all are at rest.
+fn counted(words: &str, x: &Input) -> String {
+    match wires::count(x.wires) {
+        0 => String::new(),
+        alerts => format!("{words}~{alerts}"),
     }
 }
 
-fn access(x: &Written, form: Form) -> String {
-    let name = names::register(x.register);
-    let (read, write) = if form == Form::Short {
-        ("r", "w")
-    } else {
-        ("read", "write")
+/// The access with r for read and w for write, and the wires as a number.
+fn shortest(x: &Input) -> String {
+    let words = access::words(x.access);
+    let access = match words.split_once(' ') {
+        Some(("read", rest)) => format!("r {rest}"),
+        Some(("write", rest)) => format!("w {rest}"),
+        _ => words,
     };
-    match x.kind {
-        0 => "none".to_string(),
-        1 => format!("{read} {name}"),
-        2 => format!("{write} {name} {}", names::written(x.register, x.value)),
-        _ => "kind 3".to_string(),
-    }
+    access + &counted(" ", x)
 }
 
-fn answer(x: &Written, word: Word, form: Form) -> String {
-    match word.refusal() {
-        Some(refusal) if form == Form::Short => names::refusal(refusal, x.kind == 1).to_string(),
-        Some(refusal) => format!("refused: {}", names::refusal(refusal, x.kind == 1)),
-        None if x.kind == 1 => names::read(x.register, word.value()),
-        None if x.kind == 2 => "done".to_string(),
-        None => "-".to_string(),
+fn reads(x: &Input) -> bool {
+    matches!(x.access, Access::Read(_))
+}
+
+fn answer(x: &Input, word: Word, form: Form) -> String {
+    match (word.refusal(), x.access) {
+        (Some(refusal), _) if form == Form::Short => names::refusal(refusal, reads(x)).to_string(),
+        (Some(refusal), _) => format!("refused: {}", names::refusal(refusal, reads(x))),
+        (None, Access::Read(register)) => names::read(register, word.value()),
+        (None, Access::Write(..)) => "done".to_string(),
+        (None, _) => "-".to_string(),
     }
 }
 
@@ -72,11 +63,11 @@ fn flags(names: [char; 4], on: impl Fn(usize) -> bool) -> String {
     (0..4).map(|b| if on(b) { names[b] } else { '-' }).collect()
 }
 
-/// A count in at most four columns.
+/// A count in at most four columns, up to 65535 in three.
 fn short(count: u32) -> String {
     match count {
-        0..=9_999 => count.to_string(),
-        10_000..=999_999 => format!("{}k", count / 1_000),
+        0..=999 => count.to_string(),
+        1_000..=999_999 => format!("{}k", count / 1_000),
         1_000_000..=999_999_999 => format!("{}M", count / 1_000_000),
         _ => format!("{}G", count / 1_000_000_000),
     }
@@ -132,32 +123,35 @@ fn fitted(causes: &[String], room: usize) -> String {
     text
 }
 
-fn columns(t: &Tick, form: Form) -> String {
-    let x = written(t.record);
+/// The row up to the causes; `said`: what it says of access and wires.
+fn columns(t: &Tick, x: &Input, said: &str, form: Form) -> String {
     let intr = flags(names::CLASSES, |k| t.word.interrupt(k));
     let line = flags(['0', '1', '2', '3'], |e| t.word.line(e));
     let [a, b, c, d] = [0, 1, 2, 3].map(|k| class(&t.after.classes[k], form));
-    let (number, access, answer) = (t.number, access(&x, form), answer(&x, t.word, form));
+    let (number, answer) = (t.number, answer(x, t.word, form));
     match form {
         Form::Columns => {
-            format!(
-                "{number:>6} {access:<31} {answer:<20} {intr} {line} {a:<8} {b:<8} {c:<8} {d:<8}"
-            )
+            format!("{number:>6} {said:<31} {answer:<20} {intr} {line} {a:<8} {b:<8} {c:<8} {d:<8}")
         }
-        _ => format!("{number:>6} {access}: {answer} {intr} {line} {a} {b} {c} {d}"),
+        _ => format!("{number:>6} {said}: {answer} {intr} {line} {a} {b} {c} {d}"),
     }
 }
 
-/// The row in the first form that has room for it; in short form causes may be left out, and are then counted.
+/// The row in the first form that has room for it, with the line of a text, else with the wires counted; in short form
+/// causes may be left out, and are then counted.
 pub fn row(t: &Tick) -> String {
+    let x = trace::input(t.record);
     let causes = causes(t.before, t.after);
-    for form in [Form::Columns, Form::Squeezed] {
-        let row = columns(t, form) + &causes.concat();
-        if row.trim_end().len() <= WIDTH {
-            return row.trim_end().to_string();
+    let counted = access::words(x.access) + &counted(" wires ", &x);
+    for said in [line::words(&x), counted] {
+        for form in [Form::Columns, Form::Squeezed] {
+            let row = columns(t, &x, &said, form) + &causes.concat();
+            if row.trim_end().len() <= WIDTH {
+                return row.trim_end().to_string();
+            }
         }
     }
-    let short = columns(t, Form::Short);
+    let short = columns(t, &x, &shortest(&x), Form::Short);
     let room = WIDTH.saturating_sub(short.len());
     short + &fitted(&causes, room)
 }
@@ -182,7 +176,7 @@ mod tests {
         after.alerts.cause = [1; 64];
         after.locals.cause = [1; 7];
         for c in &mut after.classes {
-            (c.state, c.count, c.accum) = (1, 999_999, 9_999);
+            (c.state, c.count, c.accum) = (1, 999_999, u16::MAX);
         }
         after
     }
@@ -206,6 +200,8 @@ mod tests {
         {
             let mut record = [0; RECORD];
             record[..8].copy_from_slice(&(first << 52 | u64::from(u32::MAX)).to_be_bytes());
+            // Every alert is off rest, and no neighbours are at the same levels.
+            record[8..16].fill(0xAA);
             let mut words = [Word::default()];
             before.batch(&record, &mut words);
             let word = Word(words[0].0 | 0xFF << 56 | u64::from(u32::MAX));
@@ -226,8 +222,9 @@ mod tests {
     fn counts_are_short_in_four_columns() {
         for (count, text) in [
             (0, "0"),
-            (9_999, "9999"),
-            (10_000, "10k"),
+            (999, "999"),
+            (1_000, "1k"),
+            (65_535, "65k"),
             (999_999, "999k"),
             (1_000_000, "1M"),
             (u32::MAX, "4G"),

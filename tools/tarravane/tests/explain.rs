@@ -1,53 +1,14 @@
 //! `explain` as a technician runs it.
-use std::io::Write;
-use std::path::PathBuf;
-use std::process::{Command, Output, Stdio};
-use std::thread;
+mod common;
 
-const REST: (u64, u64) = (0, u64::MAX);
-
-fn example(name: &str) -> String {
-    let root = PathBuf::from(env!("CARGO_MANIFEST_DIR")).join("../..");
-    root.join("examples")
-        .join(name)
-        .to_string_lossy()
-        .into_owned()
-}
-
-/// Runs `explain` with these words, the bytes on standard input.
-fn run(words: &[&str], input: &[u8]) -> Output {
-    let mut child = Command::new(env!("CARGO_BIN_EXE_tarravane-cli"))
-        .arg("explain")
-        .args(words)
-        .stdin(Stdio::piped())
-        .stdout(Stdio::piped())
-        .stderr(Stdio::piped())
-        .spawn()
-        .expect("it starts");
-    let mut to = child.stdin.take().expect("its input");
-    let input = input.to_vec();
-    // A run that reads no further closes its input: that is no fault.
-    let feeder = thread::spawn(move || drop(to.write_all(&input)));
-    let output = child.wait_with_output().expect("it ends");
-    feeder.join().expect("the feeder ends");
-    output
-}
+use common::{example, given, record, refused, REST};
+use std::process::Command;
 
 /// The rows of a run that goes well, without the two lines above them.
 fn rows(words: &[&str], input: &[u8]) -> Vec<String> {
-    let output = run(words, input);
-    assert!(output.status.success());
-    assert!(output.stderr.is_empty());
-    let text = String::from_utf8(output.stdout).expect("text");
+    let text = String::from_utf8(given("explain", words, input)).expect("text");
     assert!(text.lines().all(|line| line.len() <= 120));
     text.lines().skip(2).map(str::to_string).collect()
-}
-
-fn record(kind: u64, register: u64, value: u64, (pos, neg): (u64, u64)) -> Vec<u8> {
-    [kind << 62 | register << 52 | value, pos, neg]
-        .iter()
-        .flat_map(|word| word.to_be_bytes())
-        .collect()
 }
 
 fn numbers(rows: &[String]) -> Vec<u64> {
@@ -73,7 +34,7 @@ fn the_broken_seal_is_told_tick_by_tick() {
     };
     has(1, &["write ALERT0_EN 1", "done", "---- ----"]);
     has(7, &["write CLASSA_CTRL 0x393f"]);
-    has(9, &["none", "Idle 0/1", "ALERT0"]);
+    has(9, &["none wires 0=10 ", "Idle 0/1", "ALERT0"]);
     has(10, &["read CLASSA_ACCUM_CNT", " 1 "]);
     has(13, &["---- 0---", "Ph0 1/3"]);
     has(15, &["write CLASSA_CLR 1", "refused: locked", "Ph0 3/3"]);
@@ -144,14 +105,7 @@ fn bad_input_is_one_line_and_status_2() {
         (&["-", "--all"], &[]),
     ];
     for (words, input) in bad {
-        let output = run(words, input);
-        assert_eq!(output.status.code(), Some(2), "{words:?}");
-        assert!(output.stdout.is_empty(), "{words:?}");
-        let said = String::from_utf8(output.stderr).expect("text");
-        assert!(
-            said.starts_with("tarravane: ") && said.ends_with('\n') && said.lines().count() == 1,
-            "{said}"
-        );
+        refused("explain", words, input);
     }
 }
 
@@ -177,6 +131,38 @@ fn a_crowded_tick_fits() {
     assert!(rows[22_135].contains("Ph0 22000/11000"), "{}", rows[22_135]);
 }
 
+/// Wires that have no room are counted: first beside whole words, then in short form.
+#[test]
+fn wires_that_do_not_fit_are_counted() {
+    let apart = (0xAAAA_AAAA_AAAA_AAAA, 0);
+    let mut bytes = vec![64];
+    bytes.extend(record(1, 321, 0, (1 << 63, u64::MAX)));
+    bytes.extend(record(1, 321, 0, apart));
+    for k in 0..4 {
+        bytes.extend(record(2, 326 + 16 * k, u64::from(u32::MAX), apart));
+        bytes.extend(record(2, 321 + 16 * k, 0x393F, apart));
+    }
+    bytes.extend(record(2, 2, 15, apart));
+    bytes.extend(record(2, 373, u64::from(u32::MAX), apart).repeat(20_000));
+    let rows = rows(&["-"], &bytes);
+    assert!(
+        rows[0].contains(" read CLASSA_CTRL wires 0=11 "),
+        "{}",
+        rows[0]
+    );
+    assert!(
+        rows[1].contains(" read CLASSA_CTRL wires ~64 "),
+        "{}",
+        rows[1]
+    );
+    let last = &rows[rows.len() - 1];
+    assert!(
+        last.contains(" w CLASSD_ACCUM_THRESH 4294967295 ~64: too wide "),
+        "{last}"
+    );
+    assert!(last.contains(" To 20k/0 "), "{last}");
+}
+
 #[test]
 fn help_says_how() {
     let output = Command::new(env!("CARGO_BIN_EXE_tarravane-cli"))
@@ -185,7 +171,15 @@ fn help_says_how() {
         .expect("it runs");
     assert!(output.status.success());
     let text = String::from_utf8(output.stdout).expect("text");
-    for word in ["explain", "--from", "--to", "--only-changes"] {
+    for word in [
+        "explain",
+        "--from",
+        "--to",
+        "--only-changes",
+        "record",
+        "--back",
+        "-o",
+    ] {
         assert!(text.contains(word));
     }
 }

@@ -1,0 +1,35 @@
+// Request (ii), write our own traces: what the writer answers, and the buffer that it leaves.
+use crate::play::print;
+use crate::play::print_answer;
+use crate::play::print_number;
+use writer::write;
+
+// The buffer's bytes.
+fn show_bytes(bytes: &[u8]) {
+    for i in 0..bytes.len() {
+        print(b" ");
+        print_number(bytes[i] as u64);
+    }
+    print(b"\n");
+}
+
+// A read of 321 and a write of 0 to this register, with negative wire 0 at 1, into the first bytes of a buffer.
+fn show_two(register: u16, out: &mut [u8]) {
+    let registers: [u16; 2] = [321, register];
+    let negative: [u64; 2] = [0x8000_0000_0000_0000; 2];
+    let answer = write(&[1, 2], &registers, &[0, 0], &[0, 0], &negative, out);
+    print(b"  ");
+    print_answer(answer);
+    show_bytes(out);
+}
+
+// The two records of document 01; a register that no record holds; a buffer one byte too short; both.
+pub fn two_records() {
+    print(b"writing\n");
+    let mut long: [u8; 50] = [7; 50];
+    show_two(1023, &mut long);
+    show_two(1024, &mut long);
+    let mut short: [u8; 47] = [7; 47];
+    show_two(1023, &mut short);
+    show_two(1024, &mut short);
+}

@@ -1,0 +1,94 @@
+-- Calls by their numbers: records, what stands behind them, and each refusal.
+-- Assumes nothing.
+use Prim.Native.Nat.{ℕ}
+use mathlib.Core.Path.{_≡_, refl}
+use mathlib.Core.List.{List, [], _∷_}
+use lib.IntN.{pos, negsuc}
+use lib.ListN.{drop}
+use Rattle.bits.specs.Fields.{pack, unpack}
+use Rattle.bits.specs.Index.{eachFrom}
+use Rattle.rules.specs.Answer.{firstOf, number}
+use Rattle.rules.specs.Record.{accessOf, recordOf, recordable}
+use Rattle.rules.specs.Writer.{recordsOf, anyUnrecordable, writeVerdict, writeOf, write}
+use Rattle.writer.specs.Lent.{Lent, listOf, writeLent}
+
+-- one entry, with no wire high
+abbrev entry : ℕ → ℕ → ℕ → Lent
+entry kind register value =
+    record { kinds = kind ∷ []; registers = register ∷ []; values = value ∷ []; positive = 0 ∷ []; negative = 0 ∷ [] }
+
+-- a buffer for one record
+abbrev room : List ℕ
+room = 9 ∷ 9 ∷ 9 ∷ 9 ∷ 9 ∷ 9 ∷ 9 ∷ 9 ∷ 9 ∷ 9 ∷ 9 ∷ 9 ∷ 9 ∷ 9 ∷ 9 ∷ 9 ∷ 9 ∷ 9 ∷ 9 ∷ 9 ∷ 9 ∷ 9 ∷ 9 ∷ 9 ∷ []
+
+-- a read of 333 with alert 0's positive and alert 63's negative wire high; one byte stands behind the record
+read-333 : writeLent (record { kinds = 1 ∷ []; registers = 333 ∷ []; values = 0 ∷ []; positive = 0x8000000000000000 ∷ []; negative = 1 ∷ [] }) (7 ∷ room)
+    ≡ record {
+      answer = pos 24;
+      buffer = 0x54 ∷ 0xd0 ∷ 0 ∷ 0 ∷ 0 ∷ 0 ∷ 0 ∷ 0 ∷ 0x80 ∷ 0 ∷ 0 ∷ 0 ∷ 0 ∷ 0 ∷ 0 ∷ 0 ∷ 0 ∷ 0 ∷ 0 ∷ 0 ∷ 0 ∷ 0 ∷ 0 ∷ 1 ∷ 9 ∷ [];
+    }
+unfolding writeLent write writeVerdict firstOf writeOf listOf eachFrom recordsOf anyUnrecordable recordable recordOf accessOf pack unpack
+read-333 = refl
+
+-- a write of 0x01020304 to 1023
+write-1023 : writeLent (entry 2 1023 0x01020304) room
+    ≡ record {
+      answer = pos 24;
+      buffer = 0xbf ∷ 0xf0 ∷ 0 ∷ 0 ∷ 1 ∷ 2 ∷ 3 ∷ 4 ∷ 0 ∷ 0 ∷ 0 ∷ 0 ∷ 0 ∷ 0 ∷ 0 ∷ 0 ∷ 0 ∷ 0 ∷ 0 ∷ 0 ∷ 0 ∷ 0 ∷ 0 ∷ 0 ∷ [];
+    }
+unfolding writeLent write writeVerdict firstOf writeOf listOf eachFrom recordsOf anyUnrecordable recordable recordOf accessOf pack unpack
+write-1023 = refl
+
+no-entries : writeLent (record { kinds = []; registers = []; values = []; positive = []; negative = [] }) [] ≡ record { answer = pos 0; buffer = [] }
+unfolding writeLent write writeVerdict firstOf writeOf listOf eachFrom recordsOf anyUnrecordable
+no-entries = refl
+
+-- ── -10 ──
+
+module _ (l : Lent) (buffer : List ℕ) where
+  abbrev RefusedBy10 : Type 0
+  RefusedBy10 = writeLent l buffer ≡ record { answer = negsuc 9; buffer = buffer }
+
+  abbrev RefusedBy11 : Type 0
+  RefusedBy11 = writeLent l buffer ≡ record { answer = negsuc 10; buffer = buffer }
+
+kind-3 : RefusedBy10 (entry 3 0 0) room
+unfolding writeLent write writeVerdict firstOf writeOf listOf eachFrom anyUnrecordable recordable accessOf number
+kind-3 = refl
+
+kind-4 : RefusedBy10 (entry 4 0 0) room
+unfolding writeLent write writeVerdict firstOf writeOf listOf eachFrom anyUnrecordable recordable accessOf number
+kind-4 = refl
+
+read-with-value : RefusedBy10 (entry 1 0 1) room
+unfolding writeLent write writeVerdict firstOf writeOf listOf eachFrom anyUnrecordable recordable accessOf number
+read-with-value = refl
+
+none-with-register : RefusedBy10 (entry 0 1 0) room
+unfolding writeLent write writeVerdict firstOf writeOf listOf eachFrom anyUnrecordable recordable accessOf number
+none-with-register = refl
+
+none-with-value : RefusedBy10 (entry 0 0 1) room
+unfolding writeLent write writeVerdict firstOf writeOf listOf eachFrom anyUnrecordable recordable accessOf number
+none-with-value = refl
+
+register-1024 : RefusedBy10 (entry 2 1024 0) room
+unfolding writeLent write writeVerdict firstOf writeOf listOf eachFrom anyUnrecordable recordable accessOf number
+register-1024 = refl
+
+-- a list that is longer than the kinds
+long-list : RefusedBy10 (record { kinds = []; registers = []; values = []; positive = []; negative = 0 ∷ [] }) room
+unfolding writeLent writeOf number
+long-list = refl
+
+-- no room either: 10 comes first
+before-11 : RefusedBy10 (entry 3 0 0) []
+unfolding writeLent write writeVerdict firstOf writeOf listOf eachFrom anyUnrecordable recordable accessOf number
+before-11 = refl
+
+-- ── -11 ──
+
+-- 23 bytes
+no-room : RefusedBy11 (entry 0 0 0) (drop 1 room)
+unfolding writeLent write writeVerdict firstOf writeOf listOf eachFrom anyUnrecordable recordable accessOf number
+no-room = refl

@@ -1,0 +1,45 @@
+//! What goes into a tick.
+
+/// The access of a tick.
+#[derive(Clone, Copy, Debug, PartialEq, Eq)]
+pub enum Access {
+    Nothing,
+    Read(u16),
+    Write(u16, u32),
+    /// what a malformed trace record holds: refusal 5
+    Malformed,
+}
+
+impl Access {
+    /// Kind, register and value, as the library takes them.
+    pub(crate) fn numbers(self) -> (u8, u16, u32) {
+        match self {
+            Access::Nothing => (0, 0, 0),
+            Access::Read(register) => (1, register, 0),
+            Access::Write(register, value) => (2, register, value),
+            Access::Malformed => (3, 0, 0),
+        }
+    }
+}
+
+/// The wires of a tick: alert 0 at the highest bit.
+#[derive(Clone, Copy, Debug, PartialEq, Eq)]
+pub struct Wires {
+    pub pos: u64,
+    pub neg: u64,
+}
+
+impl Wires {
+    /// Every alert at (0,1).
+    pub const REST: Wires = Wires {
+        pos: 0,
+        neg: u64::MAX,
+    };
+}
+
+/// An access and the wires: what a trace record holds.
+#[derive(Clone, Copy, Debug, PartialEq, Eq)]
+pub struct Input {
+    pub access: Access,
+    pub wires: Wires,
+}

@@ -1,0 +1,122 @@
+//! A list as the writer borrows it: five slices, each between guards.
+
+use super::row::Row;
+use super::spoil::Way;
+use crate::rng::Rng;
+use handler::Wires;
+
+/// Entries before and after each slice of a list; they are well formed, so
+/// that reading past an end is not refused for what stands there.
+pub const GUARD: usize = 4;
+
+/// The five slices as the writer borrows them.
+#[derive(Clone, Copy)]
+pub struct Lent<'a> {
+    /// Kinds.
+    pub kinds: &'a [u8],
+    /// Register numbers.
+    pub registers: &'a [u16],
+    /// Values.
+    pub values: &'a [u32],
+    /// Positive wires.
+    pub positive: &'a [u64],
+    /// Negative wires.
+    pub negative: &'a [u64],
+}
+
+impl Lent<'_> {
+    /// The lengths of the slices.
+    pub fn lengths(&self) -> [usize; 5] {
+        [
+            self.kinds.len(),
+            self.registers.len(),
+            self.values.len(),
+            self.positive.len(),
+            self.negative.len(),
+        ]
+    }
+
+    /// Whether all slices have the same length.
+    pub fn even(&self) -> bool {
+        self.lengths() == [self.kinds.len(); 5]
+    }
+
+    /// The entries, as many as all slices have.
+    pub fn rows(&self) -> Vec<Row> {
+        let count = self.lengths().into_iter().min().unwrap_or(0);
+        let row = |at: usize| Row {
+            kind: self.kinds[at],
+            register: self.registers[at],
+            value: self.values[at],
+            wires: Wires {
+                pos: self.positive[at],
+                neg: self.negative[at],
+            },
+        };
+        (0..count).map(row).collect()
+    }
+}
+
+/// A list with its guards.
+#[derive(Clone, PartialEq, Eq)]
+pub struct Entries {
+    /// What it has that no record holds.
+    pub way: Way,
+    /// The alerts of the handler that its records are run on.
+    pub n: usize,
+    kinds: Vec<u8>,
+    registers: Vec<u16>,
+    values: Vec<u32>,
+    positive: Vec<u64>,
+    negative: Vec<u64>,
+    lengths: [usize; 5],
+}
+
+impl Entries {
+    /// These rows between guards.
+    pub fn of(way: Way, n: usize, rows: &[Row], rng: &mut Rng) -> Entries {
+        let mut all: Vec<Row> = (0..GUARD).map(|_| Row::good(rng)).collect();
+        all.extend(rows);
+        all.extend((0..GUARD).map(|_| Row::good(rng)));
+        Entries {
+            way,
+            n,
+            kinds: all.iter().map(|row| row.kind).collect(),
+            registers: all.iter().map(|row| row.register).collect(),
+            values: all.iter().map(|row| row.value).collect(),
+            positive: all.iter().map(|row| row.wires.pos).collect(),
+            negative: all.iter().map(|row| row.wires.neg).collect(),
+            lengths: [rows.len(); 5],
+        }
+    }
+
+    /// The same with slices of these lengths; a longer one takes guards in.
+    pub(super) fn cut(self, lengths: [usize; 5]) -> Entries {
+        Entries { lengths, ..self }
+    }
+
+    /// The slices without the guards.
+    pub fn lent(&self) -> Lent<'_> {
+        let [kinds, registers, values, positive, negative] = self.lengths;
+        Lent {
+            kinds: &self.kinds[GUARD..GUARD + kinds],
+            registers: &self.registers[GUARD..GUARD + registers],
+            values: &self.values[GUARD..GUARD + values],
+            positive: &self.positive[GUARD..GUARD + positive],
+            negative: &self.negative[GUARD..GUARD + negative],
+        }
+    }
+}
+
+#[cfg(test)]
+mod tests {
+    use super::*;
+
+    #[test]
+    fn rows_come_back_as_they_went_in() {
+        let mut rng = Rng::new(7);
+        let rows: Vec<Row> = (0..9).map(|_| Row::good(&mut rng)).collect();
+        let entries = Entries::of(Way::Good, 1, &rows, &mut rng);
+        assert_eq!(entries.lent().rows(), rows);
+    }
+}

@@ -1,0 +1,104 @@
+//! The access of a tick: `none`, `read REGISTER` or `write REGISTER VALUE`.
+use super::word::{number, shown};
+use crate::names;
+use handler::Access;
+
+/// A register by name, or by number as far as the writer takes one; whether a record holds it, the writer says.
+fn register(verb: &str, word: Option<&str>) -> Result<u16, String> {
+    let word = word.ok_or_else(|| format!("{verb} wants a register"))?;
+    let number = || number(word).and_then(|n| u16::try_from(n).ok());
+    names::number(word)
+        .or_else(number)
+        .ok_or_else(|| format!("no such register: {}", shown(word)))
+}
+
+fn value(word: Option<&str>) -> Result<u32, String> {
+    let word = word.ok_or("write wants a register and a value")?;
+    number(word)
+        .and_then(|n| u32::try_from(n).ok())
+        .ok_or_else(|| format!("not a value from 0 to {}: {}", u32::MAX, shown(word)))
+}
+
+/// Takes the words of the access, and no more.
+pub fn parse<'a>(words: &mut impl Iterator<Item = &'a str>) -> Result<Access, String> {
+    match words.next() {
+        Some("none") => Ok(Access::Nothing),
+        Some("read") => Ok(Access::Read(register("read", words.next())?)),
+        Some("write") => {
+            let register = register("write", words.next())?;
+            Ok(Access::Write(register, value(words.next())?))
+        }
+        other => Err(format!(
+            "none, read or write is wanted, not {}",
+            shown(other.unwrap_or("nothing"))
+        )),
+    }
+}
+
+/// The words of an access. No text has the last of them.
+pub fn words(access: Access) -> String {
+    match access {
+        Access::Nothing => "none".to_string(),
+        Access::Read(number) => format!("read {}", names::register(number)),
+        Access::Write(number, value) => {
+            let value = names::written(number, value);
+            format!("write {} {value}", names::register(number))
+        }
+        Access::Malformed => "kind 3".to_string(),
+    }
+}
+
+#[cfg(test)]
+mod tests {
+    use super::*;
+
+    fn parsed(text: &str) -> Result<Access, String> {
+        parse(&mut text.split(' '))
+    }
+
+    #[test]
+    fn every_access_goes_both_ways() {
+        for register in 0..=u16::MAX {
+            for access in [
+                Access::Read(register),
+                Access::Write(register, 0),
+                Access::Write(register, u32::MAX),
+            ] {
+                assert_eq!(parsed(&words(access)), Ok(access));
+            }
+        }
+        assert_eq!(parsed("none"), Ok(Access::Nothing));
+    }
+
+    #[test]
+    fn a_register_has_a_name_and_a_number() {
+        let access = Ok(Access::Write(321, 0x393F));
+        for text in [
+            "write CLASSA_CTRL 0x393f",
+            "write 321 14655",
+            "write 0x141 0x393F",
+        ] {
+            assert_eq!(parsed(text), access, "{text}");
+        }
+    }
+
+    #[test]
+    fn bad_words_are_told() {
+        for (text, problem) in [
+            ("reed INTR_STATE", "none, read or write is wanted, not reed"),
+            ("read", "read wants a register"),
+            ("write", "write wants a register"),
+            ("write INTR_STATE", "write wants a register and a value"),
+            ("read CLASSA_CTL", "no such register: CLASSA_CTL"),
+            ("read 65536", "no such register: 65536"),
+            ("read -1", "no such register: -1"),
+            (
+                "write 0 4294967296",
+                "not a value from 0 to 4294967295: 4294967296",
+            ),
+            ("write 0 x", "not a value from 0 to 4294967295: x"),
+        ] {
+            assert_eq!(parsed(text), Err(problem.to_string()));
+        }
+    }
+}

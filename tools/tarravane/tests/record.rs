@@ -1,0 +1,290 @@
+//! `record` as a harbour office runs it: a text to a trace.
+mod common;
+
+use common::{example, given, record, refused, REST};
+use std::fs;
+use std::path::{Path, PathBuf};
+
+/// A folder of this test alone, gone after it.
+struct Folder(PathBuf);
+
+impl Folder {
+    fn new(test: &str) -> Folder {
+        let name = format!("tarravane-{}-{test}", std::process::id());
+        let path = std::env::temp_dir().join(name);
+        fs::create_dir(&path).expect("a folder");
+        Folder(path)
+    }
+
+    fn path(&self, name: &str) -> String {
+        self.0.join(name).to_string_lossy().into_owned()
+    }
+
+    /// The names of all that is in it.
+    fn names(&self) -> Vec<String> {
+        let name = |path: &Path| path.file_name().map(|n| n.to_string_lossy().into_owned());
+        let entries = fs::read_dir(&self.0).expect("the folder");
+        let mut all: Vec<String> = entries
+            .filter_map(|entry| name(&entry.expect("an entry").path()))
+            .collect();
+        all.sort();
+        all
+    }
+}
+
+impl Drop for Folder {
+    fn drop(&mut self) {
+        let _ = fs::remove_dir_all(&self.0);
+    }
+}
+
+fn trace_of(text: &str) -> Vec<u8> {
+    given("record", &["-"], text.as_bytes())
+}
+
+/// What is said of a text that gives no trace.
+fn said_of(text: impl AsRef<[u8]>) -> String {
+    refused("record", &["-"], text.as_ref())
+}
+
+/// A first line that is good, then this one.
+fn said_of_line(line: &str) -> String {
+    said_of(format!("alerts 2\n{line}\nnone\n"))
+}
+
+#[test]
+fn the_example_text_gives_the_example_trace() {
+    let trace = fs::read(example("broken-seal.trace")).expect("the example");
+    assert_eq!(given("record", &[&example("broken-seal.txt")], &[]), trace);
+}
+
+#[test]
+fn each_line_is_a_record() {
+    let text = "
+        # a comment, and a blank line
+
+        alerts 2  # N
+        write CLASSA_CTRL 0x393f wires 0=10 5=11
+        read ALERT0_CAUSE
+        none wires 0-3=10
+        read 1023#at once
+        write 0 4294967295 wires 63=00
+    ";
+    let top = |alert: u64| 1 << (63 - alert);
+    let wanted = [
+        vec![2],
+        record(2, 321, 0x393F, (top(0) | top(5), !top(0))),
+        record(1, 256, 0, REST),
+        record(0, 0, 0, (0xF << 60, u64::MAX >> 4)),
+        record(1, 1023, 0, REST),
+        record(2, 0, 0xFFFF_FFFF, (0, !1)),
+    ]
+    .concat();
+    assert_eq!(trace_of(text), wanted);
+}
+
+#[test]
+fn no_ticks_are_a_trace_too() {
+    assert_eq!(trace_of("alerts 64"), [64]);
+    assert_eq!(trace_of("alerts 1\n\n# nothing\n"), [1]);
+}
+
+#[test]
+fn line_ends_and_spaces_make_no_difference() {
+    let wanted = trace_of("alerts 2\nread CLASSA_STATE wires 1=11\nnone\n");
+    for text in [
+        "alerts 2\r\nread CLASSA_STATE wires 1=11\r\nnone\r\n",
+        "alerts 2\nread CLASSA_STATE wires 1=11\nnone",
+        "\u{FEFF}alerts 2\r\n\r\nread\tCLASSA_STATE   wires 1=11 \r\nnone\r",
+        "alerts 2#\r\nread 332 wires 1=11# \u{e9}\0\r\nnone #",
+    ] {
+        assert_eq!(trace_of(text), wanted, "{text:?}");
+    }
+    let latin_1 = b"# caf\xE9\nalerts 2\nread CLASSA_STATE wires 1=11 # \xFF\nnone\n";
+    assert_eq!(given("record", &["-"], latin_1), wanted);
+}
+
+#[test]
+fn a_bad_first_line_is_told() {
+    let number = "alerts wants a number from 1 to 64";
+    assert_eq!(said_of(""), "line 1: the text ends before alerts N");
+    assert_eq!(said_of("\n# x\n"), "line 3: the text ends before alerts N");
+    assert_eq!(
+        said_of("\nnone"),
+        "line 2: a text begins with alerts N, not with none"
+    );
+    assert_eq!(said_of("alerts"), format!("line 1: {number}"));
+    assert_eq!(
+        said_of("alerts 0\nnone"),
+        format!("line 1: {number}, not 0")
+    );
+    assert_eq!(
+        said_of("\n\nalerts 65"),
+        format!("line 3: {number}, not 65")
+    );
+    assert_eq!(said_of("alerts two"), format!("line 1: {number}, not two"));
+    assert_eq!(said_of("alerts 2 none"), "line 1: unexpected: none");
+    let trace = fs::read(example("broken-seal.trace")).expect("the example");
+    assert_eq!(said_of(trace), "line 1: not UTF-8 text: byte 0x88");
+}
+
+#[test]
+fn a_bad_line_is_told_by_its_number() {
+    let value = "not a value from 0 to 4294967295";
+    let pair = "I=PQ or I-J=PQ";
+    let levels = "=00, =01, =10 or =11 is wanted";
+    for (line, problem) in [
+        (
+            "alerts 2",
+            "none, read or write is wanted, not alerts".to_string(),
+        ),
+        (
+            "READ 1",
+            "none, read or write is wanted, not READ".to_string(),
+        ),
+        (
+            "wires 0=10",
+            "none, read or write is wanted, not wires".to_string(),
+        ),
+        ("read", "read wants a register".to_string()),
+        ("write", "write wants a register".to_string()),
+        (
+            "write CLASSA_CTRL",
+            "write wants a register and a value".to_string(),
+        ),
+        (
+            "read CLASSA_CTL",
+            "no such register: CLASSA_CTL".to_string(),
+        ),
+        (
+            "read ALERT64_EN",
+            "no such register: ALERT64_EN".to_string(),
+        ),
+        ("read 65536", "no such register: 65536".to_string()),
+        ("read -1", "no such register: -1".to_string()),
+        (
+            "read CLASSA\0CTRL",
+            "no such register: CLASSA\\0CTRL".to_string(),
+        ),
+        ("read 1024", "no record holds register 1024".to_string()),
+        (
+            "write 65535 1",
+            "no record holds register 65535".to_string(),
+        ),
+        ("write 1 4294967296", format!("{value}: 4294967296")),
+        ("write 1 0x100000000", format!("{value}: 0x100000000")),
+        ("write 1 two", format!("{value}: two")),
+        ("write 1 wires 0=10", format!("{value}: wires")),
+        ("read 1 0", "unexpected: 0".to_string()),
+        (
+            "none\rnone",
+            "none, read or write is wanted, not none\\rnone".to_string(),
+        ),
+        ("none wires", format!("wires wants {pair}")),
+        ("none wires 0", format!("{levels}: 0")),
+        ("none wires 0=2", format!("{levels}: 0=2")),
+        ("none wires x=10", format!("{pair} is wanted, not x=10")),
+        ("none wires 0 = 10", format!("{levels}: 0")),
+        (
+            "none wires 0\u{2013}3=10",
+            format!("{pair} is wanted, not 0\u{2013}3=10"),
+        ),
+        ("none wires 64=10", "no such alert, 0 to 63: 64".to_string()),
+        ("none wires 3-1=10", "the range falls: 3-1=10".to_string()),
+        (
+            "none wires 0-5=10 3=11",
+            "alert 3 is named twice".to_string(),
+        ),
+    ] {
+        assert_eq!(said_of_line(line), format!("line 2: {problem}"));
+    }
+}
+
+#[test]
+fn the_first_bad_line_is_the_one_that_is_told() {
+    let text = "alerts 1\nnone\nread 1024\nread X\nread 1025\n";
+    assert_eq!(said_of(text), "line 3: no record holds register 1024");
+    let text = "alerts 1\nnone\nread X\nread 1024\n";
+    assert_eq!(said_of(text), "line 3: no such register: X");
+    let text = b"alerts 1\nread 1024\n\xFF\n";
+    assert_eq!(said_of(text), "line 2: no record holds register 1024");
+}
+
+#[test]
+fn bytes_that_are_no_text_are_told() {
+    assert_eq!(
+        said_of(b"alerts 1\nnone\xC3\x28\n"),
+        "line 2: not UTF-8 text: byte 0xc3"
+    );
+    assert_eq!(
+        said_of([0; 1000]),
+        format!(
+            "line 1: a text begins with alerts N, not with {}..",
+            "\\0".repeat(40)
+        )
+    );
+    let long = [&b"alerts 1\nnone "[..], &[b'x'; 10_000_000]].concat();
+    assert_eq!(said_of(long), "line 2: longer than 4096 bytes");
+    let comment = [&b"alerts 1\nnone #"[..], &[b'x'; 10_000_000]].concat();
+    assert_eq!(given("record", &["-"], &comment).len(), 25);
+}
+
+/// More ticks than the writer is asked for at once; a bad one among them is found by its line.
+#[test]
+fn a_long_text() {
+    let line = |i: usize| format!("write {} {i} wires {}=10\n", i % 1024, i % 64);
+    let lines: Vec<String> = (0..20_000).map(line).collect();
+    let wanted: Vec<u8> = (0..20_000)
+        .flat_map(|i| {
+            let one = 1 << (63 - i % 64);
+            record(2, i % 1024, i, (one, !one))
+        })
+        .collect();
+    let text = format!("alerts 64\n{}", lines.concat());
+    assert_eq!(trace_of(&text)[1..], wanted);
+    let mut bad = lines;
+    bad[12_345] = "\nread 2000\n".to_string();
+    let text = format!("alerts 64\n{}", bad.concat());
+    assert_eq!(said_of(text), "line 12348: no record holds register 2000");
+}
+
+#[test]
+fn a_file_is_there_whole_or_not_at_all() {
+    let folder = Folder::new("whole");
+    let (text, trace) = (folder.path("a.txt"), folder.path("a.trace"));
+    fs::write(&text, "alerts 1\nread 1024\n").expect("a text");
+    refused("record", &[&text, "-o", &trace], &[]);
+    assert_eq!(folder.names(), ["a.txt"]);
+    fs::write(&text, "alerts 1\nnone\n").expect("a text");
+    assert!(given("record", &[&text, "-o", &trace], &[]).is_empty());
+    let whole = [vec![1], record(0, 0, 0, REST)].concat();
+    assert_eq!(fs::read(&trace).expect("the trace"), whole);
+    refused("record", &["-", "-o", &trace], b"alerts 2\nnome\n");
+    assert_eq!(fs::read(&trace).expect("the trace"), whole);
+    given("record", &["-", "-o", &trace], b"alerts 2");
+    assert_eq!(fs::read(&trace).expect("the trace"), [2]);
+    assert_eq!(folder.names(), ["a.trace", "a.txt"]);
+}
+
+#[test]
+fn a_file_that_cannot_be_is_told() {
+    let folder = Folder::new("cannot");
+    let text = folder.path("a.txt");
+    fs::write(&text, "alerts 1\n").expect("a text");
+    let no_folder = folder.path("none/a.trace");
+    for words in [
+        &["-", "-o", &folder.path("")][..],
+        &["-", "-o", &no_folder],
+        &[&text, "-o", &text],
+        &[&folder.path("missing.txt")],
+        &[&folder.path("")],
+        &[],
+        &["-", "-o"],
+        &["-", "-"],
+        &["-", "--forth"],
+    ] {
+        refused("record", words, b"alerts 1\n");
+    }
+    assert_eq!(fs::read(&text).expect("the text"), b"alerts 1\n");
+    assert_eq!(folder.names(), ["a.txt"]);
+}
