@@ -1,12 +1,12 @@
 -- N never changes, and no tick changes what the state holds at N and above.
 -- Assumes nothing.
-use Prim.Native.Nat.{ℕ, _+_, _-_, _*_, _/_, _%_, _^_, _≤_, _<_}
+use Prim.Native.Nat.{ℕ, _-_, _*_, _/_, _%_, _^_, _≤_, _<_}
 use mathlib.Core.Path.{_≡_, refl, ap, _∙_}
 use mathlib.Core.Bool.{Bool, true, _&&_}
 use mathlib.Core.List.{List, [], _∷_}
 use native.Mathlib.Omega.{arith}
-use borrow.Author.Tests.{lt-ltb, le-ltb, ltb-true, leb-true, eqb-true}
-use lib.Dec.{eqb, leb, ltb}
+use borrow.Author.Tests.{le-ltb, ltb-true, eqb-true}
+use lib.Dec.{eqb, ltb}
 use lib.ListN.{getD, getD-replicate}
 use Rattle.bits.proofs.BitLaws.{bit-ones}
 use Rattle.bits.proofs.IndexLaws.{and-true}
@@ -14,7 +14,7 @@ use Rattle.bits.specs.Bits.{place}
 use Rattle.bits.specs.Index.{placeIn}
 use Rattle.rules.specs.Access.{store, fieldStored, accepted, written, acted, clears}
 use Rattle.rules.specs.Batch.{batch, batchOf, batchInputs, batchVerdict}
-use Rattle.rules.specs.Map.{decode, blockAt, within, stride, classBase}
+use Rattle.rules.specs.Map.{alertAt, decode, blockAt, within, stride, classBase}
 use Rattle.rules.specs.Run.{run}
 use Rattle.rules.specs.Samples.{alertEvent, rearmed, sampled}
 use Rattle.rules.specs.State.{most, words, alert, alertColumn, armed, newHandler, badCount, made}
@@ -85,10 +85,8 @@ block-below n k o =
     (λ _. pick (Below n) (within 7 4 o) _ _ (λ _. refl)
     (λ _. pick (Below n) (eqb o 11) _ _ (λ _. refl) (λ _. pick (Below n) (eqb o 12) _ _ (λ _. refl) (λ _. refl))))))))))
 
-alert-below : (n first r : ℕ) → within first n r ≡ true → ltb (r - first) n ≡ true
-alert-below n first r e =
-    let a = and-true (leb first r) (ltb r (first + n)) e in
-    lt-ltb (r - first) n (omega (arith, leb-true first r (a .0), ltb-true r (first + n) (a .1)))
+alert-below : (n : ℕ) (f : Field) (i : ℕ) → Below n (alertAt n f i)
+alert-below n f i = pick (Below n) (ltb i n) (Alert f i) Unassigned (λ e. e) (λ _. refl)
 
 decode-below : (n r : ℕ) → Below n (decode n r)
 unfolding decode
@@ -100,10 +98,10 @@ decode-below n r =
     (λ _. pick (Below n) (within 24 7 r) _ _ (λ _. refl)
     (λ _. pick (Below n) (within 32 7 r) _ _ (λ _. refl)
     (λ _. pick (Below n) (within 40 7 r) _ _ (λ _. refl)
-    (λ _. pick (Below n) (within stride n r) _ _ (alert-below n stride r)
-    (λ _. pick (Below n) (within (2 * stride) n r) _ _ (alert-below n (2 * stride) r)
-    (λ _. pick (Below n) (within (3 * stride) n r) _ _ (alert-below n (3 * stride) r)
-    (λ _. pick (Below n) (within (4 * stride) n r) _ _ (alert-below n (4 * stride) r)
+    (λ _. pick (Below n) (within stride stride r) _ _ (λ _. alert-below n Field.Regwen (r - stride))
+    (λ _. pick (Below n) (within (2 * stride) stride r) _ _ (λ _. alert-below n Field.En (r - 2 * stride))
+    (λ _. pick (Below n) (within (3 * stride) stride r) _ _ (λ _. alert-below n Field.Class (r - 3 * stride))
+    (λ _. pick (Below n) (within (4 * stride) stride r) _ _ (λ _. alert-below n Field.Cause (r - 4 * stride))
     (λ _. pick (Below n) (within classBase (16 * 4) r) _ _ (λ _. block-below n _ _) (λ _. refl))))))))))))
 
 -- ── step 1 ──

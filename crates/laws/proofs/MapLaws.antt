@@ -7,7 +7,7 @@ use native.Mathlib.Omega.{arith}
 use borrow.Author.Tests.{eqb-true, ltb-true, leb-true, le-leb, lt-ltb, le-ltb, ne-eqb}
 use lib.Dec.{eqb, leb, ltb}
 use Rattle.bits.proofs.IndexLaws.{and-true, true-and}
-use Rattle.rules.specs.Map.{within, blockAt, decode, numberOf, isRegister, offset, classBase, stride}
+use Rattle.rules.specs.Map.{within, blockAt, alertAt, decode, numberOf, isRegister, offset, classBase, stride}
 use Rattle.rules.specs.State.{most, localCount, classCount, fieldIndex}
 use Rattle.rules.specs.declared.Field.{Field}
 use Rattle.rules.specs.declared.Register.{Register}
@@ -128,7 +128,7 @@ abbrev blocks : ℕ → Register
 blocks r = cond (within classBase (16 * classCount) r) (blockAt ((r - classBase) / 16) ((r - classBase) % 16)) Unassigned
 
 -- above the interrupt registers there are the local alerts, then the alerts, then the classes
-decode-is : (n r : ℕ) → 2 < r → decode n r ≡ four 16 8 localCount Local (four stride stride n Alert (blocks r) r) r
+decode-is : (n r : ℕ) → 2 < r → decode n r ≡ four 16 8 localCount Local (four stride stride stride (alertAt n) (blocks r) r) r
 unfolding decode
 decode-is n r l = simp (above r 0 (omega arith), above r 1 (omega arith), above r 2 (omega arith))
 
@@ -144,13 +144,14 @@ decode-number n (Alert f i) h e =
     let r : ℕ = stride + stride * fieldIndex f + i in
     let d : (1 + fieldIndex f) * stride + i ≡ r = omega arith in
     ap (decode n) d ∙ decode-is n r (omega arith) ∙ four-over 16 8 localCount Local _ r (omega arith)
-    ∙ four-hit stride stride n Alert (blocks r) f i h (ltb-true i n e)
+    ∙ four-hit stride stride stride (alertAt n) (blocks r) f i (omega arith) (omega (arith, ltb-true i n e))
+    ∙ ap (λ (t : Bool). cond t (Alert f i) Unassigned) e
 decode-number n (Block s k) h e =
     let r : ℕ = classBase + 16 * k + offset s in
     let a = and-true (ltb k classCount) (settingExists s) e in
     let l : k < classCount = ltb-true k classCount (a .0) in
     let o : offset s < 16 = offset-lt s (a .1) in
-    decode-is n r (omega arith) ∙ four-over 16 8 localCount Local _ r (omega arith) ∙ four-over stride stride n Alert (blocks r) r (omega arith)
+    decode-is n r (omega arith) ∙ four-over 16 8 localCount Local _ r (omega arith) ∙ four-over stride stride stride (alertAt n) (blocks r) r (omega arith)
     ∙ simp (hit classBase (16 * classCount) r (omega arith) (omega arith)) (ap₂ blockAt (omega arith) (omega arith)) ∙ block-at s k (a .1)
 decode-number n Unassigned h e = absurd (false≢true e)
 
@@ -189,11 +190,14 @@ decoded n r =
     (either P _ _ _ (λ t h. (sym (eqb-true r 1 t), refl))
     (either P _ _ _ (λ t h. (sym (eqb-true r 2 t), refl))
     (four-at 16 8 localCount Local _ P r (λ f j l e h. (e, lt-ltb j localCount l))
-    (four-at stride stride n Alert (blocks r) P r (λ f i l (e : stride + stride * fieldIndex f + i ≡ r) h. (omega arith, lt-ltb i n l))
+    (four-at stride stride stride (alertAt n) (blocks r) P r (λ f i l (e : stride + stride * fieldIndex f + i ≡ r). alert f i e)
     (either P _ _ _ block (λ h. absurd (false≢true h)))))))
   where
     P : Register → Type 0
     P = Numbered n r
+
+    alert : (f : Field) (i : ℕ) → stride + stride * fieldIndex f + i ≡ r → P (alertAt n f i)
+    alert f i e = either P (ltb i n) (Alert f i) Unassigned (λ t h. (omega arith, t)) (λ h. absurd (false≢true h))
 
     block : within classBase (16 * classCount) r ≡ true → P (blockAt ((r - classBase) / 16) ((r - classBase) % 16))
     block t = let h = inside classBase (16 * classCount) r t in block-numbered n r ((r - classBase) / 16) ((r - classBase) % 16) (omega arith) (omega arith)

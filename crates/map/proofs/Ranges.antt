@@ -5,13 +5,13 @@ use mathlib.Core.Path.{_≡_, _∙_}
 use mathlib.Core.Bool.{true, false, cond}
 use native.Mathlib.Omega.{arith}
 use native.Mathlib.Decide.{decLe, decLt}
-use lib.Dec.{eqb, ltb}
+use lib.Dec.{eqb}
 use borrow.Author.Tests.{ne-eqb, le-leb, lt-leb, lt-ltb, le-ltb}
-use Rattle.rules.specs.State.{most, fieldIndex}
-use Rattle.rules.specs.Map.{within, blockAt, decode}
+use Rattle.rules.specs.State.{fieldIndex}
+use Rattle.rules.specs.Map.{within, blockAt, alertAt, decode}
 use Rattle.rules.specs.declared.Field.{Field}
 use Rattle.rules.specs.declared.Register.{Register}
-use Rattle.rules.specs.declared.Register.the-variants.{Local, Alert, Block, Unassigned}
+use Rattle.rules.specs.declared.Register.the-variants.{Local, Block, Unassigned}
 use Rattle.rules.specs.declared.Setting.the-variants.{PhaseCyc}
 
 -- ── one test ──
@@ -41,11 +41,10 @@ alertBase f = (1 + fieldIndex f) * 64
 
 pub decode-none : (n r : ℕ) → 3 ≤ r
     → ((j : ℕ) → j < 4 → 16 + 8 * j ≤ r → r < 16 + 8 * j + 7 → ⊥)
-    → ((j : ℕ) → j < 4 → (1 + j) * 64 ≤ r → r < (1 + j) * 64 + n → ⊥)
-    → (320 ≤ r → r < 384 → ⊥)
+    → (64 ≤ r → r < 384 → ⊥)
     → decode n r ≡ Unassigned
 unfolding decode
-decode-none n r h l a b =
+decode-none n r h l b =
     simp (
       over r 0 (omega arith),
       over r 1 (omega arith),
@@ -54,11 +53,11 @@ decode-none n r h l a b =
       apart 24 7 r (l 1 (omega arith)),
       apart 32 7 r (l 2 (omega arith)),
       apart 40 7 r (l 3 (omega arith)),
-      apart 64 n r (a 0 (omega arith)),
-      apart 128 n r (a 1 (omega arith)),
-      apart 192 n r (a 2 (omega arith)),
-      apart 256 n r (a 3 (omega arith)),
-      apart 320 64 r b,
+      apart 64 64 r (λ p q. b (omega arith) (omega arith)),
+      apart 128 64 r (λ p q. b (omega arith) (omega arith)),
+      apart 192 64 r (λ p q. b (omega arith) (omega arith)),
+      apart 256 64 r (λ p q. b (omega arith) (omega arith)),
+      apart 320 64 r (λ p q. b (omega arith) (omega arith)),
     )
 
 pub decode-local : (n r : ℕ) (f : Field) → localBase f ≤ r → r < localBase f + 7 → decode n r ≡ Local f (r - localBase f)
@@ -72,13 +71,13 @@ decode-local n r Field.Class h l =
 decode-local n r Field.Cause h l =
     simp (over r 0 (omega arith), over r 1 (omega arith), over r 2 (omega arith), apart 16 7 r (λ p q. omega arith), apart 24 7 r (λ p q. omega arith), apart 32 7 r (λ p q. omega arith), inside 40 7 r h l)
 
--- from the first alert's number on
+-- above the local alerts
 abbrev high : ℕ → ℕ → Register
 high n r =
-    cond (within 64 n r) (Alert Field.Regwen (r - 64))
-    (cond (within 128 n r) (Alert Field.En (r - 128))
-    (cond (within 192 n r) (Alert Field.Class (r - 192))
-    (cond (within 256 n r) (Alert Field.Cause (r - 256))
+    cond (within 64 64 r) (alertAt n Field.Regwen (r - 64))
+    (cond (within 128 64 r) (alertAt n Field.En (r - 128))
+    (cond (within 192 64 r) (alertAt n Field.Class (r - 192))
+    (cond (within 256 64 r) (alertAt n Field.Cause (r - 256))
     (cond (within 320 64 r) (blockAt ((r - 320) / 16) ((r - 320) % 16)) Unassigned))))
 
 decode-high : (n r : ℕ) → 64 ≤ r → decode n r ≡ high n r
@@ -94,55 +93,20 @@ decode-high n r h =
       apart 40 7 r (λ p q. omega arith),
     )
 
--- the first field whose alerts reach to a number has it
-pub decode-first : (n r : ℕ) (f : Field) → alertBase f ≤ r → r < alertBase f + n
-    → ((j : ℕ) → j < fieldIndex f → (1 + j) * 64 + n ≤ r)
-    → decode n r ≡ Alert f (r - alertBase f)
-decode-first n r Field.Regwen h l a = decode-high n r (omega arith) ∙ simp (inside 64 n r h l)
-decode-first n r Field.En h l a =
-    decode-high n r (omega arith) ∙ simp (apart 64 n r (λ p q. omega (arith, a 0 (omega arith))), inside 128 n r h l)
-decode-first n r Field.Class h l a =
+pub decode-alert : (n r : ℕ) (f : Field) → alertBase f ≤ r → r < alertBase f + 64 → decode n r ≡ alertAt n f (r - alertBase f)
+decode-alert n r Field.Regwen h l = decode-high n r (omega arith) ∙ simp (inside 64 64 r h l)
+decode-alert n r Field.En h l = decode-high n r (omega arith) ∙ simp (apart 64 64 r (λ p q. omega arith), inside 128 64 r h l)
+decode-alert n r Field.Class h l =
+    decode-high n r (omega arith) ∙ simp (apart 64 64 r (λ p q. omega arith), apart 128 64 r (λ p q. omega arith), inside 192 64 r h l)
+decode-alert n r Field.Cause h l =
     decode-high n r (omega arith)
-    ∙ simp (apart 64 n r (λ p q. omega (arith, a 0 (omega arith))), apart 128 n r (λ p q. omega (arith, a 1 (omega arith))), inside 192 n r h l)
-decode-first n r Field.Cause h l a =
-    decode-high n r (omega arith)
-    ∙ simp (apart 64 n r (λ p q. omega (arith, a 0 (omega arith))), apart 128 n r (λ p q. omega (arith, a 1 (omega arith))), apart 192 n r (λ p q. omega (arith, a 2 (omega arith))), inside 256 n r h l)
-
-index-lt : (f : Field) → fieldIndex f < 4
-index-lt Field.Regwen = omega arith
-index-lt Field.En = omega arith
-index-lt Field.Class = omega arith
-index-lt Field.Cause = omega arith
-
--- in a handler of at most 64 alerts the fields lie apart, and alert i exists for i below N
-pub decode-alert : (n r : ℕ) (f : Field) → n ≤ most → alertBase f ≤ r → r < alertBase f + 64
-    → decode n r ≡ cond (ltb (r - alertBase f) n) (Alert f (r - alertBase f)) Unassigned
-decode-alert n r f m h l = go (decLt (r - alertBase f) n)
-  where
-    go : Dec (r - alertBase f < n) → decode n r ≡ cond (ltb (r - alertBase f) n) (Alert f (r - alertBase f)) Unassigned
-    go (yes p) = rw (lt-ltb _ _ p) (decode-first n r f h (omega arith) (λ j s. omega arith))
-    go (no p) = rw (le-ltb (r - alertBase f) n (omega arith)) (decode-none n r (omega arith) (λ j s a b. omega arith) (λ j s a b. omega arith) (λ a b. omega (arith, index-lt f)))
+    ∙ simp (apart 64 64 r (λ p q. omega arith), apart 128 64 r (λ p q. omega arith), apart 192 64 r (λ p q. omega arith), inside 256 64 r h l)
 
 -- past the alerts come the classes
-pub decode-block : (n r : ℕ) → n ≤ most → 320 ≤ r → r < 384 → decode n r ≡ blockAt ((r - 320) / 16) ((r - 320) % 16)
-decode-block n r m h l =
+pub decode-block : (n r : ℕ) → 320 ≤ r → r < 384 → decode n r ≡ blockAt ((r - 320) / 16) ((r - 320) % 16)
+decode-block n r h l =
     decode-high n r (omega arith)
-    ∙ simp (apart 64 n r (λ p q. omega arith), apart 128 n r (λ p q. omega arith), apart 192 n r (λ p q. omega arith), apart 256 n r (λ p q. omega arith), inside 320 64 r h l)
-
--- a number that no alert has is decoded as in a handler of no alerts
-pub decode-few : (n r : ℕ) → ((j : ℕ) → j < 4 → (1 + j) * 64 ≤ r → r < (1 + j) * 64 + n → ⊥) → decode 0 r ≡ decode n r
-unfolding decode
-decode-few n r a =
-    simp (
-      apart 64 n r (a 0 (omega arith)),
-      apart 128 n r (a 1 (omega arith)),
-      apart 192 n r (a 2 (omega arith)),
-      apart 256 n r (a 3 (omega arith)),
-      apart 64 0 r (λ p q. omega arith),
-      apart 128 0 r (λ p q. omega arith),
-      apart 192 0 r (λ p q. omega arith),
-      apart 256 0 r (λ p q. omega arith),
-    )
+    ∙ simp (apart 64 64 r (λ p q. omega arith), apart 128 64 r (λ p q. omega arith), apart 192 64 r (λ p q. omega arith), apart 256 64 r (λ p q. omega arith), inside 320 64 r h l)
 
 -- ── the block of a class ──
 

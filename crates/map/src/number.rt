@@ -1,6 +1,5 @@
 // "Register map": a register number decoded into kind and index.
 use rules::Field;
-use rules::MOST;
 use rules::Register;
 use rules::Setting;
 
@@ -18,11 +17,7 @@ const BLOCKS: usize = 320;
 const END: usize = 384;
 
 ghost use mathlib.Core.Path.{_≡_};
-ghost use mathlib.Core.Bool.{cond};
-ghost use Prim.Native.Nat.{_≤_, _<_};
-ghost use lib.Dec.{ltb};
-ghost use Rattle.rules.specs.State.{most};
-ghost use Rattle.rules.specs.Map.{blockAt, decode};
+ghost use Rattle.rules.specs.Map.{blockAt, alertAt, decode};
 
 // The register at +o in the block of class k.
 fn block_at(k: usize, o: usize) -> Register
@@ -45,7 +40,7 @@ fn block_at(k: usize, o: usize) -> Register
 
 // Register f of alert i, where there is such an alert.
 fn alert_at(f: Field, i: usize, n: usize) -> Register
-    ensures { λ r. ⌜ r ≡ cond (ltb i n) (Register.Alert f i) Register.Unassigned ⌝ }
+    ensures { λ r. ⌜ r ≡ alertAt n f i ⌝ }
 {
     if i < n {
         Register::Alert(f, i)
@@ -56,7 +51,6 @@ fn alert_at(f: Field, i: usize, n: usize) -> Register
 
 // The number selects one of these ranges; all other numbers are unassigned.
 fn select(n: usize, r: usize) -> Register
-    requires { ⌜ n ≤ most ⌝ }
     ensures { λ q. ⌜ q ≡ decode n r ⌝ }
 {
     match r {
@@ -76,33 +70,9 @@ fn select(n: usize, r: usize) -> Register
     }
 }
 
-// A count over the most is in no valid state: the alerts' ranges then overlap, and the first that reaches to the number has it.
-fn select_first(n: usize, r: usize) -> Register
-    requires { ⌜ most < n ⌝ }
-    ensures { λ q. ⌜ q ≡ decode n r ⌝ }
-{
-    if r < REGWEN {
-        select(0, r)
-    } else if r - REGWEN < n {
-        Register::Alert(Field::Regwen, r - REGWEN)
-    } else if r - EN < n {
-        Register::Alert(Field::En, r - EN)
-    } else if r - CLASS < n {
-        Register::Alert(Field::Class, r - CLASS)
-    } else if r - CAUSE < n {
-        Register::Alert(Field::Cause, r - CAUSE)
-    } else {
-        select(0, r)
-    }
-}
-
 // The register that a number selects in a handler of n alerts.
 pub fn register_at(n: usize, r: u16) -> Register
     ensures { λ q. ⌜ q ≡ decode n r ⌝ }
 {
-    if MOST < n {
-        select_first(n, r as usize)
-    } else {
-        select(n, r as usize)
-    }
+    select(n, r as usize)
 }

@@ -36,6 +36,10 @@ blockAt k o =
     (cond (within 7 4 o) (Block (PhaseCyc (o - 7)) k)
     (cond (eqb o 11) (Block EscCnt k) (cond (eqb o 12) (Block Setting.State k) Unassigned)))))))))
 
+-- alert i exists for i below N
+abbrev pub alertAt : ℕ → Field → ℕ → Register
+alertAt n f i = cond (ltb i n) (Alert f i) Unassigned
+
 -- the register number selects one of these ranges; all other numbers are unassigned
 unfoldable pub decode : ℕ → ℕ → Register
 decode n r =
@@ -46,10 +50,10 @@ decode n r =
     (cond (within 24 7 r) (Local Field.En (r - 24))
     (cond (within 32 7 r) (Local Field.Class (r - 32))
     (cond (within 40 7 r) (Local Field.Cause (r - 40))
-    (cond (within stride n r) (Alert Field.Regwen (r - stride))
-    (cond (within (2 * stride) n r) (Alert Field.En (r - 2 * stride))
-    (cond (within (3 * stride) n r) (Alert Field.Class (r - 3 * stride))
-    (cond (within (4 * stride) n r) (Alert Field.Cause (r - 4 * stride))
+    (cond (within stride stride r) (alertAt n Field.Regwen (r - stride))
+    (cond (within (2 * stride) stride r) (alertAt n Field.En (r - 2 * stride))
+    (cond (within (3 * stride) stride r) (alertAt n Field.Class (r - 3 * stride))
+    (cond (within (4 * stride) stride r) (alertAt n Field.Cause (r - 4 * stride))
     (cond (within classBase (16 * 4) r) (blockAt ((r - classBase) / 16) ((r - classBase) % 16)) Unassigned)))))))))))
 
 abbrev pub offset : Setting → ℕ
