@@ -5,12 +5,14 @@
 mod answer;
 mod input;
 mod library;
+mod names;
 mod state;
 mod word;
 mod writer;
 
 pub use answer::{Answer, Refusal};
 pub use input::{Access, Input, Wires};
+pub use names::SETTINGS;
 pub use state::{
     Alerts, Class, Handler, Interrupts, Locals, Output, Receivers, ALERTS, CLASSES, LOCALS, PHASES,
 };

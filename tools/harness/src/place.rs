@@ -4,7 +4,7 @@ use crate::map::{
     ACCUM_CNT, ACCUM_THRESH, CLASS_BITS, CLR, CLR_REGWEN, CTRL, ESC_CNT, PHASE0_CYC, REGWEN,
     SOURCE_BITS, SOURCE_CAUSE, SOURCE_CLASS, SOURCE_EN, SOURCE_REGWEN, STATE, TIMEOUT_CYC,
 };
-use handler::{Class, Handler, ALERTS, CLASSES, LOCALS};
+use handler::{Class, Handler, ALERTS, CLASSES, LOCALS, SETTINGS};
 use std::fmt;
 
 /// A stored field of a state. Offsets and source fields as in the map.
@@ -130,27 +130,12 @@ fn class_slot(class: &mut Class, offset: u32) -> Slot<'_> {
 impl fmt::Display for Place {
     fn fmt(&self, out: &mut fmt::Formatter) -> fmt::Result {
         const SOURCE: [&str; 4] = ["REGWEN", "EN", "CLASS", "CAUSE"];
-        const CLASS: [&str; 13] = [
-            "REGWEN",
-            "CTRL",
-            "CLR_REGWEN",
-            "CLR",
-            "ACCUM_CNT",
-            "ACCUM_THRESH",
-            "TIMEOUT_CYC",
-            "PHASE0_CYC",
-            "PHASE1_CYC",
-            "PHASE2_CYC",
-            "PHASE3_CYC",
-            "ESC_CNT",
-            "STATE",
-        ];
         match self {
             Place::N => write!(out, "N"),
             Place::Armed => write!(out, "re-armed alerts"),
             Place::IntrState => write!(out, "INTR_STATE"),
             Place::IntrEnable => write!(out, "INTR_ENABLE"),
-            Place::Class(k, offset) => write!(out, "class {k} {}", CLASS[*offset as usize]),
+            Place::Class(k, offset) => write!(out, "class {k} {}", SETTINGS[*offset as usize]),
             Place::Alert(field, i) => write!(out, "alert {i} {}", SOURCE[*field]),
             Place::Local(field, j) => write!(out, "local {j} {}", SOURCE[*field]),
         }

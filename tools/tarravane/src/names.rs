@@ -1,23 +1,7 @@
 //! Document 01's words for the numbers of a trace.
-use handler::Refusal;
+use handler::{Refusal, SETTINGS};
 use std::collections::HashMap;
 use std::sync::OnceLock;
-
-const SETTINGS: [&str; 13] = [
-    "REGWEN",
-    "CTRL",
-    "CLR_REGWEN",
-    "CLR",
-    "ACCUM_CNT",
-    "ACCUM_THRESH",
-    "TIMEOUT_CYC",
-    "PHASE0_CYC",
-    "PHASE1_CYC",
-    "PHASE2_CYC",
-    "PHASE3_CYC",
-    "ESC_CNT",
-    "STATE",
-];
 
 /// Class k is named by its letter.
 pub const CLASSES: [char; 4] = ['A', 'B', 'C', 'D'];
