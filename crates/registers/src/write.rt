@@ -15,7 +15,7 @@ ghost use lib.ListN.{getD, set};
 ghost use Rattle.bits.specs.Bits.{bit, bitsOf};
 ghost use Rattle.classes.specs.Class.{noClass};
 ghost use Rattle.rules.specs.Map.{settingBits, bits};
-ghost use Rattle.rules.specs.State.{most, localCount, classCount, localColumn, alertColumn, withLocalColumn, withAlertColumn, put};
+ghost use Rattle.rules.specs.State.{most, localCount, classCount, localColumn, alertColumn, withInterrupts, withLocalColumn, withAlertColumn, put};
 ghost use Rattle.rules.specs.Access.{fieldStored, withSetting, store};
 
 // INTR_STATE: a 1 clears.
@@ -186,6 +186,15 @@ fn set_block(classes: [Class; 4], s: Setting, k: usize, v: u32) -> [Class; 4]
     out
 }
 
+// The state with another INTR_STATE.
+fn with_state(h: Handler, state: u8) -> Handler
+    ensures { λ r. ⌜ r ≡ withInterrupts (record { state = state; enable = h .interrupts .enable }) h ⌝ }
+{
+    let mut out = h;
+    out.interrupts.state = state;
+    out
+}
+
 // The state after an accepted write; v fits the register.
 pub fn stored(h: Handler, q: Register, v: u32) -> Handler
     requires { ⌜ v < 2 ^ bits q ⌝ }
@@ -193,21 +202,13 @@ pub fn stored(h: Handler, q: Register, v: u32) -> Handler
 {
     let mut out = h;
     match q {
-        Register::IntrState => {
-            let state = cleared(h.interrupts.state, v as u8);
-            out.interrupts.state = state;
-            out
-        }
+        Register::IntrState => with_state(h, cleared(h.interrupts.state, v as u8)),
         Register::IntrEnable => {
             let enable = v as u8;
             out.interrupts.enable = enable;
             out
         }
-        Register::IntrTest => {
-            let state = raised(h.interrupts.state, v as u8);
-            out.interrupts.state = state;
-            out
-        }
+        Register::IntrTest => with_state(h, raised(h.interrupts.state, v as u8)),
         Register::Local(f, j) => {
             let old = local_value(h.locals, f, j);
             let locals = set_local(h.locals, f, j, field_stored(f, old, v as u8));

@@ -32,7 +32,6 @@ pub fn sample(g: Handler, w: Wires) -> Sampled
     let received = receive::receive_all(n, armed, pos, neg);
     let next = received.armed;
     receivers.armed = next;
-
     let events = received.events;
     let equal = received.equal;
     let en = alerts.en;
@@ -41,7 +40,6 @@ pub fn sample(g: Handler, w: Wires) -> Sampled
     let gathered = gather::gather(n, &events, &equal, &en, &class, before);
     let cause = gathered.cause;
     alerts.cause = cause;
-
     let raised = locals::raise(gathered.broken);
     let local_en = local_alerts.en;
     let local_class = local_alerts.class;
@@ -49,7 +47,6 @@ pub fn sample(g: Handler, w: Wires) -> Sampled
     let occurred = locals::occur(raised, &local_en, &local_class, local_before);
     let local_cause = occurred.cause;
     local_alerts.cause = local_cause;
-
     let mut handler = g;
     handler.receivers = receivers;
     handler.alerts = alerts;

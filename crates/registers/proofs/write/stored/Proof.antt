@@ -19,6 +19,9 @@ cleared-requires : tie.Need-cleared-requires
 unfolding bits
 cleared-requires c κs = let l : c .before .before .args .v < 16 = rw (c .enum-told .given .1) at (c .before .before .pre) in search needs
 
+with-state-requires : tie.Need-with-state-requires
+with-state-requires c κs = search needs
+
 enum-told-2 : tie.Need-enum-told-2
 enum-told-2 c = search needs
 
@@ -36,6 +39,9 @@ cast-raised c = let l : c .before .before .args .v < 16 = rw (c .enum-told3 .giv
 raised-requires : tie.Need-raised-requires
 unfolding bits
 raised-requires c κs = let l : c .before .before .args .v < 16 = rw (c .enum-told3 .given .1) at (c .before .before .pre) in search needs
+
+with-state-requires-2 : tie.Need-with-state-requires-2
+with-state-requires-2 c κs = search needs
 
 enum-known-q : tie.Need-enum-known-q
 enum-known-q c = search needs
@@ -89,7 +95,7 @@ enum-told-4 c = search needs
 
 returns : tie.Need-returns
 unfolding store
-returns c = rw (c .before .before .enum-told .given .1, c .before .cleared .ensures)
+returns c = rw (c .before .before .enum-told .given .1, c .with-state .ensures, c .before .cleared .ensures)
 
 returns-2 : tie.Need-returns-2
 unfolding store
@@ -97,7 +103,7 @@ returns-2 c = rw (c .before .enum-told2 .given .1)
 
 returns-3 : tie.Need-returns-3
 unfolding store
-returns-3 c = rw (c .before .before .enum-told3 .given .1, c .before .raised .ensures)
+returns-3 c = rw (c .before .before .enum-told3 .given .1, c .with-state2 .ensures, c .before .raised .ensures)
 
 returns-4 : tie.Need-returns-4
 unfolding store
@@ -122,11 +128,13 @@ stored-spec =
     enum-told
     cast-cleared
     cleared-requires
+    with-state-requires
     enum-told-2
     cast-enable
     enum-told-3
     cast-raised
     raised-requires
+    with-state-requires-2
     enum-known-q
     local-value-requires
     cast-field-stored
