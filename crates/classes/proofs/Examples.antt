@@ -1,9 +1,10 @@
 -- Worked examples that pin the rules of one class, by computation. Each names the sentence of document 01 that it holds.
 -- Assumes nothing.
-use Prim.Native.Nat.{ℕ}
+use Prim.Native.Nat.{ℕ, _+_, _*_}
 use mathlib.Core.Path.{_≡_, refl}
 use mathlib.Core.Bool.{Bool, true, false}
-use mathlib.Core.List.{List, [], _∷_}
+use mathlib.Core.List.{List, [], _∷_, map}
+use lib.ListN.{replicate}
 use Rattle.bits.specs.Bits.{bit}
 use Rattle.bits.specs.Index.{anyTo}
 use Rattle.classes.specs.Class.{en, lock, lineEnable, lineMap, enabled, stateOf, stateNumber, drives, classFits}
@@ -89,6 +90,12 @@ lines-enable : (enabled (ctrlOf 0x01) ≡ false)
     × (enabled (ctrlOf 0x3F) ≡ true)
 unfolding rules
 lines-enable = (refl, refl, refl, refl, refl, refl, refl, refl)
+
+-- with EN, all sixteen sets of line enables, none first: only that one is off
+lines-table : map (λ (lines : ℕ). enabled (ctrlOf (1 + 4 * lines))) (0 ∷ 1 ∷ 2 ∷ 3 ∷ 4 ∷ 5 ∷ 6 ∷ 7 ∷ 8 ∷ 9 ∷ 10 ∷ 11 ∷ 12 ∷ 13 ∷ 14 ∷ 15 ∷ [])
+    ≡ false ∷ replicate 15 true
+unfolding rules
+lines-table = refl
 
 -- "STATE reads Idle 0, Timeout 1, Terminal 3, phases 4 to 7"
 states : (stateOf 0 ≡ Idle)

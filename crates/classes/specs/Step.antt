@@ -12,7 +12,7 @@ use Rattle.classes.specs.declared.Signals.{Signals}
 
 -- ── step 3 ──
 
--- a class has an event if something that happened is assigned to it and EN is 1
+-- a class has an event if something that happened is assigned to it and EN is 1, as request (i) reads EN
 abbrev pub classEvent : Bool → Class → Bool
 classEvent assigned c = assigned && enabled c
 
@@ -26,7 +26,7 @@ counted s c = cond (s .clear) 0 (cond (s .event) (cond (ltb (c .accum) 65535) (c
 
 -- ── step 4 ──
 
--- "due": EN is 1, the interrupt bit is now 1 and TIMEOUT_CYC is above 0
+-- "due": EN is 1, as request (i) reads EN, the interrupt bit is now 1 and TIMEOUT_CYC is above 0
 abbrev pub due : Signals → Class → Bool
 due s c = enabled c && (s .interrupt && ltb 0 (c .timeout))
 

@@ -120,6 +120,14 @@ with-line : (e : ℕ) × (e < 4) × (lineEnable (classRead waiting (rest none) 3
 unfolding rules
 with-line = start-is waiting (rest none) 3 refl (omega arith) .line (by-timeout .0 .is-start)
 
+-- which may be line 3 alone
+abbrev lastLine : Handler
+lastLine = post 2 (withSetting Setting.Regwen 0 (settings 0x3923 0 0 nines))
+
+by-last-line : Starts lastLine (raise 63 none) 2 × (lineEnable (classRead lastLine (raise 63 none) 2) 0 ≡ false)
+unfolding rules
+by-last-line = (record { is-class = omega arith; is-start = refl; is-locked = refl; has-en = refl; has-lock = refl }, refl)
+
 -- and the same class without line enables does not start
 abbrev lineless : Handler
 lineless = post 2 (withSetting Setting.Regwen 0 (settings 0x3903 0 0 nines))

@@ -2,10 +2,13 @@
 -- Assumes nothing.
 use Prim.Native.Nat.{ℕ, zero, suc, _+_, _*_, _≤_}
 use mathlib.Core.Path.{_≡_, refl, sym, ap, ap₂, _∙_}
-use mathlib.Core.Bool.{Bool, true, false, false≢true, not, _||_}
+use mathlib.Core.Bool.{Bool, true, false, false≢true, cond, not, _||_}
+use mathlib.Core.Logic.{_↔_}
 use mathlib.Core.List.{List, [], _∷_, _++_, append-assoc}
 use native.Mathlib.Omega.{arith}
 use borrow.Author.Tests.{not-false, le-ltb}
+use lib.Dec.{ltb}
+use lib.IntN.{pos}
 use lib.ListN.{length, take, drop, length-append}
 use lib.Seq.{take-at}
 use Rattle.bits.proofs.IndexLaws.{length-each}
@@ -17,7 +20,7 @@ use Rattle.rules.specs.Writer.{WellFormed, Wired, AllWired, none, one, recordsO
 use Rattle.rules.specs.declared.Answer.{Answer}
 use Rattle.rules.specs.declared.Input.{Input}
 use Rattle.rules.specs.declared.Refusal.{Refusal}
-use Rattle.rules.specs.declared.Refusal.the-variants.{NoRecord}
+use Rattle.rules.specs.declared.Refusal.the-variants.{NoRecord, ShortBuffer}
 use Rattle.rules.specs.declared.Verdict.{Verdict}
 use Rattle.laws.proofs.RecordLaws.{record-length, input-record, input-wired, record-input}
 use Rattle.laws.proofs.Recordable.{read-recordable, record-formed}
@@ -51,8 +54,34 @@ pub write-accepted : (xs : List Input) (buffer : List ℕ) → writeVerdict xs b
 unfolding write writeOf
 write-accepted xs buffer e = ap (λ (v : Verdict). writeOf v xs buffer .buffer) e
 
+pub write-answer : (xs : List Input) (buffer : List ℕ) → writeVerdict xs buffer ≡ Verdict.Accepted → write xs buffer .answer ≡ pos (length xs * recordBytes)
+unfolding write writeOf
+write-answer xs buffer e = ap (λ (v : Verdict). writeOf v xs buffer .answer) e
+
+-- 10 is given exactly where an access is not recordable
+pub ten-is : (xs : List Input) (buffer : List ℕ) → (writeVerdict xs buffer ≡ Verdict.Refused NoRecord) ↔ (anyUnrecordable xs ≡ true)
+unfolding writeVerdict firstOf
+ten-is xs buffer = go (anyUnrecordable xs) (ltb (length buffer) (length xs * recordBytes))
+  where
+    go : (a b : Bool) → (cond a (Verdict.Refused NoRecord) (cond b (Verdict.Refused ShortBuffer) Verdict.Accepted) ≡ Verdict.Refused NoRecord) ↔ (a ≡ true)
+    go true b = (λ e. refl, λ e. refl)
+    go false true = (λ e. let z : _≡_ {A = ℕ} 0 1 = cc in absurd (omega arith), λ e. absurd (false≢true e))
+    go false false = (λ e. let z : _≡_ {A = ℕ} 0 1 = cc in absurd (omega arith), λ e. absurd (false≢true e))
+
+-- and 11 exactly where all are and the buffer is too short
+pub eleven-is : (xs : List Input) (buffer : List ℕ)
+    → (writeVerdict xs buffer ≡ Verdict.Refused ShortBuffer) ↔ ((anyUnrecordable xs ≡ false) × (ltb (length buffer) (length xs * recordBytes) ≡ true))
+unfolding writeVerdict firstOf
+eleven-is xs buffer = go (anyUnrecordable xs) (ltb (length buffer) (length xs * recordBytes))
+  where
+    go : (a b : Bool)
+        → (cond a (Verdict.Refused NoRecord) (cond b (Verdict.Refused ShortBuffer) Verdict.Accepted) ≡ Verdict.Refused ShortBuffer) ↔ ((a ≡ false) × (b ≡ true))
+    go true b = (λ e. let z : _≡_ {A = ℕ} 0 1 = cc in absurd (omega arith), λ e. absurd (false≢true (sym (e .0))))
+    go false true = (λ e. (refl, refl), λ e. refl)
+    go false false = (λ e. let z : _≡_ {A = ℕ} 0 1 = cc in absurd (omega arith), λ e. absurd (false≢true (e .1)))
+
 -- accepted: every access is recordable
-accepted-recordable : (xs : List Input) (buffer : List ℕ) → writeVerdict xs buffer ≡ Verdict.Accepted → anyUnrecordable xs ≡ false
+pub accepted-recordable : (xs : List Input) (buffer : List ℕ) → writeVerdict xs buffer ≡ Verdict.Accepted → anyUnrecordable xs ≡ false
 unfolding writeVerdict
 accepted-recordable xs buffer e = first-accepts (writeCases xs buffer) (record { refusal = NoRecord; holds = false }) .0 e 0 (omega arith)
 

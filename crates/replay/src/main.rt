@@ -25,10 +25,19 @@ struct Turn {
     goes_on: bool,
 }
 
+// Prints to standard output, and says whether it could; that it could not is told on standard error.
+fn print(text: &[u8]) -> bool {
+    let done = io::write_all(STDOUT_FILENO, text);
+    if !done {
+        io::write_all(STDERR_FILENO, b"replay: write failed\n");
+    }
+    done
+}
+
 // After the last record: rest bytes print `cut`. That a read failed is told on standard error.
 fn finish(got: Filled) {
     if got.count % RECORD != 0 {
-        io::write_all(STDOUT_FILENO, b"cut\n");
+        print(b"cut\n");
     }
     if got.failed {
         io::write_all(STDERR_FILENO, b"replay: read failed\n");
@@ -47,8 +56,7 @@ fn take_turn(h: Handler) -> Turn
     let done = replay(h, &bytes[..count], &mut text);
     let written = done.written;
     let handler = done.handler;
-    if !io::write_all(STDOUT_FILENO, &text[..written]) {
-        io::write_all(STDERR_FILENO, b"replay: write failed\n");
+    if !print(&text[..written]) {
         return Turn {
             handler,
             goes_on: false,
@@ -92,7 +100,7 @@ fn make(n: u8) -> Made
 
 // A missing or refused N prints `refused` only.
 fn refuse() {
-    io::write_all(STDOUT_FILENO, b"refused\n");
+    print(b"refused\n");
 }
 
 fn main() {

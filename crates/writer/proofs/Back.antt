@@ -6,16 +6,20 @@ use mathlib.Core.Bool.{Bool, true, cond}
 use mathlib.Core.List.{List, []}
 use lib.IntN.{ℤ}
 use lib.ListN.{getD, length, take}
+use borrow.Author.Tests.{not-false}
 use Rattle.bits.specs.Index.{eachFrom}
+use Rattle.bits.proofs.IndexLaws.{none-at}
 use Rattle.rules.specs.Batch.{inputsOf}
 use Rattle.rules.specs.Record.{recordBytes}
-use Rattle.rules.specs.Writer.{AllWired, none, one, writeOf, write}
+use Rattle.rules.specs.Writer.{AllWired, none, one, writeVerdict, writeOf, write}
 use Rattle.rules.specs.declared.Input.{Input}
 use Rattle.rules.specs.declared.Refusal.the-variants.{NoRecord}
 use Rattle.rules.specs.declared.Verdict.{Verdict}
-use Rattle.laws.proofs.WriterLaws.{records-length, write-accepted, read-written, written-read, well-formed-accepted}
-use Rattle.writer.specs.Lent.{Lent, inputAt, listOf, even, writeLent, Wrote, ReadBack, WrittenBack}
-use Rattle.writer.proofs.EntryLaws.{length-list}
+use Rattle.laws.proofs.WriterLaws.{records-length, accepted-recordable, write-accepted, read-written, written-read, well-formed-accepted}
+use Rattle.writer.specs.Lent.{Lent, inputAt, listOf, even, writeLent, Wrote, Numbers, ReadBack, WrittenBack}
+use Rattle.writer.specs.Parts.{unrecordableAt}
+use Rattle.writer.proofs.EntryLaws.{any-in-list, length-list}
+use Rattle.writer.proofs.KindLaws.{numbers-of}
 
 module _ (l : Lent) where
   -- every number of the lists has the 64 bits of its wires
@@ -28,16 +32,24 @@ module _ (l : Lent) where
   unfolding listOf
   all-wired p q = wired-from 0 (length (l .kinds)) p q
 
+  -- an accepted list has its numbers
+  numbers-back : (buffer : List ℕ) → writeVerdict (listOf l) buffer ≡ Verdict.Accepted → Numbers l
+  numbers-back buffer v i h =
+      numbers-of (getD (l .kinds) i 0) (getD (l .registers) i 0) (getD (l .values) i 0)
+      (not-false _ (none-at (unrecordableAt (l .kinds) (l .registers) (l .values)) (length (l .kinds)) i (sym (any-in-list l) ∙ accepted-recordable (listOf l) buffer v) h))
+
   module _ (buffer : List ℕ) (r : ℤ) (left : List ℕ) (w : Wrote l buffer r left) where
     bytes-left : even l ≡ true → left ≡ write (listOf l) buffer .buffer
     unfolding writeLent
     bytes-left e = w .bytes ∙ ap (λ (b : Bool). cond b (write (listOf l) buffer) (writeOf (Verdict.Refused NoRecord) [] buffer) .buffer) e
 
     read-back : AllWired (listOf l) → ReadBack l buffer left
-    read-back a e v =
-        ap (λ (bs : List ℕ). inputsOf (take (length (l .kinds) * recordBytes) bs)) (bytes-left e)
-        ∙ ap (λ (n : ℕ). inputsOf (take (n * recordBytes) (write (listOf l) buffer .buffer))) (sym (length-list l))
-        ∙ read-written (listOf l) buffer a v
+    read-back a e v = (
+      ap (λ (bs : List ℕ). inputsOf (take (length (l .kinds) * recordBytes) bs)) (bytes-left e)
+          ∙ ap (λ (n : ℕ). inputsOf (take (n * recordBytes) (write (listOf l) buffer .buffer))) (sym (length-list l))
+          ∙ read-written (listOf l) buffer a v,
+      numbers-back buffer v,
+    )
 
     written-back : WrittenBack l buffer left
     written-back bytes f e q h =

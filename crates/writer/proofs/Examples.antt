@@ -4,18 +4,17 @@ use Prim.Native.Nat.{ℕ}
 use mathlib.Core.Path.{_≡_, refl}
 use mathlib.Core.List.{List, [], _∷_}
 use lib.IntN.{pos, negsuc}
-use lib.ListN.{drop}
+use lib.ListN.{drop, replicate}
 use Rattle.bits.specs.Fields.{pack, unpack}
 use Rattle.bits.specs.Index.{eachFrom}
 use Rattle.rules.specs.Answer.{firstOf, number}
 use Rattle.rules.specs.Record.{accessOf, recordOf, recordable}
 use Rattle.rules.specs.Writer.{recordsOf, anyUnrecordable, writeVerdict, writeOf, write}
-use Rattle.writer.specs.Lent.{Lent, listOf, writeLent}
+use Rattle.writer.specs.Lent.{Lent, lent, listOf, writeLent}
 
 -- one entry, with no wire high
 abbrev entry : ℕ → ℕ → ℕ → Lent
-entry kind register value =
-    record { kinds = kind ∷ []; registers = register ∷ []; values = value ∷ []; positive = 0 ∷ []; negative = 0 ∷ [] }
+entry kind register value = lent (kind ∷ []) (register ∷ []) (value ∷ []) (0 ∷ []) (0 ∷ [])
 
 -- a buffer for one record
 abbrev room : List ℕ
@@ -38,6 +37,18 @@ write-1023 : writeLent (entry 2 1023 0x01020304) room
     }
 unfolding writeLent write writeVerdict firstOf writeOf listOf eachFrom recordsOf anyUnrecordable recordable recordOf accessOf pack unpack
 write-1023 = refl
+
+-- two entries: each has its own five numbers
+two-entries : writeLent (lent (2 ∷ 1 ∷ []) (3 ∷ 4 ∷ []) (5 ∷ 0 ∷ []) (6 ∷ 7 ∷ []) (8 ∷ 9 ∷ [])) (replicate 49 1)
+    ≡ record {
+      answer = pos 48;
+      buffer =
+          0x80 ∷ 0x30 ∷ 0 ∷ 0 ∷ 0 ∷ 0 ∷ 0 ∷ 5 ∷ 0 ∷ 0 ∷ 0 ∷ 0 ∷ 0 ∷ 0 ∷ 0 ∷ 6 ∷ 0 ∷ 0 ∷ 0 ∷ 0 ∷ 0 ∷ 0 ∷ 0 ∷ 8
+          ∷ 0x40 ∷ 0x40 ∷ 0 ∷ 0 ∷ 0 ∷ 0 ∷ 0 ∷ 0 ∷ 0 ∷ 0 ∷ 0 ∷ 0 ∷ 0 ∷ 0 ∷ 0 ∷ 7 ∷ 0 ∷ 0 ∷ 0 ∷ 0 ∷ 0 ∷ 0 ∷ 0 ∷ 9
+          ∷ 1 ∷ [];
+    }
+unfolding writeLent write writeVerdict firstOf writeOf listOf eachFrom recordsOf anyUnrecordable recordable recordOf accessOf pack unpack
+two-entries = refl
 
 no-entries : writeLent (record { kinds = []; registers = []; values = []; positive = []; negative = [] }) [] ≡ record { answer = pos 0; buffer = [] }
 unfolding writeLent write writeVerdict firstOf writeOf listOf eachFrom recordsOf anyUnrecordable
@@ -76,10 +87,37 @@ register-1024 : RefusedBy10 (entry 2 1024 0) room
 unfolding writeLent write writeVerdict firstOf writeOf listOf eachFrom anyUnrecordable recordable accessOf number
 register-1024 = refl
 
--- a list that is longer than the kinds
-long-list : RefusedBy10 (record { kinds = []; registers = []; values = []; positive = []; negative = 0 ∷ [] }) room
+kind-5 : RefusedBy10 (entry 5 0 0) room
+unfolding writeLent write writeVerdict firstOf writeOf listOf eachFrom anyUnrecordable recordable accessOf number
+kind-5 = refl
+
+kind-255 : RefusedBy10 (entry 255 0 0) room
+unfolding writeLent write writeVerdict firstOf writeOf listOf eachFrom anyUnrecordable recordable accessOf number
+kind-255 = refl
+
+-- lists of unequal lengths: each of the four longer than the kinds, and shorter
+abbrev lists : List ℕ → List ℕ → List ℕ → List ℕ → Lent
+lists registers values positive negative = lent (0 ∷ []) registers values positive negative
+
+abbrev two : List ℕ
+two = 0 ∷ 0 ∷ []
+
+abbrev one : List ℕ
+one = 0 ∷ []
+
+too-long : RefusedBy10 (lists two one one one) room
+    × RefusedBy10 (lists one two one one) room
+    × RefusedBy10 (lists one one two one) room
+    × RefusedBy10 (lists one one one two) room
 unfolding writeLent writeOf number
-long-list = refl
+too-long = (refl, refl, refl, refl)
+
+too-few : RefusedBy10 (lists [] one one one) room
+    × RefusedBy10 (lists one [] one one) room
+    × RefusedBy10 (lists one one [] one) room
+    × RefusedBy10 (lists one one one []) room
+unfolding writeLent writeOf number
+too-few = (refl, refl, refl, refl)
 
 -- no room either: 10 comes first
 before-11 : RefusedBy10 (entry 3 0 0) []

@@ -9,7 +9,7 @@ use lib.Dec.{eqb}
 use Rattle.bits.specs.Bits.{fits}
 use Rattle.bits.specs.Fields.{pack}
 use Rattle.bits.proofs.IndexLaws.{and-true}
-use Rattle.rules.specs.Record.{registerBits, valueBits, accessOf, recordable}
+use Rattle.rules.specs.Record.{registerBits, valueBits, accessOf, recordable, kindOf, registerOf, valueOf}
 use Rattle.rules.specs.declared.Access.{Access}
 use Rattle.writer.specs.Lent.{accessIn}
 use Rattle.writer.specs.Parts.{accessWord}
@@ -73,3 +73,17 @@ word-of (suc (suc zero)) r v e =
     let a = and-true (fits registerBits r) (fits valueBits v) e in
     (omega arith, ltb-true r (2 ^ registerBits) (a .0), omega arith)
 word-of (suc (suc (suc k))) r v e = absurd (false≢true (sym (other-recordable (suc (suc (suc k))) r v (omega arith)) ∙ e))
+
+-- its access has the three numbers
+pub numbers-of : (k r v : ℕ) → recordable (accessIn k r v) ≡ true
+    → (kindOf (accessIn k r v) ≡ k) × (registerOf (accessIn k r v) ≡ r) × (valueOf (accessIn k r v) ≡ v)
+unfolding accessOf
+numbers-of zero r v e =
+    let a = and-true (eqb r 0) (eqb v 0) (sym (none-recordable r v) ∙ e) in
+    let p : r ≡ 0 = eqb-true r 0 (a .0) in
+    let q : v ≡ 0 = eqb-true v 0 (a .1) in rw (p, q) (refl, refl, refl)
+numbers-of (suc zero) r v e =
+    let a = and-true (fits registerBits r) (eqb v 0) (sym (read-recordable r v) ∙ e) in
+    let q : v ≡ 0 = eqb-true v 0 (a .1) in rw q (refl, refl, refl)
+numbers-of (suc (suc zero)) r v e = (refl, refl, refl)
+numbers-of (suc (suc (suc k))) r v e = absurd (false≢true (sym (other-recordable (suc (suc (suc k))) r v (omega arith)) ∙ e))

@@ -1,6 +1,6 @@
 -- How a list of accesses and samples is lent: five lists of numbers, of which entry i is tick i's.
 -- Assumes nothing.
-use Prim.Native.Nat.{ℕ, _*_, _≤_}
+use Prim.Native.Nat.{ℕ, _*_, _≤_, _<_}
 use mathlib.Core.Path.{_≡_}
 use mathlib.Core.Bool.{Bool, true, cond, _&&_}
 use mathlib.Core.List.{List, [], _∷_, _++_}
@@ -10,7 +10,7 @@ use lib.ListN.{getD, length, take, drop}
 use Rattle.bits.specs.Bits.{fits}
 use Rattle.bits.specs.Index.{each}
 use Rattle.rules.specs.Batch.{inputsOf}
-use Rattle.rules.specs.Record.{recordBytes, accessOf}
+use Rattle.rules.specs.Record.{recordBytes, accessOf, kindOf, registerOf, valueOf}
 use Rattle.rules.specs.Writer.{Written, WellFormed, writeVerdict, writeOf, write}
 use Rattle.rules.specs.declared.Access.{Access}
 use Rattle.rules.specs.declared.Input.{Input}
@@ -58,10 +58,19 @@ pub record Wrote (l : Lent) (buffer : List ℕ) (r : ℤ) (left : List ℕ) : Ty
   pub answer : r ≡ writeLent l buffer .answer
   pub bytes : left ≡ writeLent l buffer .buffer
 
+-- each access of the list has the numbers that were lent
+abbrev pub Numbers : Lent → Type 0
+Numbers l =
+    (i : ℕ) → i < length (l .kinds)
+    → (kindOf (inputAt l i .access) ≡ getD (l .kinds) i 0)
+    × (registerOf (inputAt l i .access) ≡ getD (l .registers) i 0)
+    × (valueOf (inputAt l i .access) ≡ getD (l .values) i 0)
+
 -- reading what was written gives the same accesses and samples, for every list that is not refused
 abbrev pub ReadBack : Lent → List ℕ → List ℕ → Type 0
 ReadBack l buffer left =
-    even l ≡ true → writeVerdict (listOf l) buffer ≡ Verdict.Accepted → inputsOf (take (length (l .kinds) * recordBytes) left) ≡ listOf l
+    even l ≡ true → writeVerdict (listOf l) buffer ≡ Verdict.Accepted
+    → (inputsOf (take (length (l .kinds) * recordBytes) left) ≡ listOf l) × Numbers l
 
 -- writing what was read gives the same bytes, for all well-formed records
 abbrev pub WrittenBack : Lent → List ℕ → List ℕ → Type 0
