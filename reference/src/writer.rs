@@ -21,13 +21,8 @@ pub fn record(
     out: &mut [u8],
 ) -> i64 {
     let entries = kinds.len();
-    let lengths = [
-        registers.len(),
-        values.len(),
-        positive.len(),
-        negative.len(),
-    ];
-    if lengths != [entries; 4] {
+    let wires = [positive.len(), negative.len()];
+    if [registers.len(), values.len()] != [entries; 2] || wires != [entries; 2] {
         return Refusal::Unrecordable.answer();
     }
     // The whole list is judged before a byte is written.

@@ -41,6 +41,10 @@ fn ended(out: &mut impl Write, left: usize, number: u64) -> Result<(), String> {
     Ok(())
 }
 
+fn title(n: usize) -> String {
+    format!("alerts: {n}; a class: its state, then ESC_CNT/ACCUM_CNT\n{HEADER}")
+}
+
 fn rows(
     asked: &Explain,
     from: &mut impl Read,
@@ -50,11 +54,7 @@ fn rows(
     let mut h = made(from, &asked.trace)?;
     let mut last = Word::default();
     let mut record = [0; RECORD];
-    let title = format!(
-        "alerts: {}; a class: its state, then ESC_CNT/ACCUM_CNT\n{HEADER}",
-        h.n
-    );
-    let mut heard = said(out, &title)?;
+    let mut heard = said(out, &title(h.n))?;
     let mut number = 0;
     while heard && number < asked.to {
         let have = filled(from, &mut record, &asked.trace)?;

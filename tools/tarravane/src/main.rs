@@ -33,9 +33,14 @@ A text: `alerts N` first, then a line for each tick: none, read REGISTER or writ
 is not at rest, wires I=PQ or I-J=PQ and more of them: alert I, or I to J, has its positive wire at P, its negative at Q. Every
 other alert is at rest, 01. A register has its name, as CLASSA_CTRL, or its number; a number is decimal, or hex after 0x. What
 follows # is a comment; blank lines are skipped. A bad line is told by its number, and then nothing is written.
+A line has at most 4096 bytes before its comment.
 ";
 
 fn run(words: &[String]) -> Result<(), String> {
+    if words.iter().any(|word| word == "--help" || word == "-h") {
+        print!("{HELP}");
+        return Ok(());
+    }
     match words.first().map(String::as_str) {
         Some("explain") => explain::explain(&args::explain::parse(&words[1..])?),
         Some("record") => {
@@ -47,7 +52,7 @@ fn run(words: &[String]) -> Result<(), String> {
                 record::run(&asked)
             }
         }
-        Some("help" | "-h" | "--help") => {
+        Some("help") => {
             print!("{HELP}");
             Ok(())
         }

@@ -44,7 +44,11 @@ fn replaced(path: &Path, fill: impl Fill) -> io::Result<()> {
 fn to_file(path: &Path, fill: impl Fill) -> io::Result<()> {
     match fs::metadata(path) {
         Ok(about) if about.is_dir() => Err(ErrorKind::IsADirectory.into()),
-        Ok(about) if about.is_file() => replaced(&fs::canonicalize(path)?, fill),
+        Ok(about) if about.is_file() => {
+            // A file that may not be written is not replaced by a new one either.
+            OpenOptions::new().write(true).open(path)?;
+            replaced(&fs::canonicalize(path)?, fill)
+        }
         Ok(_) => flushed(OpenOptions::new().write(true).open(path)?, fill),
         Err(_) => replaced(path, fill),
     }

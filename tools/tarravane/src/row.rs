@@ -123,14 +123,19 @@ fn fitted(causes: &[String], room: usize) -> String {
     text
 }
 
-/// The row up to the causes; `said`: what it says of access and wires.
+/// Does the column of this width hold the words?
+fn fits(words: &str, width: usize) -> bool {
+    words.len() <= width
+}
+
+/// The row up to the causes; `said`: what it says of access and wires. In columns only where each holds its words.
 fn columns(t: &Tick, x: &Input, said: &str, form: Form) -> String {
     let intr = flags(names::CLASSES, |k| t.word.interrupt(k));
     let line = flags(['0', '1', '2', '3'], |e| t.word.line(e));
     let [a, b, c, d] = [0, 1, 2, 3].map(|k| class(&t.after.classes[k], form));
     let (number, answer) = (t.number, answer(x, t.word, form));
     match form {
-        Form::Columns => {
+        Form::Columns if fits(said, 31) && fits(&answer, 20) => {
             format!("{number:>6} {said:<31} {answer:<20} {intr} {line} {a:<8} {b:<8} {c:<8} {d:<8}")
         }
         _ => format!("{number:>6} {said}: {answer} {intr} {line} {a} {b} {c} {d}"),

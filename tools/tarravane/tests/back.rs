@@ -200,7 +200,9 @@ fn explain_says_the_words_of_the_text() {
     let rows: Vec<&str> = rows.lines().skip(2).collect();
     assert_eq!(rows.len(), text.lines().count() - 1);
     for (number, (row, line)) in (1..).zip(rows.into_iter().zip(text.lines().skip(1))) {
-        let start = format!("{number:>6} {line} ");
-        assert!(row.starts_with(&start), "{row} is not of {line}");
+        // A space after it in columns, a colon where the row left them.
+        let rest = row.strip_prefix(&format!("{number:>6} {line}"));
+        let parted = rest.is_some_and(|rest| rest.starts_with([' ', ':']));
+        assert!(parted, "{row} is not of {line}");
     }
 }

@@ -12,7 +12,7 @@ pub struct Slip {
     pub wrong: &'static str,
 }
 
-/// The first ten are those asked for; the others are slips of the same sort.
+/// The first ten are those of the table in landing note 04; the others are slips of the same sort.
 pub const SLIPS: &[Slip] = &[
     Slip {
         name: "each alert counted",

@@ -77,6 +77,9 @@ impl<R: BufRead> Lines<R> {
                 let room = LONGEST + 1 - self.kept.len();
                 let said = hash.unwrap_or(piece.len()).min(room);
                 self.kept.extend_from_slice(&piece[..said]);
+                if self.kept.len() > LONGEST {
+                    return Ok(true);
+                }
             }
             let taken = end.map_or(bytes.len(), |at| at + 1);
             self.from.consume(taken);
