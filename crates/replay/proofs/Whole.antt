@@ -17,7 +17,6 @@ use Rattle.rules.specs.Valid.{valid}
 use Rattle.rules.specs.declared.Handler.{Handler}
 use Rattle.rules.specs.declared.Input.{Input}
 use Rattle.laws.proofs.BatchLaws.{batch-good}
-use Rattle.laws.proofs.KeepsValid.{run-valid}
 use Rattle.laws.proofs.Runs.{length-ticks}
 use Rattle.laws.specs.Batches.{ofTicks}
 use Rattle.batch.proofs.Running.{length-inputs}
@@ -25,10 +24,9 @@ use Rattle.batch.specs.Given as batch
 use Rattle.batch.specs.declared.Batched.{Batched}
 use Rattle.text.specs.Lines.{Written, linesOf, countOf}
 use Rattle.replay.specs.Given.{Given}
-use Rattle.replay.specs.declared.records.Replayed.{Replayed}
 
 -- a part of a list that the list's start holds
-part-take : {A : Type 0} (n k m : ℕ) (xs : List A) → k + n ≤ m → take n (drop k (take m xs)) ≡ take n (drop k xs)
+pub part-take : {A : Type 0} (n k m : ℕ) (xs : List A) → k + n ≤ m → take n (drop k (take m xs)) ≡ take n (drop k xs)
 part-take n zero m xs h = take-take n m xs (omega arith)
 part-take n (suc k) zero xs h = absurd (omega arith)
 part-take n (suc k) (suc m) [] h = refl
@@ -38,14 +36,14 @@ part-take n (suc k) (suc m) (x ∷ xs) h = part-take n k m xs (omega arith)
 abbrev pub wholeOf : List ℕ → List ℕ
 wholeOf bytes = take (recordCount bytes * recordBytes) bytes
 
-length-whole : (bytes : List ℕ) → length (wholeOf bytes) ≡ recordCount bytes * recordBytes
+pub length-whole : (bytes : List ℕ) → length (wholeOf bytes) ≡ recordCount bytes * recordBytes
 length-whole bytes = length-take-le (recordCount bytes * recordBytes) bytes (omega arith)
 
 count-whole : (bytes : List ℕ) → recordCount (wholeOf bytes) ≡ recordCount bytes
 count-whole bytes = let e = length-whole bytes in omega arith
 
 -- rest bytes are no record
-inputs-whole : (bytes : List ℕ) → inputsOf (wholeOf bytes) ≡ inputsOf bytes
+pub inputs-whole : (bytes : List ℕ) → inputsOf (wholeOf bytes) ≡ inputsOf bytes
 unfolding inputsOf
 inputs-whole bytes =
     ap (λ (n : ℕ). each n (λ i. inputOf (recordAt (wholeOf bytes) i))) (count-whole bytes)
@@ -83,7 +81,3 @@ module _ (h : Handler) (bytes text out : List ℕ) (v : valid h ≡ true) (fits 
             ∙ ap₂ (λ (k : ℕ) (ws : List ℕ). linesOf (take k ws) ++ drop (17 * k) text) c t
             ∙ ap (λ (ws : List ℕ). linesOf ws ++ drop (17 * recordCount bytes) text) (take-all (recordCount bytes) (wordsOf h bytes) (omega (arith, length-words h bytes)));
       }
-
--- the state after them is one that refusal 7 would not meet
-pub still-valid : (h : Handler) (bytes text : List ℕ) (r : Replayed) (left : List ℕ) → valid h ≡ true → Given h bytes text r left → valid (r .handler) ≡ true
-still-valid h bytes text r left v g = ap valid (g .handler) ∙ run-valid h (inputsOf bytes) v

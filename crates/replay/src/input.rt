@@ -1,40 +1,30 @@
-// Standard input, by the buffer.
+// Standard input, one read at a time: what a live source has sent is taken at once.
+ghost use Prim.Native.Nat.{_+_, _≤_};
+ghost use mathlib.Core.Path.{_≡_};
+ghost use lib.ListN.{length, take};
 ghost use Rattle.io.specs.Counts.{Counts};
 
-// How many bytes at the start of a buffer were read, and whether a read failed after them.
-pub struct Filled {
+// How many bytes a read gave, and whether it failed. No bytes: the input ended or the read failed.
+pub struct Got {
     pub count: usize,
     pub failed: bool,
 }
 
-// Reads once. No bytes: the input ended or the read failed.
-fn read_some(fd: i32, buf: &mut [u8]) -> Filled
+// Reads once, to the start of buf.
+pub fn read_some(fd: i32, buf: &mut [u8]) -> Got
     ensures { λ r. ⌜ Counts (r .count) (now (buf .exit)) ⌝ }
 {
     let got = libc::read(fd, buf);
-    Filled {
+    Got {
         count: io::count(got, buf),
         failed: got < 0,
     }
 }
 
-// Reads until buf is full, the input ends or a read fails.
-pub fn fill(fd: i32, buf: &mut [u8]) -> Filled
-    ensures { λ r. ⌜ Counts (r .count) (now (buf .exit)) ⌝ }
+// Reads once, behind the first bytes of buf, which stay.
+pub fn read_behind(fd: i32, buf: &mut [u8], at: usize) -> Got
+    requires { ⌜ at ≤ length (now buf) ⌝ }
+    ensures { λ r. ⌜ (at + r .count ≤ length (now (buf .exit))) × (take at (now (buf .exit)) ≡ take at (now (buf .entry))) ⌝ }
 {
-    let mut at: usize = 0;
-    while at < buf.len() {
-        let more = read_some(fd, &mut buf[at..]);
-        if more.count == 0 {
-            return Filled {
-                count: at,
-                failed: more.failed,
-            };
-        }
-        at += more.count;
-    }
-    Filled {
-        count: at,
-        failed: false,
-    }
+    read_some(fd, &mut buf[at..])
 }

@@ -1,27 +1,33 @@
 // "The program reads from standard input one byte N, then records, and prints each word".
 mod input;
 mod records;
+mod rest;
 
-use input::Filled;
-use input::fill;
+use input::read_behind;
+use input::read_some;
 use libc::STDERR_FILENO;
 use libc::STDIN_FILENO;
 use libc::STDOUT_FILENO;
 use records::BYTES;
-use records::RECORD;
 use records::TEXT;
 use records::replay;
+use rest::keep_rest;
 use rules::Handler;
 use rules::Made;
 use state::new::new;
 ghost use mathlib.Core.Path.{_≡_};
 ghost use mathlib.Core.Bool.{true};
+ghost use Prim.Native.Nat.{_*_, _≤_, _<_};
+ghost use lib.ListN.{length, take};
+ghost use Rattle.rules.specs.Record.{recordBytes};
 ghost use Rattle.rules.specs.State.{made};
 ghost use Rattle.rules.specs.Valid.{valid};
+ghost use Rattle.replay.specs.Rest.{Ran, Turned};
 
-// The state after a turn, and whether another one follows.
+// The state after a turn, how many bytes wait at the start of the buffer, and whether another turn follows.
 struct Turn {
     handler: Handler,
+    rest: usize,
     goes_on: bool,
 }
 
@@ -35,58 +41,64 @@ fn print(text: &[u8]) -> bool {
 }
 
 // After the last record: rest bytes print `cut`. That a read failed is told on standard error.
-fn finish(got: Filled) {
-    if got.count % RECORD != 0 {
+fn finish(rest: usize, failed: bool) {
+    if rest != 0 {
         print(b"cut\n");
     }
-    if got.failed {
+    if failed {
         io::write_all(STDERR_FILENO, b"replay: read failed\n");
     }
 }
 
-// Reads a turn's bytes, runs the records that they hold whole and prints the words. A turn that is not full is the last.
-fn take_turn(h: Handler) -> Turn
-    requires { ⌜ valid h ≡ true ⌝ }
-    ensures { λ r. ⌜ valid (r .handler) ≡ true ⌝ }
+// Runs the whole records of count bytes, keeps the rest for the next turn and prints the words.
+fn run_whole(h: Handler, bytes: &mut [u8], count: usize) -> Turn
+    requires { ⌜ (valid h ≡ true) × (length (now bytes) ≡ 2048 * recordBytes) × (count ≤ length (now bytes)) ⌝ }
+    ensures { λ r. ⌜ Ran h (take count (now (bytes .entry))) (r .handler) (r .rest) (now (bytes .exit)) ⌝ }
 {
-    let mut bytes = [0u8; BYTES];
     let mut text = [0u8; TEXT];
-    let got = fill(STDIN_FILENO, &mut bytes);
-    let count = got.count;
     let done = replay(h, &bytes[..count], &mut text);
+    let rest = keep_rest(bytes, count);
     let written = done.written;
     let handler = done.handler;
-    if !print(&text[..written]) {
+    Turn {
+        handler,
+        rest,
+        goes_on: print(&text[..written]),
+    }
+}
+
+// Reads once behind the bytes that wait, and runs what is whole now. A read that gives nothing makes the turn the last.
+fn take_turn(h: Handler, bytes: &mut [u8], rest: usize) -> Turn
+    requires { ⌜ (valid h ≡ true) × (length (now bytes) ≡ 2048 * recordBytes) × (rest < recordBytes) ⌝ }
+    ensures { λ r. ⌜ Turned h (take rest (now (bytes .entry))) (r .handler) (r .rest) (now (bytes .exit)) ⌝ }
+{
+    let got = read_behind(STDIN_FILENO, bytes, rest);
+    if got.count == 0 {
+        finish(rest, got.failed);
         return Turn {
-            handler,
+            handler: h,
+            rest,
             goes_on: false,
         };
     }
-    if count == BYTES {
-        return Turn {
-            handler,
-            goes_on: true,
-        };
-    }
-    finish(got);
-    Turn {
-        handler,
-        goes_on: false,
-    }
+    run_whole(h, bytes, rest + got.count)
 }
 
 // A proved loop has to end, and nothing says that the input does: so it counts its turns down, from a number that no run uses up.
 fn run(h: Handler)
     requires { ⌜ valid h ≡ true ⌝ }
 {
+    let mut bytes = [0u8; BYTES];
     let mut handler = h;
+    let mut rest = 0;
     let mut turns = u64::MAX;
     while turns > 0 {
-        let next = take_turn(handler);
+        let next = take_turn(handler, &mut bytes, rest);
         if !next.goes_on {
             return;
         }
         handler = next.handler;
+        rest = next.rest;
         turns -= 1;
     }
 }
@@ -105,10 +117,10 @@ fn refuse() {
 
 fn main() {
     let mut first = [0u8; 1];
-    let got = fill(STDIN_FILENO, &mut first);
+    let got = read_some(STDIN_FILENO, &mut first);
     if got.count == 0 {
         refuse();
-        finish(got);
+        finish(0, got.failed);
         return;
     }
     let start = make(first[0]);

@@ -1,65 +1,51 @@
--- `replay::take_turn` meets its contract: the ticks of a turn keep the state valid.
+-- `replay::take_turn` meets its contract: what was kept and what came are run together.
 -- Assumes nothing.
+use Prim.Native.Nat.{_+_, _≤_}
 use native.Mathlib.Omega.{arith}
-use lib.ListN.{length-take}
-use Rattle.replay.proofs.Whole.{still-valid}
 use borrow.Author.Needs.{needs}
+use Rattle.replay.proofs.TurnLaws.{turned-none, turned-read}
 use Rattle.replay.proofs.take_turn.Statement.{statement}
 use Rattle.replay.proofs.take_turn.Tie as tie
 
-slice-aggregate-fill : tie.Need-slice-aggregate-fill
-slice-aggregate-fill c = search needs
-
-fill-requires : tie.Need-fill-requires
-fill-requires c κs = search needs
-
-array-share-prefix-bytes : tie.Need-array-share-prefix-bytes
-array-share-prefix-bytes c = search needs
-
-slice-aggregate-replay : tie.Need-slice-aggregate-replay
-slice-aggregate-replay c = search needs
-
-slice-aggregate-replay-2 : tie.Need-slice-aggregate-replay-2
-slice-aggregate-replay-2 c = search needs
-
-replay-requires : tie.Need-replay-requires
-replay-requires c κs = search needs
-
-array-share-prefix-text : tie.Need-array-share-prefix-text
-array-share-prefix-text c = search needs
-
-slice-aggregate-print : tie.Need-slice-aggregate-print
-slice-aggregate-print c = simp length-take (omega arith)
-
-print-requires : tie.Need-print-requires
-print-requires c κs = search needs
-
-returns : tie.Need-returns
-returns c = still-valid _ _ _ _ _ (c .before .before .before .before .before .before .before .before .before .before .before .pre) (c .before .before .before .before .before .replay .ensures)
-
-returns-2 : tie.Need-returns-2
-returns-2 c = still-valid _ _ _ _ _ (c .before .before .before .before .before .before .before .before .before .before .before .before .pre) (c .before .before .before .before .before .before .replay .ensures)
+read-behind-requires : tie.Need-read-behind-requires
+read-behind-requires c κs = search needs
 
 finish-requires : tie.Need-finish-requires
 finish-requires c κs = search needs
 
-returns-3 : tie.Need-returns-3
-returns-3 c = still-valid _ _ _ _ _ (c .before .before .before .before .before .before .before .before .before .before .before .before .before .pre) (c .before .before .before .before .before .before .before .replay .ensures)
+same-length : tie.Need-same-length
+same-length c = search needs
+
+returns : tie.Need-returns
+returns c =
+    let start = c .before .before .before .before .before .before .before .before in
+    turned-none _ _ _ _ (start .pre .2) (c .before .before .before .before .before .read-behind .ensures .1)
+
+add-run-whole : tie.Need-add-run-whole
+add-run-whole c = search needs
+
+run-whole-requires : tie.Need-run-whole-requires
+run-whole-requires c κs = search needs
+
+same-length-2 : tie.Need-same-length-2
+same-length-2 c = search needs
+
+returns-2 : tie.Need-returns-2
+returns-2 c =
+    let start = c .before .before .before .before .before .before .before .before .before .before .before .before in
+    let read = c .before .before .before .before .before .before .before .before .before .read-behind in
+    let l : start .args .rest ≤ start .args .rest + read .result .count = omega arith in
+    turned-read _ _ _ _ _ l (read .ensures .1) _ _ _ (c .before .before .run-whole .ensures)
 
 pub take-turn-spec : {M : Type 1} → statement M
 take-turn-spec =
     tie.close
     (tie.spec
-    slice-aggregate-fill
-    fill-requires
-    array-share-prefix-bytes
-    slice-aggregate-replay
-    slice-aggregate-replay-2
-    replay-requires
-    array-share-prefix-text
-    slice-aggregate-print
-    print-requires
-    returns
-    returns-2
+    read-behind-requires
     finish-requires
-    returns-3)
+    same-length
+    returns
+    add-run-whole
+    run-whole-requires
+    same-length-2
+    returns-2)
