@@ -1,3 +1,15 @@
 //! The words after each command.
 pub mod explain;
 pub mod record;
+
+/// What the words ask for.
+#[derive(Debug, PartialEq, Eq)]
+pub enum Asked<T> {
+    Help,
+    Run(T),
+}
+
+/// Is the word an option? - alone is standard input.
+fn is_option(word: &str) -> bool {
+    word.len() > 1 && word.starts_with('-')
+}

@@ -1,68 +1,83 @@
-//! `record --back`: a trace to the text that gives it.
+//! `record --back`: a trace to the text that gives it. Every trace has one.
 use crate::args::record::Record;
-use crate::output;
+use crate::end::End;
+use crate::output::{self, Failure};
 use crate::progress::Progress;
-use crate::text::line;
-use crate::trace::{filled, input, made, opened, records};
-use handler::{record, Input, RECORD};
-use std::io::{self, stdout, IsTerminal, Read, Write};
+use crate::say::say;
+use crate::source::filled;
+use crate::text::{alerts, line};
+use crate::trace::{self, cut, input, made};
+use handler::{record, RECORD};
+use std::io::{stdout, IsTerminal, Read, Write};
 
-/// Does the proved writer give this record for this input? It does for every well-formed record and for no other.
-fn is_given(input: Input, bytes: &[u8; RECORD]) -> bool {
+/// The line of a record: of its input where the proved writer gives these bytes for it, as it does for every well-formed
+/// record, else of its bytes.
+fn words(bytes: &[u8; RECORD]) -> String {
+    let input = input(bytes);
     let mut again = [0; RECORD];
-    record(&[input], &mut again).bytes() == Ok(RECORD) && again == *bytes
+    if record(&[input], &mut again).bytes() == Ok(RECORD) && again == *bytes {
+        line::words(&input)
+    } else {
+        line::raw_words(bytes)
+    }
 }
 
-/// The inputs of all records, up to the first that no text gives.
-fn inputs(from: &mut impl Read, name: &str, progress: &mut Progress) -> Result<Vec<Input>, String> {
-    let mut all = Vec::new();
+/// Writes a line for each record, and one for bytes that are left over.
+fn records(
+    out: &mut dyn Write,
+    from: &mut impl Read,
+    name: &str,
+    progress: &mut Progress,
+) -> Result<End, Failure> {
     let mut bytes = [0; RECORD];
-    loop {
+    for number in 1.. {
         let have = filled(from, &mut bytes, name)?;
-        let number = all.len() as u64 + 1;
-        let read = input(&bytes);
-        match have {
-            0 => return Ok(all),
-            RECORD if is_given(read, &bytes) => all.push(read),
-            RECORD => return Err(format!("record {number}: malformed: no text gives it")),
-            _ => {
-                return Err(format!(
-                    "record {number}: cut after {have} bytes: no text gives it"
-                ))
-            }
+        if have == 0 {
+            break;
         }
+        if have < RECORD {
+            writeln!(out, "{}", line::cut_words(&bytes[..have]))?;
+            progress.clear();
+            say(&format!("cut: {}", cut(have, number - 1)));
+            return Ok(End::Damaged);
+        }
+        writeln!(out, "{}", words(&bytes))?;
         if progress.is_due(number) {
             progress.say(number);
         }
     }
+    Ok(End::Whole)
 }
 
-/// Writes the text; `progress` is missing where the lines themselves are seen.
-fn write(
+/// Writes the text; what makes its trace a damaged one is said beside it.
+fn text(
     out: &mut dyn Write,
-    n: usize,
-    inputs: &[Input],
-    mut progress: Option<Progress>,
-) -> io::Result<()> {
-    writeln!(out, "{}", line::alerts_words(n))?;
-    for (number, input) in (1..).zip(inputs) {
-        writeln!(out, "{}", line::words(input))?;
-        if let Some(progress) = progress.as_mut().filter(|p| p.is_due(number)) {
-            progress.say(number);
-        }
+    from: &mut impl Read,
+    name: &str,
+    progress: &mut Progress,
+) -> Result<End, Failure> {
+    let n = trace::alerts(from, name)?;
+    if let Some(n) = n {
+        writeln!(out, "{}", alerts::words(n))?;
     }
-    progress.iter_mut().for_each(Progress::clear);
-    Ok(())
+    let refused = made(n).err();
+    if let Some(why) = &refused {
+        say(&format!("refused: {why}"));
+    }
+    let end = records(out, from, name, progress)?;
+    Ok(if refused.is_some() { End::Damaged } else { end })
 }
 
-pub fn run(asked: &Record) -> Result<(), String> {
-    let (mut from, bytes) = opened(&asked.from)?;
-    let n = made(&mut from, &asked.from)?.n;
-    let mut progress = Progress::new("record", bytes.map(records));
-    let inputs = inputs(&mut from, &asked.from, &mut progress);
-    progress.clear();
-    let inputs = inputs?;
+pub fn run(asked: &Record) -> Result<End, String> {
+    let (mut from, all) = trace::opened(&asked.from)?;
     let seen = asked.to.is_none() && stdout().is_terminal();
-    let progress = (!seen).then(|| Progress::new("line", Some(inputs.len() as u64)));
-    output::write(asked.to.as_deref(), |out| write(out, n, &inputs, progress))
+    let mut progress = match seen {
+        true => Progress::silent(),
+        false => Progress::new("record", all),
+    };
+    let end = output::write(asked.to.as_deref(), |out| {
+        text(out, &mut from, &asked.from, &mut progress)
+    });
+    progress.clear();
+    end
 }

@@ -1,96 +1,91 @@
-//! `explain`: a row for each tick of a trace, record by record, so that memory stays bounded.
+//! `explain`: a row for each tick of a trace.
 use crate::args::explain::Explain;
+use crate::end::End;
+use crate::facts::{changes::changes, tick::Tick, ticks::Ticks};
+use crate::output::{self, Failure};
 use crate::progress::Progress;
-use crate::row::{changes, row, Tick, HEADER};
-use crate::trace::{self, filled, made};
-use handler::{Handler, Word, RECORD};
-use std::io::{stdout, BufWriter, ErrorKind, Read, Write};
-
-/// The state and the word after one record.
-fn ticked(h: Handler, record: &[u8; RECORD]) -> Result<(Handler, Word), String> {
-    let mut words = [Word::default()];
-    let (after, answer) = h.batch(record, &mut words);
-    match answer.value() {
-        Ok(_) => Ok((after, words[0])),
-        Err(refusal) => Err(format!("the library refused a record by {}", refusal.0)),
-    }
-}
-
-/// Writes a line; false where nobody reads on.
-fn said(out: &mut impl Write, line: &str) -> Result<bool, String> {
-    match writeln!(out, "{line}") {
-        Ok(()) => Ok(true),
-        Err(e) if e.kind() == ErrorKind::BrokenPipe => Ok(false),
-        Err(e) => Err(format!("cannot write: {e}")),
-    }
-}
-
-/// Is this tick asked for?
-fn wanted(asked: &Explain, tick: &Tick, last: Word) -> bool {
-    tick.number >= asked.from && (!asked.only_changes || changes(tick, last))
-}
+use crate::row::{row, HEADER};
+use crate::say::say;
+use crate::trace::{self, cut, made};
+use std::io::{Read, Write};
 
 /// The end of the trace: bytes that are left over make it a cut one.
-fn ended(out: &mut impl Write, left: usize, number: u64) -> Result<(), String> {
-    if left > 0 {
-        said(
-            out,
-            &format!("cut: the last {left} bytes, after tick {number}, make no whole record"),
-        )?;
+fn ended(out: &mut dyn Write, ticks: &Ticks<impl Read>) -> Result<End, Failure> {
+    match ticks.left() {
+        0 => Ok(End::Whole),
+        left => {
+            writeln!(out, "cut: {}", cut(left, ticks.number()))?;
+            Ok(End::Damaged)
+        }
     }
-    Ok(())
 }
 
-fn title(n: usize) -> String {
-    format!("alerts: {n}; a class: its state, then ESC_CNT/ACCUM_CNT\n{HEADER}")
+/// Is there a row for this tick?
+fn wanted(asked: &Explain, tick: &Tick) -> bool {
+    tick.number >= asked.from && (!asked.only_changes || changes(tick))
+}
+
+/// A first row that is past the end is told: no rows are no fault of the trace.
+fn tell_missed(from: u64, ticks: u64) {
+    if from > 1 && from > ticks {
+        let s = if ticks == 1 { "" } else { "s" };
+        say(&format!(
+            "--from {from}: the trace has only {ticks} tick{s}"
+        ));
+    }
 }
 
 fn rows(
     asked: &Explain,
-    from: &mut impl Read,
-    out: &mut impl Write,
+    ticks: &mut Ticks<impl Read>,
+    out: &mut dyn Write,
     progress: &mut Progress,
-) -> Result<(), String> {
-    let mut h = made(from, &asked.trace)?;
-    let mut last = Word::default();
-    let mut record = [0; RECORD];
-    let mut heard = said(out, &title(h.n))?;
-    let mut number = 0;
-    while heard && number < asked.to {
-        let have = filled(from, &mut record, &asked.trace)?;
-        if have < RECORD {
-            return ended(out, have, number);
-        }
-        number += 1;
-        let (after, word) = ticked(h, &record)?;
-        let tick = Tick {
-            number,
-            record: &record,
-            before: &h,
-            after: &after,
-            word,
-        };
-        if wanted(asked, &tick, last) {
+) -> Result<End, Failure> {
+    writeln!(out, "{HEADER}")?;
+    while ticks.number() < asked.to {
+        let Some(tick) = ticks.take()? else {
             progress.clear();
-            heard = said(out, &row(&tick))?;
+            tell_missed(asked.from, ticks.number());
+            return ended(out, ticks);
+        };
+        if wanted(asked, &tick) {
+            progress.clear();
+            writeln!(out, "{}", row(&tick))?;
         }
-        if progress.is_due(number) {
-            heard = out.flush().is_ok();
-            progress.say(number);
+        if progress.is_due(tick.number) {
+            out.flush()?;
+            progress.say(tick.number);
         }
-        (h, last) = (after, word);
     }
-    Ok(())
+    Ok(End::Whole)
 }
 
-pub fn explain(asked: &Explain) -> Result<(), String> {
-    let (mut from, bytes) = trace::opened(&asked.trace)?;
-    let mut out = BufWriter::new(stdout().lock());
-    let mut progress = Progress::new("tick", bytes.map(trace::records));
-    let done = rows(asked, &mut from, &mut out, &mut progress);
+fn shown(
+    asked: &Explain,
+    from: &mut impl Read,
+    out: &mut dyn Write,
+    progress: &mut Progress,
+) -> Result<End, Failure> {
+    let handler = match made(trace::alerts(from, &asked.trace)?) {
+        Ok(handler) => handler,
+        Err(why) => {
+            writeln!(out, "refused: {why}")?;
+            return Ok(End::Damaged);
+        }
+    };
+    let mut ticks = Ticks::new(from, &asked.trace, handler);
+    let n = handler.n;
+    writeln!(
+        out,
+        "alerts: {n}; a class: its state, then ESC_CNT/ACCUM_CNT"
+    )?;
+    rows(asked, &mut ticks, out, progress)
+}
+
+pub fn run(asked: &Explain) -> Result<End, String> {
+    let (mut from, all) = trace::opened(&asked.trace)?;
+    let mut progress = Progress::new("tick", all);
+    let end = output::write(None, |out| shown(asked, &mut from, out, &mut progress));
     progress.clear();
-    match out.flush() {
-        Err(e) if e.kind() != ErrorKind::BrokenPipe => done.and(Err(format!("cannot write: {e}"))),
-        _ => done,
-    }
+    end
 }

@@ -1,63 +1,58 @@
 //! The command-line tool behind `./tarravane`. It decides nothing about a trace: it asks the proved library.
 mod args;
 mod back;
+mod end;
 mod explain;
+mod facts;
+mod help;
 mod names;
 mod output;
 mod progress;
 mod record;
 mod row;
+mod say;
+mod source;
 mod text;
 mod trace;
 
+use args::Asked;
+use end::End;
 use std::process::ExitCode;
 
-const HELP: &str = "\
-usage: tarravane-cli COMMAND
+fn helped(text: &str) -> Result<End, String> {
+    output::write(None, |out| {
+        out.write_all(text.as_bytes())?;
+        Ok(End::Whole)
+    })
+}
 
-  explain [OPTION..] TRACE   one readable row for each tick of a trace: a file, or standard input where it is -
-    --from TICK              rows from this tick on; the first record is tick 1
-    --to TICK                rows up to this tick; the trace is read no further
-    --only-changes           only rows where an interrupt, a line, a class's state, its ACCUM_CNT or a cause changed
-  record TEXT [-o TRACE]     the trace that a text gives: to the file, or to standard output; TEXT may be -
-    --back TRACE [-o TEXT]   the other way: the text that gives a trace, in the words of explain; TRACE may be -
-  help                       this text
-
-A row: tick, access and wires, answer, interrupts that are on (A to D), lines that are on (0 to 3), the state of each class
-with its counts as ESC_CNT/ACCUM_CNT (left out where both are 0), and the causes that were 0 before the tick and are 1 after
-it. States: Idle, Tout (Timeout), Ph0 to Ph3 (the phases), Term (Terminal). A row that would be wider than 120 columns leaves
-its columns, and if need be counts the alerts that are off rest (wires ~12) or is in short form: r and w, states in two
-letters, counts as 12k, wires as ~12, causes as +3.
-
-A text: `alerts N` first, then a line for each tick: none, read REGISTER or write REGISTER VALUE, and after it, where an alert
-is not at rest, wires I=PQ or I-J=PQ and more of them: alert I, or I to J, has its positive wire at P, its negative at Q. Every
-other alert is at rest, 01. A register has its name, as CLASSA_CTRL, or its number; a number is decimal, or hex after 0x. What
-follows # is a comment; blank lines are skipped. A bad line is told by its number, and then nothing is written.
-A line has at most 4096 bytes before its comment.
-";
-
-fn run(words: &[String]) -> Result<(), String> {
-    if words.iter().any(|word| word == "--help" || word == "-h") {
-        print!("{HELP}");
-        return Ok(());
+fn explain(words: &[String]) -> Result<End, String> {
+    match args::explain::parse(words)? {
+        Asked::Help => helped(help::EXPLAIN),
+        Asked::Run(asked) => explain::run(&asked),
     }
-    match words.first().map(String::as_str) {
-        Some("explain") => explain::explain(&args::explain::parse(&words[1..])?),
-        Some("record") => {
-            let asked = args::record::parse(&words[1..])?;
+}
+
+fn record(words: &[String]) -> Result<End, String> {
+    match args::record::parse(words)? {
+        Asked::Help => helped(help::RECORD),
+        Asked::Run(asked) => {
             output::check(&asked.from, asked.to.as_deref())?;
-            if asked.back {
-                back::run(&asked)
-            } else {
-                record::run(&asked)
-            }
+            let run = if asked.back { back::run } else { record::run };
+            run(&asked)
         }
-        Some("help") => {
-            print!("{HELP}");
-            Ok(())
-        }
-        Some(other) => Err(format!("no such command: {other} (try help)")),
-        None => Err("no command (try help)".to_string()),
+    }
+}
+
+fn run(words: &[String]) -> Result<End, String> {
+    match words
+        .split_first()
+        .map(|(first, rest)| (first.as_str(), rest))
+    {
+        Some(("explain", rest)) => explain(rest),
+        Some(("record", rest)) => record(rest),
+        Some((other, _)) => Err(format!("no such command: {other} (try ./tarravane help)")),
+        None => Err("no command (try ./tarravane help)".to_string()),
     }
 }
 
@@ -71,11 +66,5 @@ fn words() -> Result<Vec<String>, String> {
 }
 
 fn main() -> ExitCode {
-    match words().and_then(|words| run(&words)) {
-        Ok(()) => ExitCode::SUCCESS,
-        Err(problem) => {
-            eprintln!("tarravane: {problem}");
-            ExitCode::from(2)
-        }
-    }
+    end::status(words().and_then(|words| run(&words)))
 }

@@ -1,5 +1,5 @@
 //! How far a long input has been read, on standard error where that is a terminal.
-use std::io::{stderr, IsTerminal};
+use std::io::{stderr, IsTerminal, Write};
 
 /// Units from one word to the next.
 const EVERY: u64 = 1 << 16;
@@ -22,6 +22,14 @@ impl Progress {
         }
     }
 
+    /// Says nothing: for what shows by itself how far it is.
+    pub fn silent() -> Progress {
+        Progress {
+            on: false,
+            ..Progress::new("", None)
+        }
+    }
+
     /// Is there a word to say at this number?
     pub fn is_due(&self, number: u64) -> bool {
         self.on && number.is_multiple_of(EVERY)
@@ -29,17 +37,17 @@ impl Progress {
 
     pub fn say(&mut self, number: u64) {
         let unit = self.unit;
-        match self.all {
-            Some(all) => eprint!("\r{unit} {number} of {all}"),
-            None => eprint!("\r{unit} {number}"),
-        }
+        let _ = match self.all {
+            Some(all) => write!(stderr(), "\r{unit} {number} of {all}"),
+            None => write!(stderr(), "\r{unit} {number}"),
+        };
         self.shown = true;
     }
 
     /// Takes the word away again.
     pub fn clear(&mut self) {
         if self.shown {
-            eprint!("\r\x1b[K");
+            let _ = write!(stderr(), "\r\x1b[K");
             self.shown = false;
         }
     }

@@ -1,7 +1,12 @@
 //! The row of a tick.
-use crate::text::{access, line, wires};
-use crate::{names, trace};
-use handler::{Access, Class, Handler, Input, Word, RECORD};
+mod causes;
+mod class;
+mod said;
+
+use crate::facts::tick::Tick;
+use crate::names;
+use class::class;
+use handler::{Access, Input, Word};
 
 /// No row is wider.
 pub const WIDTH: usize = 120;
@@ -15,34 +20,6 @@ enum Form {
     Columns,
     Squeezed,
     Short,
-}
-
-/// What a row tells of.
-pub struct Tick<'a> {
-    pub number: u64,
-    pub record: &'a [u8; RECORD],
-    pub before: &'a Handler,
-    pub after: &'a Handler,
-    pub word: Word,
-}
-
-/// Wires as the number of alerts that are off rest, after these words; nothing where all are at rest.
-fn counted(words: &str, x: &Input) -> String {
-    match wires::count(x.wires) {
-        0 => String::new(),
-        alerts => format!("{words}~{alerts}"),
-    }
-}
-
-/// The access with r for read and w for write, and the wires as a number.
-fn shortest(x: &Input) -> String {
-    let words = access::words(x.access);
-    let access = match words.split_once(' ') {
-        Some(("read", rest)) => format!("r {rest}"),
-        Some(("write", rest)) => format!("w {rest}"),
-        _ => words,
-    };
-    access + &counted(" ", x)
 }
 
 fn reads(x: &Input) -> bool {
@@ -61,66 +38,6 @@ fn answer(x: &Input, word: Word, form: Form) -> String {
 
 fn flags(names: [char; 4], on: impl Fn(usize) -> bool) -> String {
     (0..4).map(|b| if on(b) { names[b] } else { '-' }).collect()
-}
-
-/// A count in at most four columns, up to 65535 in three.
-fn short(count: u32) -> String {
-    match count {
-        0..=999 => count.to_string(),
-        1_000..=999_999 => format!("{}k", count / 1_000),
-        1_000_000..=999_999_999 => format!("{}M", count / 1_000_000),
-        _ => format!("{}G", count / 1_000_000_000),
-    }
-}
-
-fn class(c: &Class, form: Form) -> String {
-    let (state, count): (_, fn(u32) -> String) = match form {
-        Form::Short => (names::short_state(c.state), short),
-        _ => (names::state(c.state), |count| count.to_string()),
-    };
-    match (c.count, u32::from(c.accum)) {
-        (0, 0) => state.to_string(),
-        (esc, accum) => format!("{state} {}/{}", count(esc), count(accum)),
-    }
-}
-
-/// Names with the numbers that are newly 1, each as it is written after the one before: ` ALERT0`, `,5`.
-fn newly(name: &str, before: &[u8], after: &[u8]) -> Vec<String> {
-    let mut all = Vec::new();
-    for i in (0..after.len()).filter(|&i| before[i] == 0 && after[i] == 1) {
-        let start = if all.is_empty() {
-            format!(" {name}")
-        } else {
-            ",".to_string()
-        };
-        all.push(format!("{start}{i}"));
-    }
-    all
-}
-
-/// The causes that were 0 before the tick and are 1 after it.
-fn causes(before: &Handler, after: &Handler) -> Vec<String> {
-    let mut all = newly("ALERT", &before.alerts.cause, &after.alerts.cause);
-    all.extend(newly(
-        "LOC_ALERT",
-        &before.locals.cause,
-        &after.locals.cause,
-    ));
-    all
-}
-
-/// As many causes as there is room for, and how many more there are.
-fn fitted(causes: &[String], room: usize) -> String {
-    let mut text = String::new();
-    for (i, cause) in causes.iter().enumerate() {
-        let left = causes.len() - i;
-        let more = if left > 1 { " +00".len() } else { 0 };
-        if text.len() + cause.len() + more > room {
-            return format!("{text} +{left}");
-        }
-        text += cause;
-    }
-    text
 }
 
 /// Does the column of this width hold the words?
@@ -145,10 +62,9 @@ fn columns(t: &Tick, x: &Input, said: &str, form: Form) -> String {
 /// The row in the first form that has room for it, with the line of a text, else with the wires counted; in short form
 /// causes may be left out, and are then counted.
 pub fn row(t: &Tick) -> String {
-    let x = trace::input(t.record);
-    let causes = causes(t.before, t.after);
-    let counted = access::words(x.access) + &counted(" wires ", &x);
-    for said in [line::words(&x), counted] {
+    let x = t.input();
+    let causes = causes::set(&t.before, &t.after);
+    for said in [said::whole(&x), said::counted(&x)] {
         for form in [Form::Columns, Form::Squeezed] {
             let row = columns(t, &x, &said, form) + &causes.concat();
             if row.trim_end().len() <= WIDTH {
@@ -156,24 +72,15 @@ pub fn row(t: &Tick) -> String {
             }
         }
     }
-    let short = columns(t, &x, &shortest(&x), Form::Short);
+    let short = columns(t, &x, &said::shortest(&x), Form::Short);
     let room = WIDTH.saturating_sub(short.len());
-    short + &fitted(&causes, room)
-}
-
-/// Did an interrupt, a line, a class's state, its ACCUM_CNT or a cause change?
-pub fn changes(t: &Tick, last: Word) -> bool {
-    let outputs = |w: Word| w.0 >> 56;
-    let places = |h: &Handler| h.classes.map(|c| (c.state, c.accum));
-    outputs(t.word) != outputs(last)
-        || places(t.before) != places(t.after)
-        || t.before.alerts.cause != t.after.alerts.cause
-        || t.before.locals.cause != t.after.locals.cause
+    short + &causes::fitted(&causes, room)
 }
 
 #[cfg(test)]
 mod tests {
     use super::*;
+    use handler::{Handler, RECORD};
 
     /// A state as wide as any: all classes counting, every cause set.
     fn widest(before: Handler) -> Handler {
@@ -213,28 +120,14 @@ mod tests {
             for number in [1, 9_999_999_999] {
                 let text = row(&Tick {
                     number,
-                    record: &record,
-                    before: &before,
-                    after: &widest(before),
+                    record,
+                    before,
+                    after: widest(before),
+                    last: Word::default(),
                     word,
                 });
                 assert!(text.len() <= WIDTH, "{} columns: {text}", text.len());
             }
-        }
-    }
-
-    #[test]
-    fn counts_are_short_in_four_columns() {
-        for (count, text) in [
-            (0, "0"),
-            (999, "999"),
-            (1_000, "1k"),
-            (65_535, "65k"),
-            (999_999, "999k"),
-            (1_000_000, "1M"),
-            (u32::MAX, "4G"),
-        ] {
-            assert_eq!(short(count), text);
         }
     }
 

@@ -1,61 +1,48 @@
 //! A trace as bytes: one byte N, then records. What is read here is for showing only: the library judges records.
+mod text;
+
+use crate::source::{self, filled, Source};
 use handler::{Access, Handler, Input, Wires, RECORD};
-use std::fs::File;
-use std::io::{stdin, BufReader, ErrorKind, Read};
+use std::io::{Chain, Cursor, Read};
 
-/// Records that are read at once.
-pub const AT_ONCE: usize = 4096;
+/// A trace that is read: the bytes that were looked at, then the others.
+pub type Trace = Chain<Cursor<Vec<u8>>, Source>;
 
-/// What a trace or a text is read from.
-pub type Source = BufReader<Box<dyn Read>>;
-
-/// A trace or text by its file's name, standard input where that is -, and how many bytes it has where that is known.
-pub fn opened(name: &str) -> Result<(Source, Option<u64>), String> {
-    let (from, bytes): (Box<dyn Read>, _) = if name == "-" {
-        (Box::new(stdin()), None)
-    } else {
-        let file = File::open(name).map_err(|e| format!("cannot open {name}: {e}"))?;
-        let about = file.metadata().ok().filter(|about| about.is_file());
-        (Box::new(file), about.map(|about| about.len()))
-    };
-    Ok((BufReader::with_capacity(AT_ONCE * RECORD, from), bytes))
-}
-
-/// How many records a trace of so many bytes has.
-pub fn records(bytes: u64) -> u64 {
-    bytes.saturating_sub(1) / RECORD as u64
-}
-
-/// Fills as much of the buffer as the trace has bytes left.
-pub fn filled(from: &mut impl Read, buffer: &mut [u8], name: &str) -> Result<usize, String> {
-    let mut have = 0;
-    while have < buffer.len() {
-        match from.read(&mut buffer[have..]) {
-            Ok(0) => break,
-            Ok(more) => have += more,
-            Err(e) if e.kind() == ErrorKind::Interrupted => {}
-            Err(e) => return Err(format!("cannot read {name}: {e}")),
-        }
-    }
-    Ok(have)
-}
-
-/// The handler that the first byte asks for.
-pub fn made(from: &mut impl Read, name: &str) -> Result<Handler, String> {
-    let mut n = [0];
-    if filled(from, &mut n, name)? == 0 {
+/// A trace by its file's name, standard input where that is -, and how many records it has where that is known.
+pub fn opened(name: &str) -> Result<(Trace, Option<u64>), String> {
+    let (mut from, bytes) = source::opened(name)?;
+    let mut looked_at = Vec::new();
+    if text::begins(&mut from, &mut looked_at, name)? {
         return Err(format!(
-            "{name} is empty: a trace begins with the number of alerts"
+            "{name}: this is a text: ./tarravane record makes a trace of it"
         ));
     }
-    let (handler, answer) = Handler::new(usize::from(n[0]));
+    let records = bytes.map(|bytes| bytes.saturating_sub(1) / RECORD as u64);
+    Ok((Cursor::new(looked_at).chain(from), records))
+}
+
+/// N, the first byte; nothing where the trace is empty.
+pub fn alerts(from: &mut impl Read, name: &str) -> Result<Option<u8>, String> {
+    let mut n = [0];
+    let have = filled(from, &mut n, name)?;
+    Ok((have == 1).then_some(n[0]))
+}
+
+/// The handler that N asks for, or why it is refused.
+pub fn made(n: Option<u8>) -> Result<Handler, String> {
+    let n = n.ok_or("the trace is empty: it begins with the number of alerts")?;
+    let (handler, answer) = Handler::new(usize::from(n));
     match answer.value() {
         Ok(_) => Ok(handler),
         Err(_) => Err(format!(
-            "{name} asks for {} alerts: a handler is made for 1 to 64",
-            n[0]
+            "the trace asks for {n} alerts: a handler is made for 1 to 64"
         )),
     }
+}
+
+/// What is said of a cut trace: `left` bytes after so many records.
+pub fn cut(left: usize, records: u64) -> String {
+    format!("the last {left} bytes, after tick {records}, make no whole record")
 }
 
 fn number(bytes: &[u8]) -> u64 {

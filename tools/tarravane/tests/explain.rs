@@ -1,8 +1,7 @@
 //! `explain` as a technician runs it.
 mod common;
 
-use common::{example, given, record, refused, REST};
-use std::process::Command;
+use common::{ended, example, given, record, refused, REST};
 
 /// The rows of a run that goes well, without the two lines above them.
 fn rows(words: &[&str], input: &[u8]) -> Vec<String> {
@@ -67,7 +66,35 @@ fn a_range_of_ticks() {
     );
     assert_eq!(numbers(&rows(&[&seal, "--from", "25"], &[])), [25, 26]);
     assert_eq!(numbers(&rows(&[&seal, "--to", "1"], &[])), [1]);
-    assert!(rows(&[&seal, "--from", "27"], &[]).is_empty());
+}
+
+/// No row is no fault, but it is said.
+#[test]
+fn a_range_past_the_end_is_told() {
+    let seal = example("broken-seal.trace");
+    for (words, why) in [
+        (
+            &["--from", "27"][..],
+            "--from 27: the trace has only 26 ticks",
+        ),
+        (
+            &["--from", "99", "--to", "100", "--only-changes"],
+            "--from 99: the trace has only 26 ticks",
+        ),
+    ] {
+        let (rows, said) = ended("explain", &[words, &[&seal]].concat(), &[], 0);
+        assert_eq!(String::from_utf8_lossy(&rows).lines().count(), 2);
+        assert_eq!(said, [why]);
+    }
+    let one = [vec![1], record(0, 0, 0, REST)].concat();
+    for (bytes, why) in [
+        (&one[..], "--from 2: the trace has only 1 tick"),
+        (&[1], "--from 2: the trace has only 0 ticks"),
+    ] {
+        let (_, said) = ended("explain", &["-", "--from", "2"], bytes, 0);
+        assert_eq!(said, [why]);
+    }
+    given("explain", &["-", "--from", "1"], &one);
 }
 
 #[test]
@@ -77,36 +104,50 @@ fn only_changes() {
 }
 
 #[test]
-fn standard_input_and_a_cut() {
+fn standard_input() {
     let mut bytes = vec![1];
     bytes.extend(record(1, 321, 0, REST));
-    assert_eq!(rows(&["-"], &bytes).len(), 1);
-    bytes.extend([0; 5]);
-    let cut = rows(&["-"], &bytes);
-    assert!(cut[0].contains("read CLASSA_CTRL") && cut[0].contains("0x393c"));
-    assert_eq!(
-        cut[1],
-        "cut: the last 5 bytes, after tick 1, make no whole record"
-    );
+    let one = rows(&["-"], &bytes);
+    assert_eq!(one.len(), 1);
+    assert!(one[0].contains("read CLASSA_CTRL") && one[0].contains("0x393c"));
     assert!(rows(&["-"], &[64]).is_empty());
+}
+
+#[test]
+fn a_file_may_have_the_name_of_an_option() {
+    let seal = example("broken-seal.trace");
+    assert_eq!(rows(&["--", &seal], &[]).len(), 26);
+    assert_eq!(rows(&["--to", "3", "--", &seal], &[]).len(), 3);
+    let said = refused("explain", &["--", "--help"], &[]);
+    assert!(said.starts_with("cannot open --help: "), "{said}");
 }
 
 #[test]
 fn bad_input_is_one_line_and_status_2() {
     let folder = example("");
-    let bad: [(&[&str], &[u8]); 8] = [
-        (&["-"], &[]),
-        (&["-"], &[0]),
-        (&["-"], &[65]),
-        (&["no-such.trace"], &[]),
-        (&[&folder], &[]),
-        (&[], &[]),
-        (&["-", "--from", "x"], &[]),
-        (&["-", "--all"], &[]),
+    let bad: [&[&str]; 6] = [
+        &["no-such.trace"],
+        &[&folder],
+        &[],
+        &["-", "--from", "x"],
+        &["-", "--all"],
+        &["-", "-x"],
     ];
-    for (words, input) in bad {
-        refused("explain", words, input);
+    for words in bad {
+        refused("explain", words, &[1]);
     }
+}
+
+#[test]
+fn a_text_is_no_trace() {
+    let why = "this is a text: ./tarravane record makes a trace of it";
+    let text = example("broken-seal.txt");
+    assert_eq!(refused("explain", &[&text], &[]), format!("{text}: {why}"));
+    let said = refused("explain", &["-"], b"alerts 2\nnone\n");
+    assert_eq!(said, format!("-: {why}"));
+    // 35 is #, and a trace of 35 alerts is one.
+    let trace = [vec![35], record(1, 321, 0, REST)].concat();
+    assert_eq!(rows(&["-"], &trace).len(), 1);
 }
 
 /// All 64 alerts at once, in every class, with long counts: each row fits, and the causes that do not are counted.
@@ -164,22 +205,29 @@ fn wires_that_do_not_fit_are_counted() {
 }
 
 #[test]
-fn help_says_how() {
-    let output = Command::new(env!("CARGO_BIN_EXE_tarravane-cli"))
-        .arg("help")
-        .output()
-        .expect("it runs");
-    assert!(output.status.success());
-    let text = String::from_utf8(output.stdout).expect("text");
-    for word in [
-        "explain",
-        "--from",
-        "--to",
-        "--only-changes",
-        "record",
-        "--back",
-        "-o",
+fn each_command_has_its_own_help() {
+    for (command, own, other) in [
+        (
+            "explain",
+            &["--from", "--to", "--only-changes"][..],
+            "--back",
+        ),
+        (
+            "record",
+            &["--back", "-o", "raw HEX", "cut HEX"],
+            "--only-changes",
+        ),
     ] {
-        assert!(text.contains(word));
+        for words in [&["--help"][..], &["-h"], &["missing", "--help"]] {
+            let text = String::from_utf8(given(command, words, &[])).expect("text");
+            assert!(text.starts_with(&format!("usage: ./tarravane {command} ")));
+            assert!(text.contains("Exit status:") && !text.contains("tarravane-cli"));
+            own.iter()
+                .for_each(|word| assert!(text.contains(word), "{word}"));
+            assert!(!text.contains(other));
+        }
     }
+    let help = String::from_utf8(given("explain", &["--help"], &[])).expect("text");
+    let order = "The answer is given before the tick's events;";
+    assert!(help.contains(order));
 }

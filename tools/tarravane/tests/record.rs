@@ -1,42 +1,9 @@
 //! `record` as a harbour office runs it: a text to a trace.
 mod common;
 
-use common::{example, given, record, refused, REST};
+use common::folder::Folder;
+use common::{ended, example, given, record, refused, REST};
 use std::fs;
-use std::path::{Path, PathBuf};
-
-/// A folder of this test alone, gone after it.
-struct Folder(PathBuf);
-
-impl Folder {
-    fn new(test: &str) -> Folder {
-        let name = format!("tarravane-{}-{test}", std::process::id());
-        let path = std::env::temp_dir().join(name);
-        fs::create_dir(&path).expect("a folder");
-        Folder(path)
-    }
-
-    fn path(&self, name: &str) -> String {
-        self.0.join(name).to_string_lossy().into_owned()
-    }
-
-    /// The names of all that is in it.
-    fn names(&self) -> Vec<String> {
-        let name = |path: &Path| path.file_name().map(|n| n.to_string_lossy().into_owned());
-        let entries = fs::read_dir(&self.0).expect("the folder");
-        let mut all: Vec<String> = entries
-            .filter_map(|entry| name(&entry.expect("an entry").path()))
-            .collect();
-        all.sort();
-        all
-    }
-}
-
-impl Drop for Folder {
-    fn drop(&mut self) {
-        let _ = fs::remove_dir_all(&self.0);
-    }
-}
 
 fn trace_of(text: &str) -> Vec<u8> {
     given("record", &["-"], text.as_bytes())
@@ -63,7 +30,7 @@ fn each_line_is_a_record() {
     let text = "
         # a comment, and a blank line
 
-        alerts 2  # N
+        alerts 64  # N
         write CLASSA_CTRL 0x393f wires 0=10 5=11
         read ALERT0_CAUSE
         none wires 0-3=10
@@ -72,7 +39,7 @@ fn each_line_is_a_record() {
     ";
     let top = |alert: u64| 1 << (63 - alert);
     let wanted = [
-        vec![2],
+        vec![64],
         record(2, 321, 0x393F, (top(0) | top(5), !top(0))),
         record(1, 256, 0, REST),
         record(0, 0, 0, (0xF << 60, u64::MAX >> 4)),
@@ -106,26 +73,40 @@ fn line_ends_and_spaces_make_no_difference() {
 
 #[test]
 fn a_bad_first_line_is_told() {
-    let number = "alerts wants a number from 1 to 64";
-    assert_eq!(said_of(""), "line 1: the text ends before alerts N");
-    assert_eq!(said_of("\n# x\n"), "line 3: the text ends before alerts N");
+    let number = "alerts wants a number: 1 to 64, or another byte for a trace that is refused";
     assert_eq!(
         said_of("\nnone"),
         "line 2: a text begins with alerts N, not with none"
     );
     assert_eq!(said_of("alerts"), format!("line 1: {number}"));
     assert_eq!(
-        said_of("alerts 0\nnone"),
-        format!("line 1: {number}, not 0")
-    );
-    assert_eq!(
-        said_of("\n\nalerts 65"),
-        format!("line 3: {number}, not 65")
+        said_of("\n\nalerts 256"),
+        format!("line 3: {number}, not 256")
     );
     assert_eq!(said_of("alerts two"), format!("line 1: {number}, not two"));
     assert_eq!(said_of("alerts 2 none"), "line 1: unexpected: none");
     let trace = fs::read(example("broken-seal.trace")).expect("the example");
     assert_eq!(said_of(trace), "line 1: not UTF-8 text: byte 0x88");
+}
+
+/// What counts for nothing is written, and warned of.
+#[test]
+fn alerts_at_n_and_above_are_warned_of() {
+    let text =
+        "alerts 2\nnone wires 1=10 5=01\nread ALERT2_EN wires 2-9=11\nwrite 319 1\nread 1023\n";
+    let (trace, said) = ended("record", &["-"], text.as_bytes(), 0);
+    assert_eq!(trace.len(), 1 + 4 * 24);
+    assert_eq!(
+        said,
+        [
+            "line 3: alerts is 2: ALERT2_EN is no register, the wires of alert 2 count for nothing",
+            "line 4: alerts is 2: ALERT63_CAUSE is no register",
+        ]
+    );
+    let many = format!("alerts 63\n{}", "none wires 63=00\n".repeat(14));
+    let (_, said) = ended("record", &["-"], many.as_bytes(), 0);
+    assert_eq!(said.len(), 11);
+    assert_eq!(said[10], "4 more lines of such alerts");
 }
 
 #[test]
@@ -136,15 +117,15 @@ fn a_bad_line_is_told_by_its_number() {
     for (line, problem) in [
         (
             "alerts 2",
-            "none, read or write is wanted, not alerts".to_string(),
+            "none, read, write, raw or cut is wanted, not alerts".to_string(),
         ),
         (
             "READ 1",
-            "none, read or write is wanted, not READ".to_string(),
+            "none, read, write, raw or cut is wanted, not READ".to_string(),
         ),
         (
             "wires 0=10",
-            "none, read or write is wanted, not wires".to_string(),
+            "none, read, write, raw or cut is wanted, not wires".to_string(),
         ),
         ("read", "read wants a register".to_string()),
         ("write", "write wants a register".to_string()),
@@ -178,7 +159,7 @@ fn a_bad_line_is_told_by_its_number() {
         ("read 1 0", "unexpected: 0".to_string()),
         (
             "none\rnone",
-            "none, read or write is wanted, not none\\rnone".to_string(),
+            "none, read, write, raw or cut is wanted, not none\\rnone".to_string(),
         ),
         ("none wires", format!("wires wants {pair}")),
         ("none wires 0", format!("{levels}: 0")),

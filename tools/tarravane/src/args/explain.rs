@@ -1,4 +1,5 @@
 //! The words after `explain`.
+use super::{is_option, Asked};
 
 #[derive(Debug, PartialEq, Eq)]
 pub struct Explain {
@@ -18,16 +19,19 @@ fn tick(option: &str, word: Option<&String>) -> Result<u64, String> {
     }
 }
 
-pub fn parse(words: &[String]) -> Result<Explain, String> {
-    let mut trace = None;
-    let (mut from, mut to, mut only_changes) = (1, u64::MAX, false);
+pub fn parse(words: &[String]) -> Result<Asked<Explain>, String> {
+    let (mut trace, mut options) = (None, true);
+    let (mut from, mut to) = (1, u64::MAX);
+    let mut only_changes = false;
     let mut rest = words.iter();
     while let Some(word) = rest.next() {
         match word.as_str() {
-            "--from" => from = tick(word, rest.next())?,
-            "--to" => to = tick(word, rest.next())?,
-            "--only-changes" => only_changes = true,
-            option if option.starts_with("--") => {
+            "--" if options => options = false,
+            "--help" | "-h" if options => return Ok(Asked::Help),
+            "--from" if options => from = tick(word, rest.next())?,
+            "--to" if options => to = tick(word, rest.next())?,
+            "--only-changes" if options => only_changes = true,
+            option if options && is_option(option) => {
                 return Err(format!("explain has no option {option}"))
             }
             _ if trace.is_some() => return Err("explain takes one trace".to_string()),
@@ -38,55 +42,75 @@ pub fn parse(words: &[String]) -> Result<Explain, String> {
     if from > to {
         return Err(format!("--from {from} is after --to {to}"));
     }
-    Ok(Explain {
+    Ok(Asked::Run(Explain {
         trace,
         from,
         to,
         only_changes,
-    })
+    }))
 }
 
 #[cfg(test)]
 mod tests {
     use super::*;
 
-    fn words(line: &str) -> Vec<String> {
-        line.split_whitespace().map(str::to_string).collect()
+    fn parsed(line: &str) -> Result<Asked<Explain>, String> {
+        let words: Vec<String> = line.split_whitespace().map(str::to_string).collect();
+        parse(&words)
+    }
+
+    /// Every row of a trace.
+    fn all(trace: &str) -> Explain {
+        Explain {
+            trace: trace.to_string(),
+            from: 1,
+            to: u64::MAX,
+            only_changes: false,
+        }
     }
 
     #[test]
     fn options_stand_before_or_after_the_trace() {
-        let all = Explain {
-            trace: "t".into(),
+        let some = Explain {
+            trace: "t".to_string(),
             from: 3,
             to: 9,
             only_changes: true,
         };
-        assert_eq!(
-            parse(&words("--from 3 t --to 9 --only-changes")).as_ref(),
-            Ok(&all)
-        );
-        let none = Explain {
-            trace: "-".into(),
-            from: 1,
-            to: u64::MAX,
-            only_changes: false,
-        };
-        assert_eq!(parse(&words("-")), Ok(none));
+        let line = "--from 3 t --to 9 --only-changes";
+        assert_eq!(parsed(line), Ok(Asked::Run(some)));
+        assert_eq!(parsed("-"), Ok(Asked::Run(all("-"))));
+    }
+
+    #[test]
+    fn no_option_follows_two_hyphens() {
+        for (line, trace) in [("-- t", "t"), ("-- --help", "--help"), ("-- --", "--")] {
+            assert_eq!(parsed(line), Ok(Asked::Run(all(trace))));
+        }
+    }
+
+    #[test]
+    fn help_is_asked_for_by_its_option() {
+        for line in ["--help", "-h", "t --help", "--help --all"] {
+            assert_eq!(parsed(line), Ok(Asked::Help), "{line}");
+        }
     }
 
     #[test]
     fn bad_words_are_refused() {
         for line in [
             "",
+            "--",
             "a b",
+            "a -- b",
             "t --from",
             "t --from 0",
             "t --to x",
             "t --from 4 --to 3",
             "t --all",
+            "t -x",
         ] {
-            assert!(parse(&words(line)).is_err(), "{line}");
+            assert!(parsed(line).is_err(), "{line}");
         }
     }
 }

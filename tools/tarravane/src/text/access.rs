@@ -29,7 +29,7 @@ pub fn parse<'a>(words: &mut impl Iterator<Item = &'a str>) -> Result<Access, St
             Ok(Access::Write(register, value(words.next())?))
         }
         other => Err(format!(
-            "none, read or write is wanted, not {}",
+            "none, read, write, raw or cut is wanted, not {}",
             shown(other.unwrap_or("nothing"))
         )),
     }
@@ -85,7 +85,10 @@ mod tests {
     #[test]
     fn bad_words_are_told() {
         for (text, problem) in [
-            ("reed INTR_STATE", "none, read or write is wanted, not reed"),
+            (
+                "reed INTR_STATE",
+                "none, read, write, raw or cut is wanted, not reed",
+            ),
             ("read", "read wants a register"),
             ("write", "write wants a register"),
             ("write INTR_STATE", "write wants a register and a value"),

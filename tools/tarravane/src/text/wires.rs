@@ -80,6 +80,11 @@ pub fn count(wires: Wires) -> u32 {
     off_rest(wires).count_ones()
 }
 
+/// The first alert from `from` on that is not at (0,1).
+pub fn first_off_rest(wires: Wires, from: usize) -> Option<usize> {
+    (from..ALERTS).find(|&i| off_rest(wires) & bit(i) != 0)
+}
+
 /// The runs of neighbours at the same levels that are off rest, as long as can be.
 fn runs(wires: Wires) -> Vec<Run> {
     let mut all: Vec<Run> = Vec::new();

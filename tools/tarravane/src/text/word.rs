@@ -1,7 +1,12 @@
-//! A word of a text: a number, and how a bad one is shown.
+//! A word of a text: where it ends, a number, and how a bad one is shown.
 
 /// The most characters of a bad word that are shown.
 const SHOWN: usize = 40;
+
+/// The words of a line: spaces and tabs part them.
+pub fn split(line: &str) -> impl Iterator<Item = &str> {
+    line.split([' ', '\t']).filter(|word| !word.is_empty())
+}
 
 /// A number: decimal, or hex after 0x. No sign, no more than 64 bits.
 pub fn number(word: &str) -> Option<u64> {

@@ -1,4 +1,10 @@
 //! What the tests of the commands share.
+// Each test file is a program of its own and uses some of this.
+#![allow(dead_code)]
+pub mod folder;
+pub mod numbers;
+pub mod round;
+
 use std::io::Write;
 use std::path::PathBuf;
 use std::process::{Command, Output, Stdio};
@@ -7,13 +13,15 @@ use std::thread;
 /// All wires at (0,1).
 pub const REST: (u64, u64) = (0, u64::MAX);
 
+/// The path of a file of the repository.
+pub fn repository(name: &str) -> String {
+    let root = PathBuf::from(env!("CARGO_MANIFEST_DIR")).join("../..");
+    root.join(name).to_string_lossy().into_owned()
+}
+
 /// The path of an example.
 pub fn example(name: &str) -> String {
-    let root = PathBuf::from(env!("CARGO_MANIFEST_DIR")).join("../..");
-    root.join("examples")
-        .join(name)
-        .to_string_lossy()
-        .into_owned()
+    repository(&format!("examples/{name}"))
 }
 
 /// A record's bytes.
@@ -24,11 +32,16 @@ pub fn record(kind: u64, register: u64, value: u64, (pos, neg): (u64, u64)) -> V
         .collect()
 }
 
+/// The program, to be run with these words.
+pub fn program(command: &str, words: &[&str]) -> Command {
+    let mut program = Command::new(env!("CARGO_BIN_EXE_tarravane-cli"));
+    program.arg(command).args(words);
+    program
+}
+
 /// Runs a command with these words, the bytes on standard input.
 pub fn run(command: &str, words: &[&str], input: &[u8]) -> Output {
-    let mut child = Command::new(env!("CARGO_BIN_EXE_tarravane-cli"))
-        .arg(command)
-        .args(words)
+    let mut child = program(command, words)
         .stdin(Stdio::piped())
         .stdout(Stdio::piped())
         .stderr(Stdio::piped())
@@ -43,23 +56,31 @@ pub fn run(command: &str, words: &[&str], input: &[u8]) -> Output {
     output
 }
 
+/// What a run writes, and the lines that it says beside it, each without who says it.
+pub fn ended(command: &str, words: &[&str], input: &[u8], status: i32) -> (Vec<u8>, Vec<String>) {
+    let output = run(command, words, input);
+    let said = String::from_utf8(output.stderr).expect("text");
+    assert_eq!(output.status.code(), Some(status), "{words:?}: {said}");
+    assert!(said.is_empty() || said.ends_with('\n'), "{said}");
+    let line = |line: &str| line.strip_prefix("tarravane: ").map(str::to_string);
+    let said = said
+        .lines()
+        .map(|l| line(l).expect("who says it"))
+        .collect();
+    (output.stdout, said)
+}
+
 /// What a run that goes well writes.
 pub fn given(command: &str, words: &[&str], input: &[u8]) -> Vec<u8> {
-    let output = run(command, words, input);
-    let said = String::from_utf8_lossy(&output.stderr);
-    assert!(output.status.success() && said.is_empty(), "{said}");
-    output.stdout
+    let (written, said) = ended(command, words, input, 0);
+    assert!(said.is_empty(), "{said:?}");
+    written
 }
 
 /// The one line that a refused run says: status 2, and nothing written.
 pub fn refused(command: &str, words: &[&str], input: &[u8]) -> String {
-    let output = run(command, words, input);
-    assert_eq!(output.status.code(), Some(2), "{words:?}");
-    assert!(output.stdout.is_empty(), "{words:?}");
-    let said = String::from_utf8(output.stderr).expect("text");
-    let line = said.strip_suffix('\n').expect("a whole line");
-    assert_eq!(line.lines().count(), 1, "{line}");
-    line.strip_prefix("tarravane: ")
-        .expect("who says it")
-        .to_string()
+    let (written, mut said) = ended(command, words, input, 2);
+    assert!(written.is_empty(), "{words:?}");
+    assert_eq!(said.len(), 1, "{said:?}");
+    said.remove(0)
 }

@@ -1,0 +1,24 @@
+//! How a command ends: one rule of exit statuses for all of them.
+use crate::say::say;
+use std::process::ExitCode;
+
+/// How a command ends that did what it was asked.
+#[derive(Clone, Copy, Debug, PartialEq, Eq)]
+pub enum End {
+    /// Status 0. Also where the reader of the output went away: it asked for no more.
+    Whole,
+    /// Status 1: the trace is cut, or its N missing or refused.
+    Damaged,
+}
+
+/// The exit status; 2 is for usage, a missing file, a failed read or write, and that is told.
+pub fn status(end: Result<End, String>) -> ExitCode {
+    match end {
+        Ok(End::Whole) => ExitCode::SUCCESS,
+        Ok(End::Damaged) => ExitCode::from(1),
+        Err(problem) => {
+            say(&problem);
+            ExitCode::from(2)
+        }
+    }
+}

@@ -1,0 +1,13 @@
+//! What makes a tick worth a look.
+use super::tick::Tick;
+use handler::{Handler, Word};
+
+/// Did an interrupt, a line, a class's state, its ACCUM_CNT or a cause change?
+pub fn changes(t: &Tick) -> bool {
+    let outputs = |w: Word| w.0 >> 56;
+    let places = |h: &Handler| h.classes.map(|c| (c.state, c.accum));
+    outputs(t.word) != outputs(t.last)
+        || places(&t.before) != places(&t.after)
+        || t.before.alerts.cause != t.after.alerts.cause
+        || t.before.locals.cause != t.after.locals.cause
+}

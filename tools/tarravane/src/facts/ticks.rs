@@ -1,0 +1,64 @@
+//! The ticks of a trace, one after another, so that memory stays bounded. The library runs each.
+use super::tick::Tick;
+use crate::source::filled;
+use handler::{Handler, Word, RECORD};
+use std::io::Read;
+
+pub struct Ticks<'a, R> {
+    from: &'a mut R,
+    name: &'a str,
+    handler: Handler,
+    word: Word,
+    number: u64,
+    left: usize,
+}
+
+impl<'a, R: Read> Ticks<'a, R> {
+    /// `from`: a trace after its N; `handler`: the one that N asks for; `name`: what a failed read calls the trace.
+    pub fn new(from: &'a mut R, name: &'a str, handler: Handler) -> Ticks<'a, R> {
+        Ticks {
+            from,
+            name,
+            handler,
+            word: Word::default(),
+            number: 0,
+            left: 0,
+        }
+    }
+
+    /// How many ticks were run.
+    pub fn number(&self) -> u64 {
+        self.number
+    }
+
+    /// The bytes at the end that make no whole record.
+    pub fn left(&self) -> usize {
+        self.left
+    }
+
+    /// The next tick; nothing after the last one.
+    pub fn take(&mut self) -> Result<Option<Tick>, String> {
+        let mut record = [0; RECORD];
+        let have = filled(self.from, &mut record, self.name)?;
+        if have < RECORD {
+            self.left = have;
+            return Ok(None);
+        }
+        let (before, last) = (self.handler, self.word);
+        let mut words = [Word::default()];
+        let (after, answer) = before.batch(&record, &mut words);
+        if let Err(refusal) = answer.value() {
+            return Err(format!("the library refused a record by {}", refusal.0));
+        }
+        self.number += 1;
+        (self.handler, self.word) = (after, words[0]);
+        Ok(Some(Tick {
+            number: self.number,
+            record,
+            before,
+            after,
+            last,
+            word: words[0],
+        }))
+    }
+}

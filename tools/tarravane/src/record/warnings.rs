@@ -1,0 +1,73 @@
+//! What a text says that a replay of its trace does not heed.
+use crate::names;
+use crate::say::say;
+use crate::text::line::Line;
+use crate::text::wires;
+use handler::{Access, ALERTS};
+
+/// The most lines of a text that are warned of; those after them are counted.
+const MOST: usize = 10;
+
+#[derive(Default)]
+pub struct Warnings {
+    /// Of the whole text.
+    all: Vec<String>,
+    /// Of its lines.
+    lines: Vec<String>,
+    more: u64,
+}
+
+/// The alert that a register is of.
+fn alert(register: u16) -> Option<u16> {
+    match register {
+        64..=319 => Some(register % 64),
+        _ => None,
+    }
+}
+
+/// What a tick says of alerts at N and above.
+fn unheeded(n: u8, line: &Line) -> Vec<String> {
+    let mut all = Vec::new();
+    let Line::Tick(input) = line else { return all };
+    if let Access::Read(register) | Access::Write(register, _) = input.access {
+        if alert(register).is_some_and(|i| i >= u16::from(n)) {
+            all.push(format!("{} is no register", names::register(register)));
+        }
+    }
+    if let Some(i) = wires::first_off_rest(input.wires, usize::from(n)) {
+        all.push(format!("the wires of alert {i} count for nothing"));
+    }
+    all
+}
+
+impl Warnings {
+    pub fn add(&mut self, warning: String) {
+        self.all.push(warning);
+    }
+
+    /// Looks at a line; where N is refused no tick runs at all, and that is said once.
+    pub fn look(&mut self, number: u64, n: u8, line: &Line) {
+        if !(1..=ALERTS).contains(&usize::from(n)) {
+            return;
+        }
+        let found = unheeded(n, line);
+        if found.is_empty() {
+            return;
+        }
+        if self.lines.len() < MOST {
+            let found = found.join(", ");
+            self.lines
+                .push(format!("line {number}: alerts is {n}: {found}"));
+        } else {
+            self.more += 1;
+        }
+    }
+
+    pub fn say(&self) {
+        self.lines.iter().for_each(|line| say(line));
+        if self.more > 0 {
+            say(&format!("{} more lines of such alerts", self.more));
+        }
+        self.all.iter().for_each(|line| say(line));
+    }
+}

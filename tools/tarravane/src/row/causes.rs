@@ -1,0 +1,41 @@
+//! The causes that a tick sets.
+use handler::Handler;
+
+/// Names with the numbers that are newly 1, each as it is written after the one before: ` ALERT0`, `,5`.
+fn newly(name: &str, before: &[u8], after: &[u8]) -> Vec<String> {
+    let mut all = Vec::new();
+    for i in (0..after.len()).filter(|&i| before[i] == 0 && after[i] == 1) {
+        let start = if all.is_empty() {
+            format!(" {name}")
+        } else {
+            ",".to_string()
+        };
+        all.push(format!("{start}{i}"));
+    }
+    all
+}
+
+/// The causes that were 0 before the tick and are 1 after it.
+pub fn set(before: &Handler, after: &Handler) -> Vec<String> {
+    let mut all = newly("ALERT", &before.alerts.cause, &after.alerts.cause);
+    all.extend(newly(
+        "LOC_ALERT",
+        &before.locals.cause,
+        &after.locals.cause,
+    ));
+    all
+}
+
+/// As many causes as there is room for, and how many more there are.
+pub fn fitted(causes: &[String], room: usize) -> String {
+    let mut text = String::new();
+    for (i, cause) in causes.iter().enumerate() {
+        let left = causes.len() - i;
+        let more = if left > 1 { " +00".len() } else { 0 };
+        if text.len() + cause.len() + more > room {
+            return format!("{text} +{left}");
+        }
+        text += cause;
+    }
+    text
+}

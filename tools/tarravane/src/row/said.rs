@@ -1,0 +1,32 @@
+//! What a row says of access and wires.
+use crate::text::{access, line, wires};
+use handler::Input;
+
+/// The line of a text.
+pub fn whole(x: &Input) -> String {
+    line::words(x)
+}
+
+/// Wires as the number of alerts that are off rest, after these words; nothing where all are at rest.
+fn number(words: &str, x: &Input) -> String {
+    match wires::count(x.wires) {
+        0 => String::new(),
+        alerts => format!("{words}~{alerts}"),
+    }
+}
+
+/// The access, and the wires as a number.
+pub fn counted(x: &Input) -> String {
+    access::words(x.access) + &number(" wires ", x)
+}
+
+/// The access with r for read and w for write, and the wires as a number.
+pub fn shortest(x: &Input) -> String {
+    let words = access::words(x.access);
+    let access = match words.split_once(' ') {
+        Some(("read", rest)) => format!("r {rest}"),
+        Some(("write", rest)) => format!("w {rest}"),
+        _ => words,
+    };
+    access + &number(" ", x)
+}
