@@ -4,7 +4,7 @@ use crate::end::End;
 use crate::facts::{changes::changes, tick::Tick, ticks::Ticks};
 use crate::output::{self, Failure};
 use crate::progress::Progress;
-use crate::row::{row, HEADER};
+use crate::row::{row, wide_row, HEADER};
 use crate::say::say;
 use crate::trace::{self, cut, made};
 use std::io::{Read, Write};
@@ -50,6 +50,7 @@ fn rows(
         };
         if wanted(asked, &tick) {
             progress.clear();
+            let row = if asked.wide { wide_row } else { row };
             writeln!(out, "{}", row(&tick))?;
         }
         if progress.is_due(tick.number) {

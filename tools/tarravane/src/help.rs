@@ -8,8 +8,10 @@ One readable row for each tick of a trace: a file, or standard input where it is
   --from TICK      rows from this tick on; the first record is tick 1. Where the trace ends before
                    it, standard error says so; the status is 0, or 1 for a cut trace
   --to TICK        rows up to this tick; the trace is read no further
-  --only-changes   only rows where an interrupt, a line, a class's state, its ACCUM_CNT or a cause
-                   changed
+  --only-changes   only rows where an interrupt, a line, a class's state, its ACCUM_CNT, a cause or
+                   a lock (REGWEN, CLR_REGWEN) changed, or where the access was refused
+  --wide           every wire and cause, and a malformed record's bytes as raw HEX; rows may then
+                   be wider than 120 columns
   --help           this text
 
 A row: tick, access and wires, answer, interrupts that are on (A to D), lines that are on (0 to 3),

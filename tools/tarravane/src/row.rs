@@ -8,7 +8,7 @@ use crate::names;
 use class::class;
 use handler::{Access, Input, Word};
 
-/// No row is wider.
+/// No row is wider, but where it is asked for.
 pub const WIDTH: usize = 120;
 
 pub const HEADER: &str =
@@ -75,6 +75,19 @@ pub fn row(t: &Tick) -> String {
     let short = columns(t, &x, &said::shortest(&x), Form::Short);
     let room = WIDTH.saturating_sub(short.len());
     short + &causes::fitted(&causes, room)
+}
+
+/// The row with every wire and cause, and the bytes of a malformed record, however wide.
+pub fn wide_row(t: &Tick) -> String {
+    let x = t.input();
+    let said = if t.is_malformed() {
+        said::raw(&t.record, &x)
+    } else {
+        said::whole(&x)
+    };
+    let causes = causes::set(&t.before, &t.after).concat();
+    let row = columns(t, &x, &said, Form::Columns) + &causes;
+    row.trim_end().to_string()
 }
 
 #[cfg(test)]

@@ -76,10 +76,20 @@ fn a_text_is_no_trace() {
     );
 }
 
-/// A row of explain has the line of the text, after the tick's number, for every access and for wires that have room.
+/// A row of explain has the line of the text, after the tick's number: for wires that have room, and any in wide rows.
 #[test]
 fn explain_says_the_words_of_the_text() {
     let wires = [REST, (1 << 63, u64::MAX >> 1), (0b111 << 40, u64::MAX)];
+    explain_has_text(&["-"], wires);
+    let apart = [
+        REST,
+        (0xAAAA_AAAA_AAAA_AAAA, 0),
+        (u64::MAX, 0x1234_5678 << 20),
+    ];
+    explain_has_text(&["-", "--wide"], apart);
+}
+
+fn explain_has_text(words: &[&str], wires: [(u64, u64); 3]) {
     let mut bytes = vec![64];
     for register in 0..1024 {
         bytes.extend(record(1, register, 0, wires[register as usize % 3]));
@@ -88,7 +98,7 @@ fn explain_says_the_words_of_the_text() {
         bytes.extend(record(0, 0, 0, wires[register as usize % 3]));
     }
     let text = text_of(&bytes);
-    let rows = String::from_utf8(given("explain", &["-"], &bytes)).expect("text");
+    let rows = String::from_utf8(given("explain", words, &bytes)).expect("text");
     let rows: Vec<&str> = rows.lines().skip(2).collect();
     assert_eq!(rows.len(), text.lines().count() - 1);
     for (number, (row, line)) in (1..).zip(rows.into_iter().zip(text.lines().skip(1))) {

@@ -99,8 +99,31 @@ fn a_range_past_the_end_is_told() {
 
 #[test]
 fn only_changes() {
-    let rows = rows(&["--only-changes", &example("broken-seal.trace")], &[]);
-    assert_eq!(numbers(&rows), [9, 11, 13, 16, 19, 22, 25]);
+    let seal = rows(&["--only-changes", &example("broken-seal.trace")], &[]);
+    assert_eq!(numbers(&seal), [8, 9, 11, 13, 15, 16, 19, 22, 25]);
+    assert!(seal[4].contains("write CLASSA_CLR 1              refused: locked"));
+    let refused = rows(&["--only-changes", &example("refused-accesses.trace")], &[]);
+    assert_eq!(numbers(&refused), [4, 5, 6, 7, 8, 9, 10, 11]);
+}
+
+/// Every lock that falls is a change; a lock that has fallen and a 1 that is written to one that has not are none.
+#[test]
+fn each_lock_is_a_change() {
+    let locals = 16..=22;
+    let alerts = 64..=127;
+    let classes = (0..4).flat_map(|k| [320 + 16 * k, 322 + 16 * k]);
+    for register in locals.chain(alerts).chain(classes) {
+        let bytes = [
+            vec![64],
+            record(2, register, 1, REST),
+            record(2, register, 0, REST),
+            record(2, register, 0, REST),
+            record(1, register, 0, REST),
+        ]
+        .concat();
+        let rows = rows(&["--only-changes", "-"], &bytes);
+        assert_eq!(numbers(&rows), [2], "register {register}");
+    }
 }
 
 #[test]
@@ -209,7 +232,7 @@ fn each_command_has_its_own_help() {
     for (command, own, other) in [
         (
             "explain",
-            &["--from", "--to", "--only-changes"][..],
+            &["--from", "--to", "--only-changes", "--wide"][..],
             "--back",
         ),
         (

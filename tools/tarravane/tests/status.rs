@@ -8,9 +8,10 @@ use std::io::{BufRead, BufReader};
 use std::process::{Command, Stdio};
 
 /// The commands that read a trace.
-const READERS: [(&str, &[&str]); 3] = [
+const READERS: [(&str, &[&str]); 4] = [
     ("explain", &["-"]),
     ("explain", &["-", "--only-changes"]),
+    ("explain", &["-", "--wide"]),
     ("record", &["-", "--back"]),
 ];
 

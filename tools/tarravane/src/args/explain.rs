@@ -7,6 +7,7 @@ pub struct Explain {
     pub from: u64,
     pub to: u64,
     pub only_changes: bool,
+    pub wide: bool,
 }
 
 fn tick(option: &str, word: Option<&String>) -> Result<u64, String> {
@@ -22,7 +23,7 @@ fn tick(option: &str, word: Option<&String>) -> Result<u64, String> {
 pub fn parse(words: &[String]) -> Result<Asked<Explain>, String> {
     let (mut trace, mut options) = (None, true);
     let (mut from, mut to) = (1, u64::MAX);
-    let mut only_changes = false;
+    let (mut only_changes, mut wide) = (false, false);
     let mut rest = words.iter();
     while let Some(word) = rest.next() {
         match word.as_str() {
@@ -31,6 +32,7 @@ pub fn parse(words: &[String]) -> Result<Asked<Explain>, String> {
             "--from" if options => from = tick(word, rest.next())?,
             "--to" if options => to = tick(word, rest.next())?,
             "--only-changes" if options => only_changes = true,
+            "--wide" if options => wide = true,
             option if options && is_option(option) => {
                 return Err(format!("explain has no option {option}"))
             }
@@ -47,6 +49,7 @@ pub fn parse(words: &[String]) -> Result<Asked<Explain>, String> {
         from,
         to,
         only_changes,
+        wide,
     }))
 }
 
@@ -66,6 +69,7 @@ mod tests {
             from: 1,
             to: u64::MAX,
             only_changes: false,
+            wide: false,
         }
     }
 
@@ -76,8 +80,9 @@ mod tests {
             from: 3,
             to: 9,
             only_changes: true,
+            wide: true,
         };
-        let line = "--from 3 t --to 9 --only-changes";
+        let line = "--from 3 t --to 9 --only-changes --wide";
         assert_eq!(parsed(line), Ok(Asked::Run(some)));
         assert_eq!(parsed("-"), Ok(Asked::Run(all("-"))));
     }

@@ -1,8 +1,9 @@
 //! What makes a tick worth a look.
+use super::locks;
 use super::tick::Tick;
 use handler::{Handler, Word};
 
-/// Did an interrupt, a line, a class's state, its ACCUM_CNT or a cause change?
+/// Did an interrupt, a line, a class's state, its ACCUM_CNT, a cause or a lock change, or was the access refused?
 pub fn changes(t: &Tick) -> bool {
     let outputs = |w: Word| w.0 >> 56;
     let places = |h: &Handler| h.classes.map(|c| (c.state, c.accum));
@@ -10,4 +11,6 @@ pub fn changes(t: &Tick) -> bool {
         || places(&t.before) != places(&t.after)
         || t.before.alerts.cause != t.after.alerts.cause
         || t.before.locals.cause != t.after.locals.cause
+        || t.word.refusal().is_some()
+        || !locks::locked(t).is_empty()
 }

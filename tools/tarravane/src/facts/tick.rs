@@ -1,6 +1,6 @@
 //! One tick.
 use crate::trace;
-use handler::{Handler, Input, Word, RECORD};
+use handler::{Handler, Input, Refusal, Word, RECORD};
 
 pub struct Tick {
     /// The first record is tick 1.
@@ -16,5 +16,9 @@ pub struct Tick {
 impl Tick {
     pub fn input(&self) -> Input {
         trace::input(&self.record)
+    }
+
+    pub fn is_malformed(&self) -> bool {
+        self.word.refusal() == Some(Refusal(5))
     }
 }

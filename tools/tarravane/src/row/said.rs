@@ -1,6 +1,6 @@
 //! What a row says of access and wires.
 use crate::text::{access, line, wires};
-use handler::Input;
+use handler::{Input, RECORD};
 
 /// The line of a text.
 pub fn whole(x: &Input) -> String {
@@ -29,4 +29,9 @@ pub fn shortest(x: &Input) -> String {
         _ => words,
     };
     access + &number(" ", x)
+}
+
+/// All bytes of the record, and its wires, which count also where it is malformed.
+pub fn raw(record: &[u8; RECORD], x: &Input) -> String {
+    line::raw_words(record) + &wires::words(x.wires)
 }

@@ -1,0 +1,47 @@
+//! What README shows of the commands is what they print.
+mod common;
+
+use common::{given, repository};
+use std::fs;
+
+fn readme() -> String {
+    fs::read_to_string(repository("README.md")).expect("README")
+}
+
+/// The lines of the first block between fences after these words.
+fn block(after: &str) -> String {
+    let readme = readme();
+    let (_, rest) = readme.split_once(after).expect(after);
+    let (_, rest) = rest.split_once("\n```\n").expect("a block");
+    let (block, _) = rest.split_once("\n```\n").expect("its end");
+    format!("{block}\n")
+}
+
+/// Runs the words of a command that README has, and compares the block below it.
+fn shows(command: &str) {
+    let words: Vec<String> = command
+        .split(' ')
+        .map(|word| match word.strip_prefix("examples/") {
+            Some(_) => repository(word),
+            None => word.to_string(),
+        })
+        .collect();
+    let words: Vec<&str> = words.iter().map(String::as_str).collect();
+    let printed = given(words[0], &words[1..], &[]);
+    let shown = block(&format!("./tarravane {command}"));
+    assert_eq!(shown, String::from_utf8_lossy(&printed), "{command}");
+}
+
+#[test]
+fn explain_prints_what_readme_shows() {
+    shows("explain --only-changes examples/broken-seal.trace");
+}
+
+/// The text that README shows gives a trace, without a warning.
+#[test]
+fn record_takes_the_text_that_readme_shows() {
+    let text = block("## Write a trace by hand");
+    let ticks = text.lines().filter(|line| !line.starts_with('#')).count() - 1;
+    let trace = given("record", &["-"], text.as_bytes());
+    assert_eq!(trace.len(), 1 + 24 * ticks);
+}
