@@ -1,11 +1,12 @@
-//! `explain`: a row for each tick of a trace.
-use crate::args::explain::Explain;
+//! `explain`: a row for each tick of a trace, or a summary of them.
+use crate::args::explain::{Explain, Rows, Shown};
 use crate::end::End;
 use crate::facts::{changes::changes, tick::Tick, ticks::Ticks};
 use crate::output::{self, Failure};
 use crate::progress::Progress;
 use crate::row::{row, wide_row, HEADER};
 use crate::say::say;
+use crate::summary::Summary;
 use crate::trace::{self, cut, made};
 use std::io::{Read, Write};
 
@@ -21,7 +22,7 @@ fn ended(out: &mut dyn Write, ticks: &Ticks<impl Read>) -> Result<End, Failure> 
 }
 
 /// Is there a row for this tick?
-fn wanted(asked: &Explain, tick: &Tick) -> bool {
+fn wanted(asked: &Rows, tick: &Tick) -> bool {
     tick.number >= asked.from && (!asked.only_changes || changes(tick))
 }
 
@@ -36,7 +37,7 @@ fn tell_missed(from: u64, ticks: u64) {
 }
 
 fn rows(
-    asked: &Explain,
+    asked: &Rows,
     ticks: &mut Ticks<impl Read>,
     out: &mut dyn Write,
     progress: &mut Progress,
@@ -61,6 +62,27 @@ fn rows(
     Ok(End::Whole)
 }
 
+fn summary(
+    n: usize,
+    ticks: &mut Ticks<impl Read>,
+    out: &mut dyn Write,
+    progress: &mut Progress,
+) -> Result<End, Failure> {
+    let mut summary = Summary::default();
+    while let Some(tick) = ticks.take()? {
+        summary.add(&tick);
+        if progress.is_due(tick.number) {
+            progress.say(tick.number);
+        }
+    }
+    progress.clear();
+    writeln!(out, "alerts: {n}; ticks: {}", ticks.number())?;
+    for line in summary.lines() {
+        writeln!(out, "{line}")?;
+    }
+    ended(out, ticks)
+}
+
 fn shown(
     asked: &Explain,
     from: &mut impl Read,
@@ -75,12 +97,17 @@ fn shown(
         }
     };
     let mut ticks = Ticks::new(from, &asked.trace, handler);
-    let n = handler.n;
-    writeln!(
-        out,
-        "alerts: {n}; a class: its state, then ESC_CNT/ACCUM_CNT"
-    )?;
-    rows(asked, &mut ticks, out, progress)
+    match &asked.shown {
+        Shown::Rows(asked) => {
+            let n = handler.n;
+            writeln!(
+                out,
+                "alerts: {n}; a class: its state, then ESC_CNT/ACCUM_CNT"
+            )?;
+            rows(asked, &mut ticks, out, progress)
+        }
+        Shown::Summary => summary(handler.n, &mut ticks, out, progress),
+    }
 }
 
 pub fn run(asked: &Explain) -> Result<End, String> {

@@ -1,6 +1,13 @@
 //! What a tick tells, for every command that shows ticks. It is read off the library's states and words; wires and accesses
 //! are decoded by plain Rust.
 pub mod changes;
+pub mod clears;
+pub mod events;
+pub mod lines;
 pub mod locks;
+pub mod starts;
 pub mod tick;
 pub mod ticks;
+
+#[cfg(test)]
+mod tests;

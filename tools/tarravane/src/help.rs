@@ -12,6 +12,12 @@ One readable row for each tick of a trace: a file, or standard input where it is
                    a lock (REGWEN, CLR_REGWEN) changed, or where the access was refused
   --wide           every wire and cause, and a malformed record's bytes as raw HEX; rows may then
                    be wider than 120 columns
+  --summary        no rows, and no other option: for each class its starts (by which alerts or by
+                   the timeout, whether the class was locked and LOCK set), the first tick of each
+                   phase and of Terminal, the ticks in which it drove each line, and its clears
+                   (writes of 1 to CLR); then the first and last event of each alert, and all other
+                   refusals by number. Of starts, lines and clears the first 8 are shown, and the
+                   others counted
   --help           this text
 
 A row: tick, access and wires, answer, interrupts that are on (A to D), lines that are on (0 to 3),

@@ -12,6 +12,7 @@ mod record;
 mod row;
 mod say;
 mod source;
+mod summary;
 mod text;
 mod trace;
 

@@ -148,13 +148,14 @@ fn a_file_may_have_the_name_of_an_option() {
 #[test]
 fn bad_input_is_one_line_and_status_2() {
     let folder = example("");
-    let bad: [&[&str]; 6] = [
+    let bad: [&[&str]; 7] = [
         &["no-such.trace"],
         &[&folder],
         &[],
         &["-", "--from", "x"],
         &["-", "--all"],
         &["-", "-x"],
+        &["-", "--summary", "--wide"],
     ];
     for words in bad {
         refused("explain", words, &[1]);
@@ -165,7 +166,9 @@ fn bad_input_is_one_line_and_status_2() {
 fn a_text_is_no_trace() {
     let why = "this is a text: ./tarravane record makes a trace of it";
     let text = example("broken-seal.txt");
-    assert_eq!(refused("explain", &[&text], &[]), format!("{text}: {why}"));
+    for words in [&[&text[..]][..], &[&text, "--summary"]] {
+        assert_eq!(refused("explain", words, &[]), format!("{text}: {why}"));
+    }
     let said = refused("explain", &["-"], b"alerts 2\nnone\n");
     assert_eq!(said, format!("-: {why}"));
     // 35 is #, and a trace of 35 alerts is one.
@@ -232,7 +235,7 @@ fn each_command_has_its_own_help() {
     for (command, own, other) in [
         (
             "explain",
-            &["--from", "--to", "--only-changes", "--wide"][..],
+            &["--from", "--to", "--only-changes", "--wide", "--summary"][..],
             "--back",
         ),
         (

@@ -35,6 +35,7 @@ fn shows(command: &str) {
 #[test]
 fn explain_prints_what_readme_shows() {
     shows("explain --only-changes examples/broken-seal.trace");
+    shows("explain --summary examples/broken-seal.trace");
 }
 
 /// The text that README shows gives a trace, without a warning.

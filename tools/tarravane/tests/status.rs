@@ -8,10 +8,11 @@ use std::io::{BufRead, BufReader};
 use std::process::{Command, Stdio};
 
 /// The commands that read a trace.
-const READERS: [(&str, &[&str]); 4] = [
+const READERS: [(&str, &[&str]); 5] = [
     ("explain", &["-"]),
     ("explain", &["-", "--only-changes"]),
     ("explain", &["-", "--wide"]),
+    ("explain", &["-", "--summary"]),
     ("record", &["-", "--back"]),
 ];
 
@@ -74,6 +75,7 @@ fn a_refused_n_is_1() {
 fn what_cannot_be_done_is_2() {
     for (command, words) in [
         ("explain", &["missing.trace"][..]),
+        ("explain", &["--summary", "missing.trace"]),
         ("record", &["missing.txt"]),
         ("record", &["--back", "missing.trace"]),
         ("record", &["-", "-o", "missing/a.trace"]),
@@ -103,6 +105,7 @@ fn an_output_that_takes_nothing_is_2() {
     let (seal, text) = (example("broken-seal.trace"), example("broken-seal.txt"));
     for (command, words) in [
         ("explain", &[&seal[..]][..]),
+        ("explain", &["--summary", &seal]),
         ("explain", &["--help"]),
         ("record", &["--help"]),
         ("record", &["--back", &seal]),

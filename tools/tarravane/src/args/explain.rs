@@ -4,11 +4,31 @@ use super::{is_option, Asked};
 #[derive(Debug, PartialEq, Eq)]
 pub struct Explain {
     pub trace: String,
+    pub shown: Shown,
+}
+
+/// What of the trace is shown.
+#[derive(Debug, PartialEq, Eq)]
+pub enum Shown {
+    Rows(Rows),
+    Summary,
+}
+
+#[derive(Clone, Copy, Debug, PartialEq, Eq)]
+pub struct Rows {
     pub from: u64,
     pub to: u64,
     pub only_changes: bool,
     pub wide: bool,
 }
+
+/// Every row, in at most 120 columns.
+const ALL: Rows = Rows {
+    from: 1,
+    to: u64::MAX,
+    only_changes: false,
+    wide: false,
+};
 
 fn tick(option: &str, word: Option<&String>) -> Result<u64, String> {
     let word = word.ok_or_else(|| format!("{option} wants a tick number"))?;
@@ -20,19 +40,29 @@ fn tick(option: &str, word: Option<&String>) -> Result<u64, String> {
     }
 }
 
+fn shown(rows: Rows, summary: bool) -> Result<Shown, String> {
+    let Rows { from, to, .. } = rows;
+    match summary {
+        true if rows != ALL => Err("--summary has no rows: no other option goes with it".into()),
+        true => Ok(Shown::Summary),
+        false if from > to => Err(format!("--from {from} is after --to {to}")),
+        false => Ok(Shown::Rows(rows)),
+    }
+}
+
 pub fn parse(words: &[String]) -> Result<Asked<Explain>, String> {
-    let (mut trace, mut options) = (None, true);
-    let (mut from, mut to) = (1, u64::MAX);
-    let (mut only_changes, mut wide) = (false, false);
+    let (mut trace, mut rows) = (None, ALL);
+    let (mut summary, mut options) = (false, true);
     let mut rest = words.iter();
     while let Some(word) = rest.next() {
         match word.as_str() {
             "--" if options => options = false,
             "--help" | "-h" if options => return Ok(Asked::Help),
-            "--from" if options => from = tick(word, rest.next())?,
-            "--to" if options => to = tick(word, rest.next())?,
-            "--only-changes" if options => only_changes = true,
-            "--wide" if options => wide = true,
+            "--from" if options => rows.from = tick(word, rest.next())?,
+            "--to" if options => rows.to = tick(word, rest.next())?,
+            "--only-changes" if options => rows.only_changes = true,
+            "--wide" if options => rows.wide = true,
+            "--summary" if options => summary = true,
             option if options && is_option(option) => {
                 return Err(format!("explain has no option {option}"))
             }
@@ -41,16 +71,8 @@ pub fn parse(words: &[String]) -> Result<Asked<Explain>, String> {
         }
     }
     let trace = trace.ok_or("explain wants a trace: a file, or - for standard input")?;
-    if from > to {
-        return Err(format!("--from {from} is after --to {to}"));
-    }
-    Ok(Asked::Run(Explain {
-        trace,
-        from,
-        to,
-        only_changes,
-        wide,
-    }))
+    let shown = shown(rows, summary)?;
+    Ok(Asked::Run(Explain { trace, shown }))
 }
 
 #[cfg(test)]
@@ -62,36 +84,31 @@ mod tests {
         parse(&words)
     }
 
-    /// Every row of a trace.
-    fn all(trace: &str) -> Explain {
-        Explain {
-            trace: trace.to_string(),
-            from: 1,
-            to: u64::MAX,
-            only_changes: false,
-            wide: false,
-        }
+    fn asked(trace: &str, shown: Shown) -> Result<Asked<Explain>, String> {
+        let trace = trace.to_string();
+        Ok(Asked::Run(Explain { trace, shown }))
     }
 
     #[test]
     fn options_stand_before_or_after_the_trace() {
-        let some = Explain {
-            trace: "t".to_string(),
+        let some = Rows {
             from: 3,
             to: 9,
             only_changes: true,
             wide: true,
         };
         let line = "--from 3 t --to 9 --only-changes --wide";
-        assert_eq!(parsed(line), Ok(Asked::Run(some)));
-        assert_eq!(parsed("-"), Ok(Asked::Run(all("-"))));
+        assert_eq!(parsed(line), asked("t", Shown::Rows(some)));
+        assert_eq!(parsed("-"), asked("-", Shown::Rows(ALL)));
+        assert_eq!(parsed("t --summary"), asked("t", Shown::Summary));
     }
 
     #[test]
     fn no_option_follows_two_hyphens() {
-        for (line, trace) in [("-- t", "t"), ("-- --help", "--help"), ("-- --", "--")] {
-            assert_eq!(parsed(line), Ok(Asked::Run(all(trace))));
-        }
+        assert_eq!(parsed("-- t"), asked("t", Shown::Rows(ALL)));
+        assert_eq!(parsed("-- --help"), asked("--help", Shown::Rows(ALL)));
+        assert_eq!(parsed("--summary -- -x"), asked("-x", Shown::Summary));
+        assert_eq!(parsed("-- --"), asked("--", Shown::Rows(ALL)));
     }
 
     #[test]
@@ -114,6 +131,8 @@ mod tests {
             "t --from 4 --to 3",
             "t --all",
             "t -x",
+            "t --summary --wide",
+            "t --summary --to 3",
         ] {
             assert!(parsed(line).is_err(), "{line}");
         }

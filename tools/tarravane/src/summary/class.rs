@@ -1,0 +1,55 @@
+//! What became of one class.
+use super::escalation::Escalation;
+use super::kept::Kept;
+use super::words;
+use crate::facts::clears::{clear, Clear};
+use crate::facts::starts::start;
+use crate::facts::tick::Tick;
+use crate::names;
+
+#[derive(Default)]
+pub struct Class {
+    starts: Kept<Escalation>,
+    /// Does the last escalation that is kept go on?
+    goes_on: bool,
+    accepted: Kept<u64>,
+    refused: Kept<u64>,
+}
+
+/// Ticks, as `at 3, 5`; `none` of none.
+fn ticks(all: &Kept<u64>) -> String {
+    let at = if all.count() > 0 { "at " } else { "" };
+    format!("{at}{}", all.words(u64::to_string))
+}
+
+impl Class {
+    pub fn add(&mut self, t: &Tick, k: usize) {
+        match clear(t, k) {
+            Some(Clear::Accepted) => self.accepted.push(t.number),
+            Some(Clear::Refused) => self.refused.push(t.number),
+            None => false,
+        };
+        if let Some(start) = start(t, k) {
+            self.goes_on = self.starts.push(Escalation::new(t.number, start));
+        }
+        if let Some(last) = self.starts.first_mut().last_mut() {
+            self.goes_on = self.goes_on && last.add(t, k);
+        }
+    }
+
+    pub fn lines(&self, k: usize) -> Vec<String> {
+        let starts = words::count(self.starts.count(), "start");
+        let [accepted, refused] = [&self.accepted, &self.refused].map(ticks);
+        let clears = match self.accepted.count() + self.refused.count() {
+            0 => "no clear".to_string(),
+            _ => format!("clears accepted {accepted}, refused {refused}"),
+        };
+        let mut all = vec![format!("class {}: {starts}; {clears}", names::CLASSES[k])];
+        all.extend(self.starts.first().iter().flat_map(Escalation::lines));
+        if self.starts.more() > 0 {
+            let more = words::count(self.starts.more(), "later start");
+            all.push(format!("  and {more}"));
+        }
+        all
+    }
+}

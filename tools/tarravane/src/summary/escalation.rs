@@ -1,0 +1,61 @@
+//! One escalation of a class, from its start to its clear.
+use super::spans::Spans;
+use super::words;
+use crate::facts::starts::{Start, IDLE};
+use crate::facts::tick::Tick;
+use crate::names;
+
+pub struct Escalation {
+    at: u64,
+    start: Start,
+    /// The first tick of each phase and of Terminal, as far as the class came.
+    entered: Vec<(u8, u64)>,
+    cleared: Option<u64>,
+    spans: Spans,
+}
+
+impl Escalation {
+    pub fn new(at: u64, start: Start) -> Escalation {
+        Escalation {
+            at,
+            start,
+            entered: Vec::new(),
+            cleared: None,
+            spans: Spans::default(),
+        }
+    }
+
+    /// Goes on by a tick, from the one of the start on; false where that is its end.
+    pub fn add(&mut self, t: &Tick, k: usize) -> bool {
+        let state = t.after.classes[k].state;
+        self.spans.add(t, k);
+        if state == IDLE {
+            self.cleared = Some(t.number);
+        } else if state != t.before.classes[k].state {
+            self.entered.push((state, t.number));
+        }
+        state != IDLE
+    }
+
+    fn by(&self) -> String {
+        match self.start.by[..] {
+            [] => "the timeout".to_string(),
+            _ => words::sources(&self.start.by),
+        }
+    }
+
+    pub fn lines(&self) -> [String; 2] {
+        let Start { locked, lock, .. } = self.start;
+        let locked = if locked { "locked" } else { "not locked" };
+        let lock = if lock { "LOCK set" } else { "no LOCK" };
+        let first = |(state, tick): &(u8, u64)| format!("{} {tick}", names::state(*state));
+        let mut places: Vec<String> = self.entered.iter().map(first).collect();
+        places.extend(self.cleared.map(|tick| format!("cleared {tick}")));
+        let places = places.join(", ");
+        let (at, by) = (self.at, self.by());
+        [
+            format!("  start at {at} by {by}; {locked}, {lock}; {places}"),
+            format!("    {}", self.spans.words()),
+        ]
+    }
+}
