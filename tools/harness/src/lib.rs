@@ -16,6 +16,7 @@ pub mod odd;
 pub mod place;
 pub mod record;
 pub mod refused;
+pub mod report;
 pub mod rng;
 pub mod run;
 pub mod scene;

@@ -1,0 +1,54 @@
+//! What the commands print. A reader that goes away is no failure; any other write that fails is told.
+
+use crate::bench::{time, LOADS, RECORDS, TITLE};
+use std::fmt::Display;
+use std::io::{self, ErrorKind, Write};
+use std::time::Instant;
+
+/// The verdict, where it could be printed or nobody reads on.
+pub fn verdict(equal: bool, printed: io::Result<()>) -> io::Result<bool> {
+    match printed {
+        Err(error) if error.kind() != ErrorKind::BrokenPipe => Err(error),
+        _ => Ok(equal),
+    }
+}
+
+/// Progress on standard error: it may be lost, and the work goes on.
+pub fn progress(line: impl Display) {
+    let _ = writeln!(io::stderr(), "{line}");
+}
+
+/// Prints the outcome, and for a difference the words after the harness's own
+/// name that repeat it.
+pub fn report<D: Display>(
+    out: &mut impl Write,
+    begin: Instant,
+    summary: &impl Display,
+    found: Option<&D>,
+    command: impl Fn(&D) -> String,
+) -> io::Result<()> {
+    writeln!(out, "{summary}")?;
+    writeln!(out, "time {:.1} seconds", begin.elapsed().as_secs_f64())?;
+    let Some(found) = found else {
+        return writeln!(out, "EQUAL");
+    };
+    writeln!(out, "{found}")?;
+    let own = std::env::args().next().unwrap_or_default();
+    writeln!(out, "repeat: {own} {}", command(found))
+}
+
+/// Prints the times of every load, each when it is known; notes whether all
+/// words were equal.
+pub fn times(out: &mut impl Write, equal: &mut bool) -> io::Result<()> {
+    if cfg!(debug_assertions) {
+        let line = "the reference is not built for release: its times say nothing";
+        writeln!(out, "{line}")?;
+    }
+    writeln!(out, "{TITLE}")?;
+    for (load, name) in LOADS {
+        let timed = time(load, name, RECORDS);
+        *equal &= timed.equal;
+        writeln!(out, "{timed}")?;
+    }
+    writeln!(out, "{}", if *equal { "EQUAL" } else { "DIFFERENT" })
+}
