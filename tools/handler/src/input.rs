@@ -3,10 +3,13 @@
 /// The access of a tick.
 #[derive(Clone, Copy, Debug, PartialEq, Eq)]
 pub enum Access {
+    /// No access.
     Nothing,
+    /// A read of the register of this number.
     Read(u16),
+    /// A write to the register of this number, and the value.
     Write(u16, u32),
-    /// what a malformed trace record holds: refusal 5
+    /// What a malformed trace record holds: refusal 5.
     Malformed,
 }
 
@@ -25,7 +28,9 @@ impl Access {
 /// The wires of a tick: alert 0 at the highest bit.
 #[derive(Clone, Copy, Debug, PartialEq, Eq)]
 pub struct Wires {
+    /// The positive wires.
     pub pos: u64,
+    /// The negative wires.
     pub neg: u64,
 }
 
@@ -40,6 +45,8 @@ impl Wires {
 /// An access and the wires: what a trace record holds.
 #[derive(Clone, Copy, Debug, PartialEq, Eq)]
 pub struct Input {
+    /// The access.
     pub access: Access,
+    /// The wires of all alerts.
     pub wires: Wires,
 }

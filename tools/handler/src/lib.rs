@@ -1,6 +1,7 @@
 //! The proved alert handler, for Rust. Every function here asks the proved library `boundary`; nothing is decided here.
 //!
 //! The promises stand in `include/tarravane.h` and are proved in `crates/boundary`.
+#![deny(missing_docs)]
 
 mod answer;
 mod input;
@@ -25,8 +26,11 @@ pub const RECORD: usize = 24;
 /// What a tick gives.
 #[derive(Clone, Copy, Debug, PartialEq, Eq)]
 pub struct Ticked {
+    /// The state after the tick.
     pub handler: Handler,
+    /// What the access answers, from before the tick's events.
     pub answer: Answer,
+    /// Interrupts and lines after the tick.
     pub output: Output,
 }
 

@@ -5,7 +5,9 @@ use std::mem::{offset_of, size_of};
 pub const ALERTS: usize = 64;
 /// Local alerts.
 pub const LOCALS: usize = 7;
+/// Classes.
 pub const CLASSES: usize = 4;
+/// Escalation phases of a class.
 pub const PHASES: usize = 4;
 
 /// The registers of a class's block.
@@ -32,47 +34,67 @@ pub struct Class {
     pub state: u8,
 }
 
-/// Alert i is re-armed if bit 63 - i is 1.
+/// What the wires have left.
 #[repr(C)]
 #[derive(Clone, Copy, Debug, PartialEq, Eq)]
 pub struct Receivers {
+    /// Alert i is re-armed if bit 63 - i is 1.
     pub armed: [u64; 1],
 }
 
+/// The registers of the alerts; entry i is alert i's. Entries at n and above are no registers, and no call changes them.
 #[repr(C)]
 #[derive(Clone, Copy, Debug, PartialEq, Eq)]
 pub struct Alerts {
+    /// REGWEN
     pub regwen: [u8; ALERTS],
+    /// EN
     pub en: [u8; ALERTS],
+    /// CLASS
     pub class: [u8; ALERTS],
+    /// CAUSE
     pub cause: [u8; ALERTS],
 }
 
+/// The registers of the local alerts; entry j is local alert j's.
 #[repr(C)]
 #[derive(Clone, Copy, Debug, PartialEq, Eq)]
 pub struct Locals {
+    /// REGWEN
     pub regwen: [u8; LOCALS],
+    /// EN
     pub en: [u8; LOCALS],
+    /// CLASS
     pub class: [u8; LOCALS],
+    /// CAUSE
     pub cause: [u8; LOCALS],
 }
 
-/// INTR_STATE and INTR_ENABLE: class 0 is the lowest bit.
+/// The interrupt registers: class 0 is the lowest bit.
 #[repr(C)]
 #[derive(Clone, Copy, Debug, PartialEq, Eq)]
 pub struct Interrupts {
+    /// INTR_STATE
     pub state: u8,
+    /// INTR_ENABLE
     pub enable: u8,
 }
 
+/// The state of a handler.
 #[repr(C)]
 #[derive(Clone, Copy, Debug, PartialEq, Eq)]
 pub struct Handler {
+    /// The alerts that it is made for.
     pub n: usize,
+    /// Which alerts are re-armed.
     pub receivers: Receivers,
+    /// The classes, A to D.
     pub classes: [Class; CLASSES],
+    /// The alerts' registers.
     pub alerts: Alerts,
+    /// The local alerts' registers.
     pub locals: Locals,
+    /// The interrupt registers.
     pub interrupts: Interrupts,
 }
 
@@ -80,7 +102,9 @@ pub struct Handler {
 #[repr(C)]
 #[derive(Clone, Copy, Debug, PartialEq, Eq)]
 pub struct Output {
+    /// The interrupts that are on.
     pub interrupts: u8,
+    /// The escalation lines that are on.
     pub lines: u8,
 }
 

@@ -2,6 +2,7 @@
 //! 20 zeros, read value or 0.
 use crate::answer::Refusal;
 
+/// The 64 bits of a tick: interrupts, lines, refusal number, value read.
 #[repr(transparent)]
 #[derive(Clone, Copy, Debug, Default, PartialEq, Eq)]
 pub struct Word(pub u64);
