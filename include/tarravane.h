@@ -1,11 +1,21 @@
-/* Tarravane: the proved alert handler, for C. Link target/staticlib/libboundary.a (x86-64, System V ABI; it needs memcpy).
+/* Tarravane: the proved alert handler, for C. Link target/staticlib/libboundary.a. It is built for x86-64 Linux alone (ELF,
+ * System V ABI), as the kit's back end gives it, and needs memcpy.
  *
  * Every function answers one signed 64-bit number: a read gives 0 to 4294967295, the writer the bytes written, anything
  * else accepted gives 0, and a refusal gives the negated refusal number. No function has a precondition on the state:
  * any bytes are a state, and refusal 7 judges them. No function keeps anything between calls, allocates, or fails in
  * another way.
  *
- * The promises are proved for the functions of crates/boundary. Trusted: the compiler's back end, the C ABI, this header. */
+ * The promises are proved for the functions of crates/boundary. Trusted: the compiler's back end, the C ABI, this header.
+ *
+ * The stack that a call takes below its caller's frame, argument and result included, whatever the lengths of its lists:
+ *   tarravane_new 1192 bytes
+ *   tarravane_tick 6088 bytes
+ *   tarravane_batch 5640 bytes
+ *   tarravane_record 104 bytes
+ * Measured, not proved (tests/stack, the gate): each call ran on a stack filled with a pattern, with accesses of every kind
+ * and lists of 0 to 300 entries, linked with -z now. Else the dynamic loader binds memcpy within the first call and takes
+ * stack there: with it the first tarravane_new took 4360 bytes on the machine that was measured, the other calls no more. */
 #ifndef TARRAVANE_H
 #define TARRAVANE_H
 

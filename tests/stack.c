@@ -1,0 +1,140 @@
+/* How much stack a call of the library takes. Each call is made on a stack of its own that was filled with a pattern; the
+ * lowest byte that lost it, seen from the caller's frame, is how deep the call went. Prints the most that the function took. */
+#define _GNU_SOURCE
+#include "tarravane.h"
+#include <stdio.h>
+#include <stdlib.h>
+#include <string.h>
+#include <ucontext.h>
+
+#define STACK ((size_t)1 << 16)
+#define PATTERN 0xA5
+#define RECORDS 300
+
+static unsigned char *stack;
+static unsigned char *frame; /* the caller's, noted before its call */
+static uint8_t bytes[RECORDS * TARRAVANE_RECORD];
+static uint64_t words[RECORDS];
+
+/* What a call is given. */
+static struct tarravane_handler state;
+static uint8_t kinds[RECORDS];
+static uint16_t registers[RECORDS];
+static uint32_t values[RECORDS];
+static uint64_t positive[RECORDS], negative[RECORDS];
+static size_t entries;
+
+/* A call takes its argument of 448 bytes and its result from the caller's frame: both are counted. */
+#define NOTE_FRAME() frame = __builtin_frame_address(0)
+
+static void call_new(void)
+{
+    NOTE_FRAME();
+    state = tarravane_new(entries % 70).handler;
+}
+
+static void call_tick(void)
+{
+    NOTE_FRAME();
+    state = tarravane_tick(state, kinds[0], registers[0], values[0], positive[0], negative[0]).handler;
+}
+
+static void call_batch(void)
+{
+    NOTE_FRAME();
+    state = tarravane_batch(state, bytes, entries * TARRAVANE_RECORD, words, RECORDS).handler;
+}
+
+static void call_record(void)
+{
+    NOTE_FRAME();
+    tarravane_record(kinds, entries, registers, entries, values, entries, positive, entries, negative, entries, bytes,
+                     sizeof bytes);
+}
+
+/* The bytes below the caller's frame that the call changed. */
+static size_t depth_of(void (*call)(void))
+{
+    ucontext_t here, there;
+    size_t low = 0;
+    memset(stack, PATTERN, STACK);
+    if (getcontext(&there) != 0) {
+        perror("stack");
+        exit(1);
+    }
+    there.uc_stack.ss_sp = stack;
+    there.uc_stack.ss_size = STACK;
+    there.uc_link = &here;
+    makecontext(&there, call, 0);
+    swapcontext(&here, &there);
+    while (low < STACK && stack[low] == PATTERN)
+        low++;
+    return (size_t)(frame - (stack + low));
+}
+
+static uint64_t next_random(void)
+{
+    static uint64_t seed = 88172645463325252u;
+    seed ^= seed << 13;
+    seed ^= seed >> 7;
+    seed ^= seed << 17;
+    return seed;
+}
+
+/* Accesses of every kind to every register, and wires that move. */
+static void draw_input(void)
+{
+    entries = next_random() % (RECORDS + 1);
+    for (size_t i = 0; i < RECORDS; i++) {
+        kinds[i] = (uint8_t)(next_random() % 3);
+        registers[i] = kinds[i] == TARRAVANE_NONE ? 0 : (uint16_t)(next_random() % 512);
+        values[i] = kinds[i] == TARRAVANE_WRITE ? (uint32_t)(next_random() >> (next_random() % 64)) : 0;
+        positive[i] = next_random();
+        negative[i] = ~positive[i] ^ (next_random() & next_random() & next_random());
+    }
+}
+
+/* A state of any number of alerts; in the first round one of zeros, as making one binds memcpy. */
+static void draw_state(int round)
+{
+    if (round > 0)
+        state = tarravane_new(1 + next_random() % TARRAVANE_ALERTS).handler;
+}
+
+static const struct {
+    const char *name;
+    void (*call)(void);
+} calls[] = {
+    {"tarravane_new", call_new},
+    {"tarravane_tick", call_tick},
+    {"tarravane_batch", call_batch},
+    {"tarravane_record", call_record},
+};
+
+static size_t most_of(void (*call)(void))
+{
+    size_t most = 0;
+    for (int round = 0; round < 200; round++) {
+        draw_input();
+        draw_state(round);
+        call_record();
+        size_t depth = depth_of(call);
+        if (depth > most)
+            most = depth;
+    }
+    return most;
+}
+
+int main(int count, char **words_given)
+{
+    stack = aligned_alloc(4096, STACK);
+    if (stack == NULL || count != 2)
+        return 2;
+    for (size_t i = 0; i < sizeof calls / sizeof calls[0]; i++) {
+        if (strcmp(calls[i].name, words_given[1]) == 0) {
+            printf("%zu\n", most_of(calls[i].call));
+            return 0;
+        }
+    }
+    return 2;
+}
