@@ -5,14 +5,14 @@
 # The shell's own word on a killed program is dropped.
 run_program() { { "$program" 2>&4 3>&- 4>&- 5>&-; } 2>/dev/null; echo "program: $?" >&4; }
 copy_words() { { LC_ALL=C tee --output-error=exit /dev/fd/5 >&3 2>&4; } 2>/dev/null; echo "copy: $?" >&4; }
-keep_end() { echo "end: $(tail -n 1)" >&4; }
+keep_end() { last=$(tail -n 1) && echo "end: $last" >&4; }
 
 # said NAME: what a process of that name has said.
 said() { printf '%s\n' "$report" | sed -n "s/^$1: //p"; }
 
 # check_killed STATUS
 check_killed() {
-  [ "$1" -gt 128 ] || return 0
+  [ "${1:-0}" -gt 128 ] || return 0
   printf 'tarravane: replay was ended by signal %s; words may be missing\n' $(($1 - 128)) >&2
   exit "$1"
 }
@@ -28,6 +28,9 @@ stream() {
   check_killed "$(said copy)"
   check_killed "$(said program)"
   [ -z "$(said replay)" ] || fail "replay: $(said replay)"
-  [ "$(said program)" -eq 0 ] || fail "replay did not run: $report"
+  case "$(said program) $(said copy) $report" in
+    '0 0 '*'end: '*) ;;
+    *) fail "replay did not run to its end: $(printf '%s' "$report" | tr '\n' ' ')" ;;
+  esac
   case $(said end) in cut | refused) exit 1 ;; esac
 }
