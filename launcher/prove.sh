@@ -23,7 +23,7 @@ show_progress() {
       'rt: '*' proved (unchanged'*) proved=$((proved + 1)) kept='' ;;
       'rt: '*' proved ('*)
         proved=$((proved + 1)) kept='' name=${line#rt: }
-        printf 'tarravane: proved %s of %s: %s\n' "$proved" "$1" "${name% proved (*} (${line##*(}" >&2
+        printf 'tarravane: proving %s of %s: %s\n' "$proved" "$1" "$name" >&2
         ;;
       'rt: '*' NOT PROVED'*)
         printf '%s%s\n' "$kept" "$line" >&2
