@@ -1,4 +1,5 @@
-//! The proved alert handler, for Rust. Every function here asks the proved library `boundary`; nothing is decided here.
+//! The proved alert handler, for Rust. Every call asks the proved library `boundary`; nothing is decided here. Beside them
+//! `registers` has the names and numbers of the registers, for tools.
 //!
 //! The promises stand in `include/tarravane.h` and are proved in `crates/boundary`.
 #![deny(missing_docs)]
@@ -7,6 +8,7 @@ mod answer;
 mod input;
 mod library;
 mod names;
+pub mod registers;
 mod state;
 mod word;
 mod writer;

@@ -6,6 +6,7 @@ mod said;
 use crate::facts::tick::Tick;
 use crate::names;
 use class::class;
+use handler::registers::LETTERS;
 use handler::{Access, Input, Word};
 
 /// No row is wider, but where it is asked for.
@@ -47,7 +48,7 @@ fn fits(words: &str, width: usize) -> bool {
 
 /// The row up to the causes; `said`: what it says of access and wires. In columns only where each holds its words.
 fn columns(t: &Tick, x: &Input, said: &str, form: Form) -> String {
-    let intr = flags(names::CLASSES, |k| t.word.interrupt(k));
+    let intr = flags(LETTERS, |k| t.word.interrupt(k));
     let line = flags(['0', '1', '2', '3'], |e| t.word.line(e));
     let [a, b, c, d] = [0, 1, 2, 3].map(|k| class(&t.after.classes[k], form));
     let (number, answer) = (t.number, answer(x, t.word, form));

@@ -3,6 +3,7 @@ use crate::names;
 use crate::say::say;
 use crate::text::line::Line;
 use crate::text::wires;
+use handler::registers::{Register, MAP};
 use handler::{Access, ALERTS};
 
 /// The most lines of a text that are warned of; those after them are counted.
@@ -17,12 +18,9 @@ pub struct Warnings {
     more: u64,
 }
 
-/// The alert that a register is of.
-fn alert(register: u16) -> Option<u16> {
-    match register {
-        64..=319 => Some(register % 64),
-        _ => None,
-    }
+/// Is it a register of an alert at N or above?
+fn is_above(n: u8, register: u16) -> bool {
+    matches!(MAP.register(register), Some(Register::Alert(_, i)) if i >= usize::from(n))
 }
 
 /// What a tick says of alerts at N and above.
@@ -30,7 +28,7 @@ fn unheeded(n: u8, line: &Line) -> Vec<String> {
     let mut all = Vec::new();
     let Line::Tick(input) = line else { return all };
     if let Access::Read(register) | Access::Write(register, _) = input.access {
-        if alert(register).is_some_and(|i| i >= u16::from(n)) {
+        if is_above(n, register) {
             all.push(format!("{} is no register", names::register(register)));
         }
     }

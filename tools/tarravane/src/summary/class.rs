@@ -5,7 +5,7 @@ use super::words;
 use crate::facts::clears::{clear, Clear};
 use crate::facts::starts::start;
 use crate::facts::tick::Tick;
-use crate::names;
+use handler::registers::LETTERS;
 
 #[derive(Default)]
 pub struct Class {
@@ -44,7 +44,7 @@ impl Class {
             0 => "no clear".to_string(),
             _ => format!("clears accepted {accepted}, refused {refused}"),
         };
-        let mut all = vec![format!("class {}: {starts}; {clears}", names::CLASSES[k])];
+        let mut all = vec![format!("class {}: {starts}; {clears}", LETTERS[k])];
         all.extend(self.starts.first().iter().flat_map(Escalation::lines));
         if self.starts.more() > 0 {
             let more = words::count(self.starts.more(), "later start");

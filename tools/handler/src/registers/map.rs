@@ -1,0 +1,77 @@
+//! The number of a register.
+use super::field::Field;
+use super::register::Register;
+use super::setting::Setting;
+use crate::{CLASSES, LOCALS};
+
+/// INTR_STATE, in every edition.
+pub const INTR_STATE: u16 = 0;
+/// INTR_ENABLE, in every edition.
+pub const INTR_ENABLE: u16 = 1;
+/// INTR_TEST, write only, in every edition.
+pub const INTR_TEST: u16 = 2;
+/// The bits of each of the three.
+pub const INTR_BITS: u32 = 4;
+
+/// The first local block, and the numbers from each to the next, in every edition.
+pub(super) const LOCAL: u16 = 16;
+pub(super) const LOCAL_STRIDE: u16 = 8;
+/// The numbers from a class's block to the next, in every edition.
+pub(super) const CLASS_STRIDE: u16 = 16;
+
+/// An edition of the register map: the numbers in which editions differ.
+#[derive(Clone, Copy, Debug, PartialEq, Eq)]
+pub struct Map {
+    /// The alerts that have registers.
+    pub alerts: usize,
+    /// The numbers from an alert block to the next, and the number at which the first begins.
+    pub stride: u16,
+    /// The number at which the block of class A begins.
+    pub classes: u16,
+}
+
+/// The map of document 01.
+pub const MAP: Map = Map {
+    alerts: 64,
+    stride: 64,
+    classes: 320,
+};
+
+impl Map {
+    /// A register of local alert j.
+    pub const fn local(&self, field: Field, j: usize) -> u16 {
+        LOCAL + LOCAL_STRIDE * field as u16 + j as u16
+    }
+
+    /// A register of alert i.
+    pub const fn alert(&self, field: Field, i: usize) -> u16 {
+        self.stride * (1 + field as u16) + i as u16
+    }
+
+    /// The number at which the block of class k begins.
+    pub const fn block(&self, k: usize) -> u16 {
+        self.classes + CLASS_STRIDE * k as u16
+    }
+
+    /// A register of class k.
+    pub const fn class(&self, k: usize, setting: Setting) -> u16 {
+        self.block(k) + setting as u16
+    }
+
+    /// The number after the last class's block: from it on none is assigned.
+    pub const fn end(&self) -> u16 {
+        self.block(CLASSES)
+    }
+
+    /// The number of a register, where this edition has it.
+    pub fn number(&self, register: Register) -> Option<u16> {
+        match register {
+            Register::IntrState => Some(INTR_STATE),
+            Register::IntrEnable => Some(INTR_ENABLE),
+            Register::IntrTest => Some(INTR_TEST),
+            Register::Local(field, j) => (j < LOCALS).then(|| self.local(field, j)),
+            Register::Alert(field, i) => (i < self.alerts).then(|| self.alert(field, i)),
+            Register::Class(k, setting) => (k < CLASSES).then(|| self.class(k, setting)),
+        }
+    }
+}
