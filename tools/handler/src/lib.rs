@@ -7,7 +7,6 @@
 mod answer;
 mod input;
 mod library;
-mod names;
 pub mod registers;
 mod state;
 mod word;
@@ -15,7 +14,6 @@ mod writer;
 
 pub use answer::{Answer, Refusal};
 pub use input::{Access, Input, Wires};
-pub use names::SETTINGS;
 pub use state::{
     Alerts, Class, Handler, Interrupts, Locals, Output, Receivers, ALERTS, CLASSES, LOCALS, PHASES,
 };

@@ -23,6 +23,11 @@ impl Rng {
         self.bits() % limit
     }
 
+    /// A place among so many.
+    pub fn index(&mut self, count: usize) -> usize {
+        self.below(count as u64) as usize
+    }
+
     /// True once in `often` times.
     pub fn once_in(&mut self, often: u64) -> bool {
         self.below(often) == 0
@@ -30,7 +35,7 @@ impl Rng {
 
     /// One of the choices.
     pub fn pick<T: Copy>(&mut self, choices: &[T]) -> T {
-        choices[self.below(choices.len() as u64) as usize]
+        choices[self.index(choices.len())]
     }
 
     /// An index, each as often as its weight says.

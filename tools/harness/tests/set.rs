@@ -1,10 +1,8 @@
 //! What the default set must reach, and that traces are what they say.
 
-use harness::compare::{damage, generated, Case, DEFAULT_SEED, DEFAULT_TRACES};
-use harness::coverage::Coverage;
+use harness::compare::{damage, expected, generated, Case, Coverage, DEFAULT_SEED, DEFAULT_TRACES};
 use harness::generate::{Kind, KINDS};
 use harness::record::{pack, Head, READ, RECORD, WRITE};
-use harness::run::expected;
 
 fn reached(cases: impl Iterator<Item = Case>) -> Coverage {
     let mut coverage = Coverage::default();
@@ -88,19 +86,13 @@ fn the_same_seed_gives_the_same_bytes() {
 
 #[test]
 fn records_are_packed_as_the_paper_shows() {
-    let head = |kind, register| Head {
-        kind,
-        register,
-        rest: 0,
-        value: 0,
-    };
     let hex = |record: [u8; RECORD]| record.map(|byte| format!("{byte:02x}")).concat();
     assert_eq!(
-        hex(pack(head(READ, 321), 0, 1 << 63)),
+        hex(pack(Head::new(READ, 321, 0), 0, 1 << 63)),
         "541000000000000000000000000000008000000000000000"
     );
     assert_eq!(
-        hex(pack(head(WRITE, 1023), 0, 1 << 63)),
+        hex(pack(Head::new(WRITE, 1023, 0), 0, 1 << 63)),
         "bff000000000000000000000000000008000000000000000"
     );
 }

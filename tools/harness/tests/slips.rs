@@ -1,8 +1,7 @@
 //! Slips that look right, each put into a copy of the reference by replacing
 //! one piece of its text: the default set must find every one of them.
 
-use harness::compare::{compare_all, generated, DEFAULT_SEED, DEFAULT_TRACES};
-use harness::coverage::Coverage;
+use harness::compare::{compare_all, generated, Coverage, DEFAULT_SEED, DEFAULT_TRACES};
 use std::fs;
 use std::path::{Path, PathBuf};
 use std::process::Command;

@@ -1,19 +1,13 @@
 //! Refusal 7 exactly in its case, field by field, and that the comparison
 //! finds what it is there to find.
 
-use handler::{Access, Answer, Handler, Ticked, Wires, Word};
+use handler::registers::Setting;
+use handler::{Access, Answer, Handler, Ticked, Wires, Word, RECORD};
 use harness::bench::{load, start, time, LOADS};
-use harness::map::{ESC_CNT, STATE};
-use harness::place::Place;
+use harness::calls::{handler_of, reference_of};
 use harness::rng::Rng;
-use harness::spoil::WAYS;
+use harness::spoil::{Place, WAYS};
 use harness::states::{try_all, Found, Subject, Summary, PROVED};
-use harness::twin::{handler_of, reference_of};
-
-const REST: Wires = Wires {
-    pos: 0,
-    neg: u64::MAX,
-};
 
 /// A configured state of n alerts.
 fn state(n: usize) -> Handler {
@@ -24,7 +18,7 @@ fn state(n: usize) -> Handler {
 
 /// What a tick of the library answers; a batch of no records says the same.
 fn answer(state: &Handler) -> i64 {
-    let given = state.tick(Access::Nothing, REST);
+    let given = state.tick(Access::Nothing, Wires::REST);
     let (after, answer) = state.batch(&[], &mut []);
     assert_eq!((given.answer, after), (answer, *state));
     if answer.0 == -7 {
@@ -54,7 +48,7 @@ fn every_register_over_its_field_gives_7() {
             assert_eq!(answer(&h), if unused(place, n) { 0 } else { -7 }, "{place}");
             place.set(&mut h, most);
             // The highest STATE is a phase and needs a count.
-            let phase = matches!(place, Place::Class(_, STATE));
+            let phase = matches!(place, Place::Class(_, Setting::State));
             assert_eq!(answer(&h), if phase { -7 } else { 0 }, "{place}");
             tried += 1;
         }
@@ -76,7 +70,7 @@ fn a_flipped_bit_over_a_field_gives_7() {
                     Place::Armed => false,
                     // All classes are Idle: the six other states are not one
                     // bit away or want a count, and a count another state.
-                    Place::Class(_, STATE | ESC_CNT) => true,
+                    Place::Class(_, Setting::State | Setting::EscCnt) => true,
                     _ => !unused(place, n) && place.bits().is_some_and(|bits| bit >= bits),
                 };
                 assert_eq!(answer(&h), if over { -7 } else { 0 }, "{place} bit {bit}");
@@ -214,7 +208,7 @@ fn a_tick_that_tidies_unused_entries_is_found() {
 fn a_batch_that_writes_a_later_word_is_found() {
     fn batch(h: Handler, bytes: &[u8], out: &mut [Word]) -> (Handler, Answer) {
         let given = h.batch(bytes, out);
-        if let Some(word) = out.get_mut(bytes.len() / 24) {
+        if let Some(word) = out.get_mut(bytes.len() / RECORD) {
             *word = Word(0);
         }
         given
@@ -227,7 +221,7 @@ fn a_batch_that_writes_a_later_word_is_found() {
 #[test]
 fn the_bench_compares_every_word() {
     for (kind, name) in LOADS {
-        assert_eq!(load(kind, 1000).len(), 24_000);
+        assert_eq!(load(kind, 1000).len(), 1000 * RECORD);
         assert!(time(kind, name, 1000).equal, "{name}");
     }
 }

@@ -3,11 +3,12 @@
 use super::lent::{Entries, GUARD};
 use super::row::Row;
 use super::spoil::{spoil, Way, WAYS};
-use crate::map::{alert, class, local, CTRL, INTR_ENABLE, SOURCE_EN};
+use crate::record::WRITE;
 use crate::rng::Rng;
+use handler::registers::{Field, Setting, INTR_ENABLE, MAP};
 
 /// The most entries of a list.
-const MOST: u64 = 40;
+const MOST: usize = 40;
 
 impl Entries {
     /// A list of up to 40 entries; half of the longer ones set up a handler
@@ -15,8 +16,8 @@ impl Entries {
     pub fn new(rng: &mut Rng) -> Entries {
         let way = WAYS[rng.weighted(&WAYS.map(|way| way.2))].0;
         let n = rng.pick(&[1, 2, 9, 63, 64]);
-        let (few, any) = (rng.below(4), rng.below(MOST + 1));
-        let count = rng.pick(&[few, any, any, MOST]) as usize;
+        let (few, any) = (rng.index(4), rng.index(MOST + 1));
+        let count = rng.pick(&[few, any, any, MOST]);
         let mut rows: Vec<Row> = (0..count).map(|_| Row::good(rng)).collect();
         if count >= 8 && rng.once_in(2) {
             set_up(rng, n, &mut rows);
@@ -34,13 +35,13 @@ impl Entries {
 fn set_up(rng: &mut Rng, n: usize, rows: &mut [Row]) {
     let writes = [
         (INTR_ENABLE, 15),
-        (alert(SOURCE_EN, 0), 1),
-        (alert(SOURCE_EN, n as u64 - 1), 1),
-        (local(SOURCE_EN, 2), rng.below(2) as u32),
-        (class(0, CTRL), 0x393D),
+        (MAP.alert(Field::En, 0), 1),
+        (MAP.alert(Field::En, n - 1), 1),
+        (MAP.local(Field::En, 2), rng.below(2) as u32),
+        (MAP.class(0, Setting::Ctrl), 0x393D),
     ];
     for (row, (register, value)) in rows.iter_mut().zip(writes) {
-        (row.kind, row.register, row.value) = (2, register as u16, value);
+        (row.kind, row.register, row.value) = (WRITE, register, value);
     }
 }
 
@@ -50,9 +51,9 @@ fn unequal(rng: &mut Rng, count: usize) -> [usize; 5] {
     let changes = 1 + rng.below(3);
     while lengths == [lengths[0]; 5] {
         for _ in 0..changes {
-            let shorter = count.saturating_sub(1 + rng.below(3) as usize);
-            let longer = count + 1 + rng.below(GUARD as u64) as usize;
-            let at = rng.below(5) as usize;
+            let shorter = count.saturating_sub(1 + rng.index(3));
+            let longer = count + 1 + rng.index(GUARD);
+            let at = rng.index(5);
             lengths[at] = rng.pick(&[shorter, shorter, longer, longer, 0]);
         }
     }
@@ -62,14 +63,15 @@ fn unequal(rng: &mut Rng, count: usize) -> [usize; 5] {
 #[cfg(test)]
 mod tests {
     use super::*;
+    use crate::record::LARGEST;
 
     #[test]
     fn only_good_rows_are_held_by_a_record() {
         let mut rng = Rng::new(6);
         let held = |row: &Row| match row.kind {
             0 => row.register == 0 && row.value == 0,
-            1 => row.register < 1024 && row.value == 0,
-            2 => row.register < 1024,
+            1 => row.register <= LARGEST && row.value == 0,
+            2 => row.register <= LARGEST,
             _ => false,
         };
         for _ in 0..5000 {
@@ -83,7 +85,7 @@ mod tests {
                 Way::Several => assert!(same && (1..=3).contains(&bad)),
                 _ => assert!(same && bad == 1, "{:?}", entries.way),
             }
-            assert!(rows.len() as u64 <= MOST);
+            assert!(rows.len() <= MOST);
         }
     }
 }

@@ -1,12 +1,10 @@
 //! One entry of a list.
 
+use crate::calls::{register, wires};
 use crate::generate::WRITTEN;
-use crate::lists::{register, wires};
+use crate::record::LARGEST;
 use crate::rng::Rng;
 use handler::{Access, Wires};
-
-/// The largest register number that ten bits hold.
-pub const LARGEST: u16 = 1023;
 
 /// One access with its sample.
 #[derive(Clone, Copy, Debug, PartialEq, Eq)]

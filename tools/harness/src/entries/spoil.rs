@@ -1,6 +1,7 @@
 //! Entries that no well-formed record holds.
 
-use super::row::{Row, LARGEST};
+use super::row::Row;
+use crate::record::LARGEST;
 use crate::rng::Rng;
 
 /// What a list has that no well-formed record holds.
@@ -63,7 +64,7 @@ fn spoil_one(way: Way, rng: &mut Rng, rows: &mut Vec<Row>) {
         rows.push(Row::good(rng));
     }
     let last = rows.len() - 1;
-    let any = rng.below(rows.len() as u64) as usize;
+    let any = rng.index(rows.len());
     let at = rng.pick(&[0, last, any, any]);
     let way = if way == Way::Several {
         rng.pick(&SINGLE)

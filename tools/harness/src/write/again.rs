@@ -3,8 +3,8 @@
 use super::compare::record_odd;
 use super::subject::Subject;
 use super::summary::Summary;
+use crate::calls::Odd;
 use crate::entries::{Buffer, Entries, Row, Way};
-use crate::odd::Odd;
 use crate::record::RECORD;
 use crate::rng::Rng;
 use handler::Wires;
@@ -69,7 +69,7 @@ fn row_of((access, pos, neg): (reference::Access, u64, u64)) -> Row {
 #[cfg(test)]
 mod tests {
     use super::*;
-    use crate::twin::reference_access;
+    use crate::calls::reference_access;
     use handler::Access;
 
     #[test]

@@ -1,8 +1,8 @@
 //! One call of the writer beside what is wanted of it.
 
 use super::subject::Subject;
+use crate::calls::Odd;
 use crate::entries::{Buffer, Entries};
-use crate::odd::Odd;
 
 /// Whether the subject answers and writes what is wanted, and nothing else.
 pub fn record_odd(

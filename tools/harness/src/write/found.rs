@@ -1,8 +1,8 @@
 //! A difference that a run over lists found.
 
 use super::again::AGAIN;
+use crate::calls::Odd;
 use crate::entries::{Way, WAYS};
-use crate::odd::Odd;
 use std::fmt;
 
 /// A list that shows a difference.

@@ -2,10 +2,10 @@
 
 use super::subject::Subject;
 use super::summary::Summary;
+use crate::calls::reference_access;
+use crate::calls::Odd;
 use crate::entries::{Entries, Row};
-use crate::odd::Odd;
 use crate::record::RECORD;
-use crate::twin::reference_access;
 use handler::{Handler, Ticked, Word};
 use reference::trace::{parse, word};
 

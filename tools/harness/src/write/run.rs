@@ -6,8 +6,8 @@ use super::found::Found;
 use super::read_back::read_back;
 use super::subject::{reference_record, Subject};
 use super::summary::Summary;
+use crate::calls::Odd;
 use crate::entries::{Buffer, Entries};
-use crate::odd::Odd;
 use crate::rng::Rng;
 
 /// The lists in the default set.

@@ -1,7 +1,7 @@
 //! The calls under test, and the reference's writer beside them.
 
+use crate::calls::{Batch, Tick};
 use crate::entries::Lent;
-use crate::states::{Batch, Tick};
 use handler::{Answer, Handler};
 
 /// The calls under test; a test puts wrong ones in.

@@ -2,7 +2,7 @@
 
 use handler::Answer;
 use harness::entries::{Entries, Lent, Row, Way};
-use harness::record::{pack, Head, RECORD};
+use harness::record::{pack, Head, LARGEST, RECORD};
 use harness::rng::Rng;
 use harness::write::reference_record;
 
@@ -113,12 +113,7 @@ pub fn held(row: &Row) -> bool {
 /// Writes all that fits, whatever the entries are.
 pub fn pour(rows: &[Row], out: &mut [u8]) {
     for (row, place) in rows.iter().zip(out.chunks_exact_mut(RECORD)) {
-        let head = Head {
-            kind: u32::from(row.kind & 3),
-            register: u32::from(row.register & 0x3FF),
-            rest: 0,
-            value: row.value,
-        };
+        let head = Head::new(row.kind & 3, row.register & LARGEST, row.value);
         place.copy_from_slice(&pack(head, row.wires.pos, row.wires.neg));
     }
 }

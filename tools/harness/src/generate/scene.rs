@@ -1,18 +1,20 @@
 //! A trace under construction: the wires as they stand and the records so far.
 
-use crate::record::{pack, Head, NONE, READ, WRITE};
+use crate::record::{pack, Head, NONE, READ, RECORD, WRITE};
 use crate::rng::Rng;
+use handler::registers::MAP;
+use handler::CLASSES;
 
 /// What a generator writes into.
 pub struct Scene {
     /// The source of all choices.
     pub rng: Rng,
     /// The number of alerts.
-    pub n: u64,
+    pub n: usize,
     /// The alerts that the trace plays with; the others mostly rest.
-    pub active: Vec<u64>,
+    pub active: Vec<usize>,
     /// The class most active alerts belong to.
-    pub focus: u64,
+    pub focus: usize,
     /// An active alert takes new wires once in so many ticks.
     pub calm: u64,
     /// Weight of equal wires against 10 for each of rise and fall.
@@ -29,15 +31,15 @@ pub struct Scene {
 impl Scene {
     /// A trace for N alerts, all wires at rest.
     pub fn new(mut rng: Rng, n: u8) -> Scene {
-        let count = u64::from(n).clamp(1, 64);
+        let count = usize::from(n).clamp(1, MAP.alerts);
         let mut active = vec![0, count - 1];
         for _ in 0..rng.below(6) {
-            active.push(rng.below(count));
+            active.push(rng.index(count));
         }
         Scene {
             n: count,
             active,
-            focus: rng.below(4),
+            focus: rng.index(CLASSES),
             calm: 6,
             equal: rng.pick(&[0, 0, 1, 4]),
             moving: true,
@@ -51,14 +53,14 @@ impl Scene {
     /// The bytes; once in eight times with a cut end.
     pub fn finish(mut self) -> Vec<u8> {
         if self.rng.once_in(8) {
-            let rest = 1 + self.rng.below(23);
+            let rest = 1 + self.rng.index(RECORD - 1);
             self.tail(rest);
         }
         self.bytes
     }
 
     /// Adds rest bytes that make no record.
-    pub fn tail(&mut self, count: u64) {
+    pub fn tail(&mut self, count: usize) {
         for _ in 0..count {
             self.bytes.push(self.rng.bits() as u8);
         }
@@ -70,22 +72,17 @@ impl Scene {
     }
 
     /// A tick that reads.
-    pub fn read(&mut self, register: u32) {
+    pub fn read(&mut self, register: u16) {
         self.access(READ, register, 0);
     }
 
     /// A tick that writes.
-    pub fn write(&mut self, register: u32, value: u32) {
+    pub fn write(&mut self, register: u16, value: u32) {
         self.access(WRITE, register, value);
     }
 
-    fn access(&mut self, kind: u32, register: u32, value: u32) {
-        self.tick(Head {
-            kind,
-            register,
-            rest: 0,
-            value,
-        });
+    fn access(&mut self, kind: u8, register: u16, value: u32) {
+        self.tick(Head::new(kind, register, value));
     }
 
     /// A tick with any record head.
@@ -138,24 +135,23 @@ impl Scene {
     }
 
     /// Puts a pair on alert i's wires.
-    pub fn set(&mut self, i: u64, pair: (u64, u64)) {
+    pub fn set(&mut self, i: usize, pair: (u64, u64)) {
         let shift = 63 - i;
         self.pos = (self.pos & !(1 << shift)) | (pair.0 << shift);
         self.neg = (self.neg & !(1 << shift)) | (pair.1 << shift);
     }
 
     /// One of the active alerts.
-    pub fn any_active(&mut self) -> u64 {
-        let at = self.rng.below(self.active.len() as u64);
-        self.active[at as usize]
+    pub fn any_active(&mut self) -> usize {
+        self.rng.pick(&self.active)
     }
 
     /// The focus class half of the time, else any.
-    pub fn any_class(&mut self) -> u64 {
+    pub fn any_class(&mut self) -> usize {
         if self.rng.once_in(2) {
             self.focus
         } else {
-            self.rng.below(4)
+            self.rng.index(CLASSES)
         }
     }
 }

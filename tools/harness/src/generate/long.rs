@@ -1,12 +1,12 @@
 //! Long traces: an accumulator at its end, and long phases.
 
-use crate::generate::{profile, step, Kind};
-use crate::map::{
-    alert, class, local, ACCUM_CNT, ACCUM_THRESH, CTRL, ESC_CNT, INTR_ENABLE, INTR_STATE,
-    INTR_TEST, PHASE0_CYC, SOURCE_CLASS, SOURCE_EN, STATE, TIMEOUT_CYC,
-};
+use super::play::step;
+use super::profile::profile;
+use super::scene::Scene;
+use super::Kind;
 use crate::rng::Rng;
-use crate::scene::Scene;
+use handler::registers::{Field, Setting, INTR_ENABLE, INTR_STATE, INTR_TEST, MAP};
+use handler::CLASSES;
 
 /// The most events an accumulator counts.
 const MOST: u64 = 65535;
@@ -23,14 +23,14 @@ pub fn long(mut rng: Rng, seed: u64) -> Vec<u8> {
     // In turn: two alerts take turns, one alert, equal wires.
     let way = seed % 3;
     set_up(&mut scene, way);
-    let other = (k + 1) % 4;
+    let other = (k + 1) % CLASSES;
     let watched = [
-        class(k, ACCUM_CNT),
-        class(k, STATE),
-        class(other, ESC_CNT),
-        class(k, ACCUM_CNT),
-        class(other, STATE),
-        class(k, ESC_CNT),
+        MAP.class(k, Setting::AccumCnt),
+        MAP.class(k, Setting::State),
+        MAP.class(other, Setting::EscCnt),
+        MAP.class(k, Setting::AccumCnt),
+        MAP.class(other, Setting::State),
+        MAP.class(k, Setting::EscCnt),
         INTR_STATE,
     ];
     let ticks = if way == 1 { 2 * MOST + 60 } else { MOST + 30 };
@@ -50,31 +50,31 @@ pub fn long(mut rng: Rng, seed: u64) -> Vec<u8> {
 /// Configures the two classes of a long trace.
 fn set_up(scene: &mut Scene, way: u64) {
     let k = scene.focus;
-    let other = (k + 1) % 4;
+    let other = (k + 1) % CLASSES;
     let last = scene.n - 1;
     for i in [0, last] {
-        scene.write(alert(SOURCE_CLASS, i), k as u32);
+        scene.write(MAP.alert(Field::Class, i), k as u32);
     }
-    scene.write(alert(SOURCE_EN, 0), 1);
+    scene.write(MAP.alert(Field::En, 0), 1);
     if way == 0 {
-        scene.write(alert(SOURCE_EN, last), 1);
+        scene.write(MAP.alert(Field::En, last), 1);
     }
     if way == 2 {
-        scene.write(local(SOURCE_CLASS, 2), k as u32);
-        scene.write(local(SOURCE_EN, 2), 1);
+        scene.write(MAP.local(Field::Class, 2), k as u32);
+        scene.write(MAP.local(Field::En, 2), 1);
     }
     let threshold = scene.rng.pick(&[65535, 65535, 65534, 65533]);
-    scene.write(class(k, ACCUM_THRESH), threshold);
-    for (p, length) in [3, 0, 1, 2].into_iter().enumerate() {
-        scene.write(class(k, PHASE0_CYC + p as u32), length);
+    scene.write(MAP.class(k, Setting::AccumThresh), threshold);
+    for (phase, length) in Setting::PHASES.into_iter().zip([3, 0, 1, 2]) {
+        scene.write(MAP.class(k, phase), length);
     }
-    scene.write(class(k, CTRL), 0x393D);
+    scene.write(MAP.class(k, Setting::Ctrl), 0x393D);
     // The other class starts by a timeout and ends before the accumulator.
-    for (p, length) in [255, 256, 1000, 60000].into_iter().enumerate() {
-        scene.write(class(other, PHASE0_CYC + p as u32), length);
+    for (phase, length) in Setting::PHASES.into_iter().zip([255, 256, 1000, 60000]) {
+        scene.write(MAP.class(other, phase), length);
     }
-    scene.write(class(other, TIMEOUT_CYC), 257);
-    scene.write(class(other, CTRL), 0x1B3D);
+    scene.write(MAP.class(other, Setting::TimeoutCyc), 257);
+    scene.write(MAP.class(other, Setting::Ctrl), 0x1B3D);
     scene.write(INTR_ENABLE, 15);
     scene.write(INTR_TEST, 1 << other);
 }

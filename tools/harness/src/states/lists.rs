@@ -1,77 +1,13 @@
-//! What a call on a damaged state gets: an access, wires, records, and lent
-//! lists with guards around them.
+//! The records and the lent list of a batch, with guards around them.
 
-use crate::generate::WRITTEN;
-use crate::map::{class, CLR};
-use crate::record::{pack, Head, KIND3, NONE, READ, RECORD, WRITE};
+use crate::calls::record;
+use crate::record::RECORD;
 use crate::rng::Rng;
-use handler::{Access, Wires, Word};
+use handler::Word;
 
 /// Guard words before and after the list; three times as many guard bytes
 /// stand before and after the records.
 pub const GUARD: usize = 8;
-
-/// A register number: mostly an assigned one, now and then a CLR.
-pub fn register(rng: &mut Rng) -> u16 {
-    let k = rng.below(4);
-    let offset = rng.below(13) as u32;
-    let near = rng.below(400) as u16;
-    let low = rng.below(47) as u16;
-    let blocks = [class(k, CLR) as u16, class(k, offset) as u16];
-    let far = rng.bits() as u16;
-    rng.pick(&[
-        near, near, near, low, low, blocks[0], blocks[1], blocks[1], far,
-    ])
-}
-
-/// Any access; the number may have more than the ten bits of a record.
-pub fn access(rng: &mut Rng) -> Access {
-    let register = register(rng);
-    match rng.below(10) {
-        0 => Access::Nothing,
-        1..=4 => Access::Read(register),
-        5..=8 => Access::Write(register, rng.pick(&WRITTEN)),
-        _ => Access::Malformed,
-    }
-}
-
-/// Wires at rest, all risen, some risen, or random with equal pairs.
-pub fn wires(rng: &mut Rng) -> Wires {
-    let (pos, neg) = (rng.bits(), rng.bits());
-    let few = pos & rng.bits() & rng.bits() & rng.bits();
-    let pair = [(0, u64::MAX), (u64::MAX, 0), (pos, !pos), (few, !few)];
-    let equal = [(pos, neg), (pos, pos), (few, !pos)];
-    let (pos, neg) = if rng.once_in(3) {
-        rng.pick(&equal)
-    } else {
-        rng.pick(&pair)
-    };
-    Wires { pos, neg }
-}
-
-/// Any record, one in eight malformed.
-fn record(rng: &mut Rng) -> [u8; RECORD] {
-    let mut head = Head {
-        kind: rng.pick(&[NONE, READ, READ, WRITE, WRITE]),
-        register: u32::from(register(rng) & 0x3FF),
-        rest: 0,
-        value: rng.pick(&WRITTEN),
-    };
-    match head.kind {
-        NONE => (head.register, head.value) = (0, 0),
-        READ => head.value = 0,
-        _ => {}
-    }
-    match rng.below(32) {
-        0 => head.kind = KIND3,
-        1 => head.rest = 1 << rng.below(20),
-        2 => (head.kind, head.value) = (READ, 1),
-        3 => (head.kind, head.value) = (NONE, 1),
-        _ => {}
-    }
-    let wires = wires(rng);
-    pack(head, wires.pos, wires.neg)
-}
 
 /// The records and the lent list of a small batch, each between guards.
 #[derive(Clone)]
@@ -94,7 +30,11 @@ impl Lists {
         for _ in 0..records {
             bytes.extend(record(rng));
         }
-        let cut = if rng.once_in(8) { rng.below(24) } else { 0 };
+        let cut = if rng.once_in(8) {
+            rng.below(RECORD as u64)
+        } else {
+            0
+        };
         let length = records * RECORD + cut as usize;
         bytes.resize_with(from + length + 3 * GUARD, || rng.bits() as u8);
         let more = rng.below(4) as usize;

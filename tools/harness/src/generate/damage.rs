@@ -1,5 +1,6 @@
 //! Bytes that nobody meant as a trace.
 
+use super::FAR;
 use crate::record::RECORD;
 use crate::rng::Rng;
 
@@ -26,7 +27,7 @@ fn tidy(rng: &mut Rng, record: &mut [u8]) {
     if record.len() < 8 || rng.once_in(8) {
         return;
     }
-    let head = ((1 + rng.below(2)) << 10) | rng.below(400);
+    let head = ((1 + rng.below(2)) << 10) | rng.below(FAR.into());
     record[..4].copy_from_slice(&((head as u32) << 20).to_be_bytes());
     if head >> 10 == 1 {
         record[4..8].fill(0);

@@ -1,0 +1,59 @@
+//! The rounds of a load.
+
+use super::load::{load, Load};
+use super::start::start;
+use super::timed::Timed;
+use super::ROUNDS;
+use crate::calls::handler_of;
+use handler::{Handler, Word};
+use std::time::{Duration, Instant};
+
+/// Times one load, both sides in turn.
+pub fn time(kind: Load, name: &'static str, records: usize) -> Timed {
+    let bytes = load(kind, records);
+    let first = start();
+    let mut words = vec![Word(0); records];
+    let mut numbers = vec![0; records];
+    let mut timed = Timed {
+        name,
+        records,
+        proved: Duration::MAX,
+        reference: Duration::MAX,
+        equal: true,
+    };
+    for _ in 0..ROUNDS {
+        // Neither side may live on the words of the round before.
+        words.fill(Word(u64::MAX));
+        numbers.fill(0);
+        let (state, spent) = proved_round(handler_of(&first), &bytes, &mut words);
+        timed.proved = timed.proved.min(spent);
+        let (twin, spent) = reference_round(first.clone(), &bytes, &mut numbers);
+        timed.reference = timed.reference.min(spent);
+        let same = words
+            .iter()
+            .zip(&numbers)
+            .all(|(word, number)| word.0 == *number);
+        timed.equal &= same && state == handler_of(&twin);
+    }
+    timed
+}
+
+fn proved_round(state: Handler, bytes: &[u8], words: &mut [Word]) -> (Handler, Duration) {
+    let begin = Instant::now();
+    let (state, answer) = state.batch(bytes, words);
+    let spent = begin.elapsed();
+    assert_eq!(answer.0, 0);
+    (state, spent)
+}
+
+fn reference_round(
+    mut state: reference::Handler,
+    bytes: &[u8],
+    numbers: &mut [u64],
+) -> (reference::Handler, Duration) {
+    let begin = Instant::now();
+    let answer = reference::batch(&mut state, bytes, numbers);
+    let spent = begin.elapsed();
+    assert_eq!(answer, 0);
+    (state, spent)
+}

@@ -1,0 +1,41 @@
+//! Why a command ends with status 2, and what can be asked.
+
+use std::fmt::{self, Display};
+use std::io;
+
+const USAGE: &str = "usage:
+  harness diff REPLAY [--traces N] [--seed S]    the fixed set, or N traces from seed S
+  harness damage REPLAY [--traces N] [--seed S]  random bytes and damaged traces
+  harness fuzz REPLAY SECONDS [--seed S]         fresh seeds until the time is over
+  harness repeat REPLAY KIND SEED [--records R]  one trace, or its first R records
+  harness trace KIND SEED [--records R]          the bytes of a trace
+  harness states [--states N] [--seed S]         damaged states through the proved library
+  harness write [--lists N] [--seed S]           lists through the proved trace writer
+  harness bench                                  times of proved library and reference
+REPLAY is the program to compare with the reference.
+Exit status: 0 equal, 1 different, 2 bad usage, no such program, or a failed write.";
+
+/// Why a command ends with status 2.
+pub enum Trouble {
+    /// What was asked is no command; the usage follows.
+    Usage(String),
+    /// The program could not be run.
+    Run(io::Error),
+    /// The outcome could not be written.
+    Write(io::Error),
+}
+
+impl Display for Trouble {
+    fn fmt(&self, out: &mut fmt::Formatter) -> fmt::Result {
+        match self {
+            Trouble::Usage(what) => write!(out, "{what}\n{USAGE}"),
+            Trouble::Run(error) => write!(out, "cannot run: {error}"),
+            Trouble::Write(error) => write!(out, "cannot write: {error}"),
+        }
+    }
+}
+
+/// What was asked is no command, for this reason.
+pub fn usage(what: impl Into<String>) -> Trouble {
+    Trouble::Usage(what.into())
+}

@@ -1,0 +1,17 @@
+//! Calls of the proved library beside the reference: what they get, the same
+//! state on both sides, and what differs.
+
+mod input;
+mod odd;
+mod twin;
+
+pub use input::{access, record, register, wires};
+pub use odd::Odd;
+pub use twin::{handler_of, reference_access, reference_of};
+
+use handler::{Access, Answer, Handler, Ticked, Wires, Word};
+
+/// A call of one tick.
+pub type Tick = fn(Handler, Access, Wires) -> Ticked;
+/// A call of a batch.
+pub type Batch = fn(Handler, &[u8], &mut [Word]) -> (Handler, Answer);

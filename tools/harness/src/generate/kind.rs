@@ -1,0 +1,79 @@
+//! The kinds of traces.
+
+/// What a trace is about.
+#[derive(Clone, Copy, Debug, PartialEq, Eq)]
+pub enum Kind {
+    /// Everything a little.
+    Mixed,
+    /// Starts, short phases, Terminal, clears.
+    Escalate,
+    /// Interrupt timeouts, with few triggers.
+    Timeout,
+    /// Many events against small thresholds.
+    Accumulate,
+    /// LOCK, the REGWENs and writes that meet them.
+    Locks,
+    /// Refused accesses and malformed records.
+    Refusals,
+    /// Every register number written, then read.
+    Sweep,
+    /// Any N, few records, cut ends, no bytes at all.
+    Ends,
+    /// An accumulator driven to 65535, and long phases in another class.
+    Full,
+    /// Random bytes.
+    Noise,
+    /// A generated trace with flipped bits, lost bytes or added bytes.
+    Damaged,
+}
+
+/// Every kind with its name on the command line.
+pub const KINDS: [(Kind, &str); 11] = [
+    (Kind::Mixed, "mixed"),
+    (Kind::Escalate, "escalate"),
+    (Kind::Timeout, "timeout"),
+    (Kind::Accumulate, "accumulate"),
+    (Kind::Locks, "locks"),
+    (Kind::Refusals, "refusals"),
+    (Kind::Sweep, "sweep"),
+    (Kind::Ends, "ends"),
+    (Kind::Full, "full"),
+    (Kind::Noise, "noise"),
+    (Kind::Damaged, "damaged"),
+];
+
+impl Kind {
+    /// The name on the command line.
+    pub fn name(self) -> &'static str {
+        KINDS[self as usize].1
+    }
+
+    /// The kind with this name.
+    pub fn named(name: &str) -> Option<Kind> {
+        KINDS
+            .iter()
+            .find(|entry| entry.1 == name)
+            .map(|entry| entry.0)
+    }
+
+    /// The kind of the trace at a place of a set: one in a hundred is long.
+    pub fn at(place: u64) -> Kind {
+        const ROUND: [Kind; 10] = [
+            Kind::Mixed,
+            Kind::Escalate,
+            Kind::Timeout,
+            Kind::Accumulate,
+            Kind::Locks,
+            Kind::Refusals,
+            Kind::Mixed,
+            Kind::Timeout,
+            Kind::Sweep,
+            Kind::Ends,
+        ];
+        if place % 100 == 99 {
+            Kind::Full
+        } else {
+            ROUND[(place % 10) as usize]
+        }
+    }
+}

@@ -1,0 +1,137 @@
+//! The steps that are refused, for each reason and in its order.
+
+use super::scene::Scene;
+use crate::record::{Head, KIND3, LARGEST, NONE, READ, WRITE};
+use handler::registers::{Field, Setting, INTR_BITS, INTR_STATE, INTR_TEST, MAP};
+use handler::{CLASSES, LOCALS};
+
+/// The number after each local block, and both ends of the gap up to the
+/// alerts.
+const GAPS: [u16; 6] = [
+    MAP.local(Field::Regwen, LOCALS),
+    MAP.local(Field::En, LOCALS),
+    MAP.local(Field::Class, LOCALS),
+    MAP.local(Field::Cause, LOCALS),
+    MAP.local(Field::Cause, LOCALS) + 1,
+    MAP.alert(Field::Regwen, 0) - 1,
+];
+
+/// Both ends of the numbers after the last class, and their middle.
+const AFTER: [u16; 4] = [MAP.end(), LARGEST / 2, LARGEST / 2 + 1, LARGEST];
+
+impl Scene {
+    /// An access that is refused with 1 to 4.
+    pub fn refused(&mut self) {
+        let k = self.rng.index(CLASSES);
+        let value = self.rng.pick(&[0, 1, 2, u32::MAX]);
+        match self.rng.below(6) {
+            0 => {
+                let register = self.unassigned();
+                self.read(register);
+            }
+            1 => {
+                let register = self.unassigned();
+                self.write(register, value);
+            }
+            2 => {
+                let register = self.rng.pick(&[INTR_TEST, MAP.class(k, Setting::Clr)]);
+                self.read(register);
+            }
+            3 => {
+                let read_only = [Setting::AccumCnt, Setting::EscCnt, Setting::State];
+                let register = MAP.class(k, self.rng.pick(&read_only));
+                self.write(register, value);
+            }
+            4 => self.too_wide(),
+            _ => self.locked(),
+        }
+    }
+
+    /// A number that names no register.
+    fn unassigned(&mut self) -> u16 {
+        let field = self.rng.pick(&Field::ALL);
+        let k = self.rng.index(CLASSES);
+        let absent = MAP.alerts - self.n;
+        match self.rng.below(6) {
+            0 => self.between(INTR_TEST + 1, MAP.local(Field::Regwen, 0)),
+            1 => self.rng.pick(&GAPS),
+            2 => self.between(MAP.class(k, Setting::State) + 1, MAP.block(k + 1)),
+            3 => self.rng.pick(&AFTER),
+            // The first alert that is not there; where all are, another number.
+            4 if absent > 0 => MAP.alert(field, self.n),
+            5 if absent > 0 => MAP.alert(field, self.n + self.rng.index(absent)),
+            _ => self.between(MAP.end(), LARGEST + 1),
+        }
+    }
+
+    /// A number from the first one on, below the end.
+    fn between(&mut self, first: u16, end: u16) -> u16 {
+        first + self.rng.below(u64::from(end - first)) as u16
+    }
+
+    /// A write with a bit outside the field, often the lowest such bit.
+    fn too_wide(&mut self) {
+        let field = self.rng.pick(&Field::ALL);
+        // The others are read only, or have no bit outside.
+        let setting = self.rng.pick(&[
+            Setting::Regwen,
+            Setting::Ctrl,
+            Setting::ClrRegwen,
+            Setting::Clr,
+            Setting::AccumThresh,
+        ]);
+        let (i, j, k) = (self.any_active(), self.rng.index(LOCALS), self.any_class());
+        let (register, bits) = match self.rng.below(4) {
+            0 => (self.between(INTR_STATE, INTR_TEST + 1), INTR_BITS),
+            1 => (MAP.local(field, j), field.bits()),
+            2 => (MAP.alert(field, i), field.bits()),
+            _ => (MAP.class(k, setting), setting.bits()),
+        };
+        let low = self.rng.bits() as u32 & ((1 << bits) - 1);
+        let value = self
+            .rng
+            .pick(&[1 << bits, (1 << bits) | low, 1 << 31, u32::MAX]);
+        self.write(register, value);
+    }
+
+    /// Locks an alert or local alert and then writes what is locked.
+    fn locked(&mut self) {
+        let field = self.rng.pick(&[Field::En, Field::Class, Field::Regwen]);
+        let (i, j) = (self.rng.index(self.n), self.rng.index(LOCALS));
+        // 2 is wider than EN and REGWEN: refusal 4 comes before 3.
+        let value = self.rng.pick(&[0, 1, 1, 2]);
+        if self.rng.once_in(2) {
+            self.write(MAP.local(Field::Regwen, j), 0);
+            self.write(MAP.local(field, j), value);
+        } else {
+            self.write(MAP.alert(Field::Regwen, i), 0);
+            self.write(MAP.alert(field, i), value);
+        }
+    }
+
+    /// A malformed record; some would clear or read if they were not.
+    pub fn malformed(&mut self) {
+        let k = self.any_class();
+        let mut head = Head::new(WRITE, MAP.class(k, Setting::Clr), 1);
+        match self.rng.below(6) {
+            0 => head.kind = KIND3,
+            1 => head.rest = 1 << self.rng.below(20),
+            2 => {
+                (head.kind, head.register, head.value) = (READ, MAP.class(k, Setting::State), 0);
+                head.rest = 1 << self.rng.below(20);
+            }
+            3 => {
+                (head.kind, head.register) = (READ, MAP.class(k, Setting::State));
+                head.value = 1 << self.rng.below(32);
+            }
+            4 => {
+                (head.kind, head.register, head.value) = (NONE, 0, 1 << self.rng.below(32));
+            }
+            _ => {
+                (head.kind, head.value) = (NONE, 0);
+                head.register = 1 << self.rng.below(10);
+            }
+        }
+        self.tick(head);
+    }
+}

@@ -1,0 +1,106 @@
+//! The single steps of a trace: what one tick, or a few, ask of the handler.
+
+use super::scene::Scene;
+use handler::registers::{Field, Setting, INTR_ENABLE, INTR_STATE, INTR_TEST, MAP};
+use handler::{CLASSES, LOCALS};
+
+impl Scene {
+    /// Reads what shows the state.
+    pub fn watch(&mut self) {
+        let k = self.any_class();
+        let i = self.any_active();
+        let register = match self.rng.weighted(&[6, 5, 5, 3, 4, 1, 1, 1, 1]) {
+            0 => MAP.class(k, Setting::State),
+            1 => MAP.class(k, Setting::EscCnt),
+            2 => MAP.class(k, Setting::AccumCnt),
+            3 => INTR_STATE,
+            4 => MAP.alert(Field::Cause, i),
+            5 => MAP.local(Field::Cause, 2),
+            6 => MAP.class(k, Setting::Ctrl),
+            7 => MAP.class(k, Setting::ClrRegwen),
+            _ => self.any_readable(),
+        };
+        self.read(register);
+    }
+
+    fn any_readable(&mut self) -> u16 {
+        let k = self.rng.index(CLASSES);
+        let field = self.rng.pick(&Field::ALL);
+        match self.rng.below(4) {
+            0 => INTR_ENABLE,
+            1 => MAP.local(field, self.rng.index(LOCALS)),
+            2 => MAP.alert(field, self.rng.index(self.n)),
+            _ => MAP.class(k, self.rng.pick(&Setting::READABLE)),
+        }
+    }
+
+    /// Writes CLR, mostly a 1.
+    pub fn clear(&mut self) {
+        let k = self.any_class();
+        let value = u32::from(!self.rng.once_in(6));
+        self.write(MAP.class(k, Setting::Clr), value);
+    }
+
+    /// All active alerts rise at once; so many ticks later comes a clear of
+    /// the class or of its interrupt. By chance alone this is rare.
+    pub fn burst(&mut self, gap: u64) {
+        self.moving = false;
+        self.set_active((0, 1));
+        self.watch();
+        self.set_active((1, 0));
+        for _ in 0..gap {
+            self.watch();
+        }
+        let k = self.focus;
+        if self.rng.once_in(4) {
+            self.write(INTR_STATE, 1 << k);
+        } else {
+            self.write(MAP.class(k, Setting::Clr), 1);
+        }
+        self.read(MAP.class(k, Setting::State));
+        self.moving = true;
+    }
+
+    /// Clears, tests or enables interrupts.
+    pub fn interrupts(&mut self) {
+        let register = self.rng.pick(&[
+            INTR_STATE,
+            INTR_STATE,
+            INTR_STATE,
+            INTR_TEST,
+            INTR_TEST,
+            INTR_ENABLE,
+        ]);
+        let bit = 1 << self.any_class();
+        let some = self.rng.below(16) as u32;
+        let value = self.rng.pick(&[bit, bit, 15, some]);
+        self.write(register, value);
+    }
+
+    /// Clears a cause, or writes the 0 that keeps it.
+    pub fn cause(&mut self) {
+        let value = u32::from(!self.rng.once_in(4));
+        let i = self.any_active();
+        let register = if self.rng.once_in(4) {
+            MAP.local(Field::Cause, 2)
+        } else {
+            MAP.alert(Field::Cause, i)
+        };
+        self.write(register, value);
+    }
+
+    /// Writes one of the REGWENs.
+    pub fn lock(&mut self) {
+        let k = self.any_class();
+        let i = self.rng.index(self.n);
+        let j = self.rng.index(LOCALS);
+        let register = match self.rng.below(4) {
+            0 => MAP.class(k, Setting::Regwen),
+            1 => MAP.class(k, Setting::ClrRegwen),
+            2 => MAP.alert(Field::Regwen, i),
+            _ => MAP.local(Field::Regwen, j),
+        };
+        let value = self.rng.below(2) as u32;
+        self.write(register, value);
+    }
+}

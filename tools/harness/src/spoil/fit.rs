@@ -1,0 +1,49 @@
+//! Random states that keep the rule of refusal 7.
+
+use super::place::Place;
+use crate::rng::Rng;
+use handler::registers::Setting;
+use handler::{Handler, CLASSES};
+
+/// The values that STATE takes.
+const STATES: [u64; 7] = [0, 1, 3, 4, 5, 6, 7];
+
+/// Random values within every field, with counts that fit the states.
+pub fn fit(places: &[Place], rng: &mut Rng, state: &mut Handler) {
+    for place in places {
+        let bits = place.bits().unwrap_or(64);
+        place.set(state, rng.bits() & (u64::MAX >> (64 - bits)));
+    }
+    state.n = rng.pick(&[0, 1, 8, 63, 64, 64]);
+    for k in 0..CLASSES {
+        let value = rng.pick(&STATES);
+        Place::Class(k, Setting::State).set(state, value);
+        short(rng, state, k);
+        let class = &state.classes[k];
+        let limit = match class.state {
+            1 => class.timeout,
+            4..=7 => class.lengths[usize::from(class.state) - 4],
+            _ => 0,
+        };
+        let any = rng.bits() as u32;
+        let near = [1, limit, limit.wrapping_sub(1), u32::MAX, any];
+        let count = rng.pick(&near).max(1);
+        let rests = matches!(class.state, 0 | 3);
+        Place::Class(k, Setting::EscCnt).set(state, if rests { 0 } else { u64::from(count) });
+    }
+}
+
+/// Lengths and thresholds at their ends and near each other, since else
+/// nothing would ever be reached.
+fn short(rng: &mut Rng, state: &mut Handler, k: usize) {
+    for setting in [Setting::TimeoutCyc].into_iter().chain(Setting::PHASES) {
+        let any = rng.bits() & 0xFFFF_FFFF;
+        let value = rng.pick(&[0, 1, 2, 3, 0xFFFF_FFFF, any]);
+        Place::Class(k, setting).set(state, value);
+    }
+    let any = rng.bits() & 0xFFFF;
+    let accum = rng.pick(&[0, 1, 65534, 65535, any]);
+    let thresh = rng.pick(&[0, accum, accum, accum + 1, 65535]);
+    Place::Class(k, Setting::AccumCnt).set(state, accum);
+    Place::Class(k, Setting::AccumThresh).set(state, thresh.min(65535));
+}

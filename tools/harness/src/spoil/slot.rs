@@ -1,0 +1,75 @@
+//! Where the library's state keeps the bits of a place.
+
+use super::place::Place;
+use handler::registers::{Field, Setting};
+use handler::{Class, Handler};
+
+/// Where a place's bits are kept.
+enum Slot<'a> {
+    Byte(&'a mut u8),
+    Half(&'a mut u16),
+    Word(&'a mut u32),
+    Long(&'a mut u64),
+    Size(&'a mut usize),
+}
+
+impl Place {
+    /// The value in a state.
+    pub fn get(self, state: &Handler) -> u64 {
+        let mut copy = *state;
+        match self.slot(&mut copy) {
+            Slot::Byte(kept) => u64::from(*kept),
+            Slot::Half(kept) => u64::from(*kept),
+            Slot::Word(kept) => u64::from(*kept),
+            Slot::Long(kept) => *kept,
+            Slot::Size(kept) => *kept as u64,
+        }
+    }
+
+    /// Stores the value's low bits, as many as are kept.
+    pub fn set(self, state: &mut Handler, value: u64) {
+        match self.slot(state) {
+            Slot::Byte(kept) => *kept = value as u8,
+            Slot::Half(kept) => *kept = value as u16,
+            Slot::Word(kept) => *kept = value as u32,
+            Slot::Long(kept) => *kept = value,
+            Slot::Size(kept) => *kept = value as usize,
+        }
+    }
+
+    fn slot(self, state: &mut Handler) -> Slot<'_> {
+        match self {
+            Place::N => Slot::Size(&mut state.n),
+            Place::Armed => Slot::Long(&mut state.receivers.armed[0]),
+            Place::IntrState => Slot::Byte(&mut state.interrupts.state),
+            Place::IntrEnable => Slot::Byte(&mut state.interrupts.enable),
+            Place::Class(k, setting) => class_slot(&mut state.classes[k], setting),
+            Place::Alert(Field::Regwen, i) => Slot::Byte(&mut state.alerts.regwen[i]),
+            Place::Alert(Field::En, i) => Slot::Byte(&mut state.alerts.en[i]),
+            Place::Alert(Field::Class, i) => Slot::Byte(&mut state.alerts.class[i]),
+            Place::Alert(Field::Cause, i) => Slot::Byte(&mut state.alerts.cause[i]),
+            Place::Local(Field::Regwen, j) => Slot::Byte(&mut state.locals.regwen[j]),
+            Place::Local(Field::En, j) => Slot::Byte(&mut state.locals.en[j]),
+            Place::Local(Field::Class, j) => Slot::Byte(&mut state.locals.class[j]),
+            Place::Local(Field::Cause, j) => Slot::Byte(&mut state.locals.cause[j]),
+        }
+    }
+}
+
+fn class_slot(class: &mut Class, setting: Setting) -> Slot<'_> {
+    match setting {
+        Setting::Regwen => Slot::Byte(&mut class.regwen),
+        Setting::Ctrl => Slot::Half(&mut class.ctrl),
+        Setting::ClrRegwen => Slot::Byte(&mut class.clrwen),
+        Setting::AccumCnt => Slot::Half(&mut class.accum),
+        Setting::AccumThresh => Slot::Half(&mut class.thresh),
+        Setting::TimeoutCyc => Slot::Word(&mut class.timeout),
+        Setting::Phase0Cyc => Slot::Word(&mut class.lengths[0]),
+        Setting::Phase1Cyc => Slot::Word(&mut class.lengths[1]),
+        Setting::Phase2Cyc => Slot::Word(&mut class.lengths[2]),
+        Setting::Phase3Cyc => Slot::Word(&mut class.lengths[3]),
+        Setting::EscCnt => Slot::Word(&mut class.count),
+        // CLR holds no value: no state has it as a place.
+        Setting::Clr | Setting::State => Slot::Byte(&mut class.state),
+    }
+}

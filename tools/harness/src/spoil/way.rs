@@ -1,0 +1,40 @@
+//! The ways in which a state is changed.
+
+/// How a state was made from one of a trace.
+#[derive(Clone, Copy, Debug, PartialEq, Eq)]
+pub enum Way {
+    /// Not changed.
+    Kept,
+    /// Random values that keep the rule.
+    Fitted,
+    /// Random bytes in every field.
+    Random,
+    /// One bit flipped.
+    Flip,
+    /// A few bits flipped.
+    Flips,
+    /// One register over its field, mostly just over it.
+    Over,
+    /// A STATE of 2, 8 or more, or any other.
+    State,
+    /// A count that is 0 or not, as the state does not have it.
+    Count,
+    /// Another N: 0, 64, 65, huge.
+    Alerts,
+    /// Entries at N and above set to anything.
+    Above,
+}
+
+/// Every way with its name.
+pub const WAYS: [(Way, &str); 10] = [
+    (Way::Kept, "kept"),
+    (Way::Fitted, "fitted"),
+    (Way::Random, "random"),
+    (Way::Flip, "flip"),
+    (Way::Flips, "flips"),
+    (Way::Over, "over"),
+    (Way::State, "state"),
+    (Way::Count, "count"),
+    (Way::Alerts, "N"),
+    (Way::Above, "above"),
+];

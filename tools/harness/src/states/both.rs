@@ -1,0 +1,101 @@
+//! One call on both sides, and the first thing that differs.
+
+use super::lists::Lists;
+use super::subject::Subject;
+use super::summary::Summary;
+use crate::calls::{access, handler_of, reference_access, reference_of, wires, Odd};
+use crate::rng::Rng;
+use crate::spoil::Place;
+use handler::Handler;
+
+/// The answer to a state that breaks the rule.
+const BROKEN: i64 = -7;
+
+/// One tick on both sides.
+pub fn tick(
+    subject: &Subject,
+    state: &Handler,
+    rng: &mut Rng,
+    summary: &mut Summary,
+) -> Option<Odd> {
+    let (access, wires) = (access(rng), wires(rng));
+    let mut twin = reference_of(state);
+    let valid = twin.valid();
+    let wanted = twin.tick(reference_access(access), wires.pos, wires.neg);
+    let got = (subject.tick)(*state, access, wires);
+    if valid {
+        summary.ticks[wanted.answer.min(0).unsigned_abs() as usize] += 1;
+    }
+    let (interrupts, lines) = (got.output.interrupts, got.output.lines);
+    first_odd(
+        "tick",
+        &[
+            (
+                "answer 7",
+                i64::from(!valid),
+                i64::from(got.answer.0 == BROKEN),
+            ),
+            ("answer", wanted.answer, got.answer.0),
+            ("interrupts", wanted.interrupts.into(), interrupts.into()),
+            ("lines", wanted.lines.into(), lines.into()),
+        ],
+    )
+    .or_else(|| state_odd("tick", &handler_of(&twin), &got.handler))
+}
+
+/// One small batch on both sides.
+pub fn batch(
+    subject: &Subject,
+    state: &Handler,
+    rng: &mut Rng,
+    summary: &mut Summary,
+) -> Option<Odd> {
+    let before = Lists::new(rng);
+    let mut lists = before.clone();
+    let mut numbers = before.numbers();
+    let mut twin = reference_of(state);
+    let valid = twin.valid();
+    let (bytes, words) = lists.lent();
+    let wanted = reference::batch(&mut twin, bytes, &mut numbers);
+    let (after, answer) = (subject.batch)(*state, bytes, words);
+    summary.batches[wanted.unsigned_abs() as usize] += 1;
+    first_odd(
+        "batch",
+        &[
+            ("answer 7", i64::from(!valid), i64::from(answer.0 == BROKEN)),
+            ("answer", wanted, answer.0),
+        ],
+    )
+    .or_else(|| word_odd(&numbers, &lists.numbers()))
+    .or_else(|| {
+        let field = lists.disturbed(&before)?;
+        Some(Odd::new("batch", field, "as before", "changed"))
+    })
+    .or_else(|| state_odd("batch", &handler_of(&twin), &after))
+}
+
+/// The first number that differs.
+fn first_odd(call: &'static str, pairs: &[(&str, i64, i64)]) -> Option<Odd> {
+    let (field, reference, got) = pairs.iter().find(|pair| pair.1 != pair.2)?;
+    Some(Odd::new(call, field, reference, got))
+}
+
+/// The first word that differs; later words count too.
+fn word_odd(wanted: &[u64], got: &[u64]) -> Option<Odd> {
+    let at = (0..wanted.len()).find(|at| wanted[*at] != got[*at])?;
+    Some(Odd::word("batch", at, wanted[at], got[at]))
+}
+
+/// The first field of the next state that differs.
+fn state_odd(call: &'static str, wanted: &Handler, got: &Handler) -> Option<Odd> {
+    if wanted == got {
+        return None;
+    }
+    let mut places = Place::all().into_iter();
+    let place = places.find(|place| place.get(wanted) != place.get(got));
+    let hex = |state| place.map_or(String::new(), |place| format!("{:#x}", place.get(state)));
+    let name = place.map_or("a field without a name".to_string(), |place| {
+        place.to_string()
+    });
+    Some(Odd::new(call, name, hex(wanted), hex(got)))
+}
