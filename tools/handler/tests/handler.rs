@@ -1,5 +1,6 @@
 //! The wrapper asks the library and loses nothing on the way.
 use handler::{Access, Answer, Handler, Refusal, Wires, Word, RECORD};
+use harness::record::record;
 
 const REST: Wires = Wires::REST;
 const RAISE: Wires = Wires {
@@ -11,14 +12,6 @@ fn made(n: usize) -> Handler {
     let (handler, answer) = Handler::new(n);
     assert_eq!(answer, Answer(0));
     handler
-}
-
-fn record(kind: u64, register: u64, value: u64, wires: Wires) -> [u8; RECORD] {
-    let mut bytes = [0; RECORD];
-    bytes[..8].copy_from_slice(&(kind << 62 | register << 52 | value).to_be_bytes());
-    bytes[8..16].copy_from_slice(&wires.pos.to_be_bytes());
-    bytes[16..].copy_from_slice(&wires.neg.to_be_bytes());
-    bytes
 }
 
 #[test]
@@ -85,7 +78,7 @@ fn a_batch_is_its_ticks() {
     let mut given = Vec::new();
     for (i, (kind, register, value)) in on.into_iter().enumerate() {
         let wires = if i == 3 { RAISE } else { REST };
-        bytes.extend(record(kind, register, value, wires));
+        bytes.extend(record(kind, register, value, (wires.pos, wires.neg)));
         let access = match kind {
             0 => Access::Nothing,
             1 => Access::Read(register as u16),

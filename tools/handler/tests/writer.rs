@@ -1,18 +1,12 @@
 //! The writer's wrapper hands over each part of each input, and what it is refused.
 use handler::{record, Access, Answer, Input, Refusal, Wires, RECORD};
+use harness::record::record as packed;
 
 fn input(access: Access, pos: u64, neg: u64) -> Input {
     Input {
         access,
         wires: Wires { pos, neg },
     }
-}
-
-fn packed(kind: u64, register: u64, value: u64, pos: u64, neg: u64) -> Vec<u8> {
-    [kind << 62 | register << 52 | value, pos, neg]
-        .iter()
-        .flat_map(|word| word.to_be_bytes())
-        .collect()
 }
 
 #[test]
@@ -24,14 +18,14 @@ fn a_record_for_each_input() {
         input(Access::Write(345, u32::MAX), u64::MAX, 0),
         input(Access::Write(0, 1), 0, u64::MAX),
     ];
-    let wanted = [
-        packed(0, 0, 0, a, b),
-        packed(1, 1023, 0, b, a),
-        packed(2, 345, 0xFFFF_FFFF, u64::MAX, 0),
-        packed(2, 0, 1, 0, u64::MAX),
-        vec![7; 5],
+    let mut wanted = [
+        packed(0, 0, 0, (a, b)),
+        packed(1, 1023, 0, (b, a)),
+        packed(2, 345, 0xFFFF_FFFF, (u64::MAX, 0)),
+        packed(2, 0, 1, (0, u64::MAX)),
     ]
     .concat();
+    wanted.extend([7; 5]);
     let mut out = vec![7; 4 * RECORD + 5];
     assert_eq!(record(&inputs, &mut out).bytes(), Ok(4 * RECORD));
     assert_eq!(out, wanted);

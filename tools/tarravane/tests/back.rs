@@ -1,9 +1,11 @@
 //! `record --back`: a trace to its text, and round trips of both.
 mod common;
 
-use common::numbers::Numbers;
+use common::random;
 use common::round::{goes_round, text_of, trace_of};
 use common::{example, given, record, refused, REST};
+use handler::RECORD;
+use harness::rng::Rng;
 use std::fs;
 
 #[test]
@@ -46,11 +48,11 @@ fn examples_go_round() {
 
 #[test]
 fn random_traces_go_round() {
-    let mut numbers = Numbers(2);
+    let mut rng = Rng::new(2);
     for _ in 0..60 {
-        let bytes = numbers.trace();
+        let bytes = random::trace(&mut rng);
         let text = text_of(&bytes);
-        assert_eq!(text.lines().count(), 1 + bytes.len() / 24);
+        assert_eq!(text.lines().count(), 1 + bytes.len() / RECORD);
         assert!(!text.contains("raw") && !text.contains("cut"));
         assert_eq!(trace_of(&text, 0), bytes);
     }

@@ -1,21 +1,18 @@
 //! Traces that are damaged have a text too: `raw`, `cut` and any N.
 mod common;
 
-use common::numbers::Numbers;
+use common::random;
 use common::round::{goes_round, trace_of};
-use common::{ended, example, given, record, refused, REST};
+use common::{ended, example, given, record, refused, said_of, REST};
+use handler::RECORD;
+use harness::rng::Rng;
 use std::fs;
-
-/// What is said of a text that gives no trace.
-fn refused_text(text: impl AsRef<[u8]>) -> String {
-    refused("record", &["-"], text.as_ref())
-}
 
 #[test]
 fn any_bytes_go_round() {
-    let mut numbers = Numbers(3);
+    let mut rng = Rng::new(3);
     for length in 0..=200 {
-        let mut bytes = numbers.bytes(length);
+        let mut bytes = random::bytes(&mut rng, length);
         goes_round(&bytes);
         // The same records with an N that is taken.
         if let Some(n) = bytes.first_mut() {
@@ -28,19 +25,19 @@ fn any_bytes_go_round() {
 /// A real trace with a few bits flipped, bytes lost in the middle and an end that is cut.
 #[test]
 fn damaged_traces_go_round() {
-    let mut numbers = Numbers(4);
+    let mut rng = Rng::new(4);
     for name in ["broken-seal", "handled-in-time", "refused-accesses"] {
         let whole = fs::read(example(&format!("{name}.trace"))).expect("the example");
         for _ in 0..60 {
             let mut bytes = whole.clone();
-            for _ in 0..numbers.below(6) {
-                let at = numbers.below(bytes.len() as u64) as usize;
-                bytes[at] ^= 1 << numbers.below(8);
+            for _ in 0..rng.below(6) {
+                let at = rng.index(bytes.len());
+                bytes[at] ^= 1 << rng.below(8);
             }
-            for _ in 0..numbers.below(3) {
-                bytes.remove(numbers.below(bytes.len() as u64) as usize);
+            for _ in 0..rng.below(3) {
+                bytes.remove(rng.index(bytes.len()));
             }
-            bytes.truncate(bytes.len() - numbers.below(30) as usize);
+            bytes.truncate(bytes.len() - rng.index(30));
             goes_round(&bytes);
         }
     }
@@ -74,7 +71,7 @@ fn a_record_that_is_not_well_formed_is_raw() {
 #[test]
 fn a_cut_end_is_told_and_written() {
     let good = record(1, 321, 0, REST);
-    for rest in 1..24 {
+    for rest in 1..RECORD {
         let bytes = [&[1][..], &good, &good[..rest]].concat();
         let (text, said) = ended("record", &["--back", "-"], &bytes, 1);
         let hex = &"541000000000000000000000000000000000000000000000"[..2 * rest.min(16)];
@@ -157,15 +154,15 @@ fn bytes_of_a_text_are_passed_as_they_are() {
 fn nothing_follows_a_cut() {
     for after in ["none", "cut 00", "raw 00"] {
         let text = format!("alerts 1\ncut 0011\n\n{after}\n");
-        let said = refused_text(text);
+        let said = said_of(text);
         assert!(said.starts_with("line 4: "), "{said}");
     }
     assert_eq!(
-        refused_text("alerts 1\ncut 00\nnone\n"),
+        said_of("alerts 1\ncut 00\nnone\n"),
         "line 3: nothing follows cut"
     );
     assert_eq!(
-        refused_text("cut 00\n"),
+        said_of("cut 00\n"),
         "line 1: a text begins with alerts N, not with cut"
     );
 }

@@ -1,13 +1,13 @@
 //! `explain` as a technician runs it.
 mod common;
 
-use common::{ended, example, given, record, refused, REST};
+use common::{ended, example, explained, given, record, refused, REST};
 
 /// The rows of a run that goes well, without the two lines above them.
 fn rows(words: &[&str], input: &[u8]) -> Vec<String> {
-    let text = String::from_utf8(given("explain", words, input)).expect("text");
-    assert!(text.lines().all(|line| line.len() <= 120));
-    text.lines().skip(2).map(str::to_string).collect()
+    let lines = explained(words, input);
+    assert!(lines.iter().all(|line| line.len() <= 120));
+    lines[2..].to_vec()
 }
 
 fn numbers(rows: &[String]) -> Vec<u64> {

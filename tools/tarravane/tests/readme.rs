@@ -2,6 +2,7 @@
 mod common;
 
 use common::{given, repository};
+use handler::RECORD;
 use std::fs;
 
 fn readme() -> String {
@@ -44,5 +45,5 @@ fn record_takes_the_text_that_readme_shows() {
     let text = block("## Write a trace by hand");
     let ticks = text.lines().filter(|line| !line.starts_with('#')).count() - 1;
     let trace = given("record", &["-"], text.as_bytes());
-    assert_eq!(trace.len(), 1 + 24 * ticks);
+    assert_eq!(trace.len(), 1 + RECORD * ticks);
 }

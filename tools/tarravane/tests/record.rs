@@ -2,16 +2,12 @@
 mod common;
 
 use common::folder::Folder;
-use common::{ended, example, given, record, refused, REST};
+use common::{ended, example, given, record, refused, said_of, REST};
+use handler::RECORD;
 use std::fs;
 
 fn trace_of(text: &str) -> Vec<u8> {
     given("record", &["-"], text.as_bytes())
-}
-
-/// What is said of a text that gives no trace.
-fn said_of(text: impl AsRef<[u8]>) -> String {
-    refused("record", &["-"], text.as_ref())
 }
 
 /// A first line that is good, then this one.
@@ -95,7 +91,7 @@ fn alerts_at_n_and_above_are_warned_of() {
     let text =
         "alerts 2\nnone wires 1=10 5=01\nread ALERT2_EN wires 2-9=11\nwrite 319 1\nread 1023\n";
     let (trace, said) = ended("record", &["-"], text.as_bytes(), 0);
-    assert_eq!(trace.len(), 1 + 4 * 24);
+    assert_eq!(trace.len(), 1 + 4 * RECORD);
     assert_eq!(
         said,
         [

@@ -1,13 +1,12 @@
 //! `explain --summary`: what a technician asks first.
 mod common;
 
-use common::{example, given};
+use common::{example, explained, given};
 
 /// The summary of a text's trace.
 fn summary(text: &str) -> Vec<String> {
     let trace = given("record", &["-"], text.as_bytes());
-    let text = String::from_utf8(given("explain", &["--summary", "-"], &trace)).expect("text");
-    text.lines().map(str::to_string).collect()
+    explained(&["--summary", "-"], &trace)
 }
 
 /// The lines of class A, without the first.

@@ -1,11 +1,11 @@
 //! `explain --wide`: rows that leave nothing out.
 mod common;
 
-use common::{example, given, record, REST};
+use common::{example, explained, record, REST};
 
+/// The rows, without the two lines above them.
 fn rows(words: &[&str], input: &[u8]) -> Vec<String> {
-    let text = String::from_utf8(given("explain", words, input)).expect("text");
-    text.lines().skip(2).map(str::to_string).collect()
+    explained(words, input)[2..].to_vec()
 }
 
 /// Every second alert, and no two of them neighbours: counted in a row of 120 columns, named in a wide one.

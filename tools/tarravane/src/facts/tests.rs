@@ -6,78 +6,72 @@ use super::locks::locked;
 use super::starts::{start, IDLE, TIMEOUT};
 use super::tick::Tick;
 use super::ticks::Ticks;
+use handler::registers::{Field, Register, Setting, INTR_STATE, MAP};
 use handler::{record, Access, Handler, Input, Wires, CLASSES, RECORD};
+use harness::rng::Rng;
 
-const N: u64 = 5;
+const N: usize = 5;
 
-/// A small seeded generator of numbers (splitmix64).
-struct Numbers(u64);
-
-impl Numbers {
-    fn below(&mut self, limit: u64) -> u64 {
-        self.0 = self.0.wrapping_add(0x9E37_79B9_7F4A_7C15);
-        let z = (self.0 ^ (self.0 >> 30)).wrapping_mul(0xBF58_476D_1CE4_E5B9);
-        let z = (z ^ (z >> 27)).wrapping_mul(0x94D0_49BB_1331_11EB);
-        (z ^ (z >> 31)) % limit
+/// A write that moves a handler on: enables, classes, thresholds, timeouts, clears and, seldom, locks.
+fn write(rng: &mut Rng) -> (u16, u32) {
+    let (i, k) = (rng.index(N), rng.index(CLASSES));
+    let ctrl = 0x3900 | rng.below(64) as u32;
+    let alert = |field| MAP.alert(field, i);
+    let local = |field| MAP.local(field, 2);
+    let class = |setting| MAP.class(k, setting);
+    let locks = [Setting::Regwen, Setting::ClrRegwen];
+    let others = [alert(Field::Regwen), local(Field::Regwen), 1023];
+    match rng.below(40) {
+        0..=5 => (alert(Field::En), rng.pick(&[0, 1, 1, 1])),
+        6..=8 => (alert(Field::Class), rng.below(4) as u32),
+        9..=10 => (local(Field::En), rng.pick(&[0, 1, 1])),
+        11 => (local(Field::Class), rng.below(4) as u32),
+        12..=17 => (
+            class(Setting::Ctrl),
+            rng.pick(&[0x393F, 0x393D, ctrl, ctrl]),
+        ),
+        18..=20 => (class(Setting::AccumThresh), rng.below(4) as u32),
+        21..=23 => (class(Setting::TimeoutCyc), rng.pick(&[0, 1, 5])),
+        24..=27 => (class(rng.pick(&Setting::PHASES)), rng.below(4) as u32),
+        28..=33 => (class(Setting::Clr), rng.pick(&[0, 1, 1, 1, 2])),
+        34..=37 => (INTR_STATE, rng.below(16) as u32),
+        38 => (class(rng.pick(&locks)), rng.below(2) as u32),
+        _ => (rng.pick(&others), rng.below(2) as u32),
     }
+}
 
-    fn one_of<const L: usize>(&mut self, all: [u64; L]) -> u64 {
-        all[self.below(L as u64) as usize]
-    }
-
-    /// A write that moves a handler on: enables, classes, thresholds, timeouts, clears and, seldom, locks.
-    fn write(&mut self) -> (u64, u64) {
-        let (alert, class) = (self.below(N), 320 + 16 * self.below(4));
-        let ctrl = 0x3900 | self.below(64);
-        match self.below(40) {
-            0..=5 => (128 + alert, self.one_of([0, 1, 1, 1])),
-            6..=8 => (192 + alert, self.below(4)),
-            9..=10 => (26, self.one_of([0, 1, 1])),
-            11 => (34, self.below(4)),
-            12..=17 => (class + 1, self.one_of([0x393F, 0x393D, ctrl, ctrl])),
-            18..=20 => (class + 5, self.below(4)),
-            21..=23 => (class + 6, self.one_of([0, 1, 5])),
-            24..=27 => (class + 7 + self.below(4), self.below(4)),
-            28..=33 => (class + 3, self.one_of([0, 1, 1, 1, 2])),
-            34..=37 => (0, self.below(16)),
-            38 => (self.one_of([class, class + 2]), self.below(2)),
-            _ => (self.one_of([64 + alert, 18, 1023]), self.below(2)),
+fn input(rng: &mut Rng) -> Input {
+    let access = match rng.below(3) {
+        0 => Access::Nothing,
+        _ => {
+            let (register, value) = write(rng);
+            Access::Write(register, value)
         }
-    }
-
-    fn input(&mut self) -> Input {
-        let access = match self.below(3) {
-            0 => Access::Nothing,
-            _ => {
-                let (register, value) = self.write();
-                Access::Write(register as u16, value as u32)
-            }
-        };
-        let raised = self.below(1 << N) << (64 - N);
-        let wires = match self.below(4) {
-            0 => Wires::REST,
-            1 => Wires {
-                pos: raised,
-                neg: u64::MAX,
-            },
-            _ => Wires {
-                pos: raised,
-                neg: !raised,
-            },
-        };
-        Input { access, wires }
-    }
+    };
+    let raised = rng.below(1 << N) << (64 - N);
+    let wires = match rng.below(4) {
+        0 => Wires::REST,
+        1 => Wires {
+            pos: raised,
+            neg: u64::MAX,
+        },
+        _ => Wires {
+            pos: raised,
+            neg: !raised,
+        },
+    };
+    Input { access, wires }
 }
 
 /// The ticks of fresh handlers, shown to a check.
 fn each(check: &mut dyn FnMut(&Tick)) {
-    let mut numbers = Numbers(1);
+    let mut rng = Rng::new(1);
     for _ in 0..200 {
-        let inputs: Vec<Input> = (0..300).map(|_| numbers.input()).collect();
+        let inputs: Vec<Input> = (0..300).map(|_| input(&mut rng)).collect();
         let mut bytes = vec![0; inputs.len() * RECORD];
         assert_eq!(record(&inputs, &mut bytes).bytes(), Ok(bytes.len()));
         let mut from = &bytes[..];
-        let mut ticks = Ticks::new(&mut from, "t", Handler::new(N as usize).0);
+        let mut ticks = Ticks::new(&mut from, "t", Handler::new(N).0);
         while let Some(tick) = ticks.take().expect("a tick") {
             check(&tick);
         }
@@ -150,14 +144,15 @@ fn each_lock_has_its_cause() {
     let (mut written, mut by_lock) = (0, 0);
     each(&mut |t| {
         for register in locked(t) {
-            let k = usize::from(register.wrapping_sub(320) / 16);
             if t.input().access == Access::Write(register, 0) {
                 written += 1;
-            } else {
-                assert!(start(t, k).is_some_and(|start| start.lock));
-                assert_eq!(usize::from(register), 322 + 16 * k);
-                by_lock += 1;
+                continue;
             }
+            let Some(Register::Class(k, Setting::ClrRegwen)) = MAP.register(register) else {
+                panic!("tick {}: {register} is no CLR_REGWEN", t.number);
+            };
+            assert!(start(t, k).is_some_and(|start| start.lock));
+            by_lock += 1;
         }
     });
     assert!(written > 100 && by_lock > 100, "{written} {by_lock}");

@@ -2,7 +2,7 @@
 // Each test file is a program of its own and uses some of this.
 #![allow(dead_code)]
 pub mod folder;
-pub mod numbers;
+pub mod random;
 pub mod round;
 
 use std::io::Write;
@@ -25,11 +25,8 @@ pub fn example(name: &str) -> String {
 }
 
 /// A record's bytes.
-pub fn record(kind: u64, register: u64, value: u64, (pos, neg): (u64, u64)) -> Vec<u8> {
-    [kind << 62 | register << 52 | value, pos, neg]
-        .iter()
-        .flat_map(|word| word.to_be_bytes())
-        .collect()
+pub fn record(kind: u64, register: u64, value: u64, wires: (u64, u64)) -> Vec<u8> {
+    harness::record::record(kind, register, value, wires).to_vec()
 }
 
 /// The program, to be run with these words.
@@ -83,4 +80,15 @@ pub fn refused(command: &str, words: &[&str], input: &[u8]) -> String {
     assert!(written.is_empty(), "{words:?}");
     assert_eq!(said.len(), 1, "{said:?}");
     said.remove(0)
+}
+
+/// What is said of a text that gives no trace.
+pub fn said_of(text: impl AsRef<[u8]>) -> String {
+    refused("record", &["-"], text.as_ref())
+}
+
+/// The lines of an `explain` that goes well.
+pub fn explained(words: &[&str], input: &[u8]) -> Vec<String> {
+    let text = String::from_utf8(given("explain", words, input)).expect("text");
+    text.lines().map(str::to_string).collect()
 }

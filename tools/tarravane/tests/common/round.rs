@@ -1,10 +1,11 @@
 //! A trace to its text, and the text to its trace.
 use super::ended;
+use handler::RECORD;
 
 /// The status of what a trace gives: 1 where it is cut or its N refused.
 pub fn status(trace: &[u8]) -> i32 {
     let made = trace.first().is_some_and(|n| (1..=64).contains(n));
-    i32::from(!made || trace.len() % 24 != 1)
+    i32::from(!made || trace.len() % RECORD != 1)
 }
 
 pub fn text_of(trace: &[u8]) -> String {
