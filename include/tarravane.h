@@ -90,6 +90,15 @@ struct tarravane_handler {
     struct tarravane_interrupts interrupts;
 };
 
+/* ---- What goes in ---- */
+
+/* The wires of a tick: bit 63 - i % 64 of words i / 64 of pos and of neg is alert i's. Bits of alerts at n and above count
+ * for nothing. */
+struct tarravane_wires {
+    uint64_t pos[TARRAVANE_WORDS];
+    uint64_t neg[TARRAVANE_WORDS];
+};
+
 /* ---- What comes back ---- */
 
 /* Interrupts and escalation lines: class and line 0 are the lowest bits. */
@@ -183,11 +192,11 @@ struct tarravane_made tarravane_new(size_t n);
 
 /* Runs one tick of the state h and gives the state after it, the answer to the access, and the outputs.
  * The access: kind TARRAVANE_NONE (register and value are not looked at), TARRAVANE_READ (value is not looked at) or
- * TARRAVANE_WRITE. The wires: bit 63 - i of pos and of neg is alert i's; bits of alerts at n and above count for nothing.
+ * TARRAVANE_WRITE.
  * -7: the state breaks its rule. State unchanged, tick not run, interrupts and lines 0.
  * -5 (kind over 2), -1, -2, -4, -3, in this order: the access does nothing; the tick runs with its samples. */
 struct tarravane_answered tarravane_tick(struct tarravane_handler h, uint8_t kind, uint16_t register_number,
-                                         uint32_t value, uint64_t pos, uint64_t neg);
+                                         uint32_t value, struct tarravane_wires wires);
 
 /* Runs a tick for each record of 24 bytes, one after another from the state h, and writes a word for each at its place in
  * out: bits 63 to 60 interrupts (class 0 first), 59 to 56 lines (line 0 first), 55 to 52 the refusal number or 0, then 20
@@ -202,12 +211,12 @@ struct tarravane_batched tarravane_batch(struct tarravane_handler h, const uint8
 
 /* Writes a trace record of 24 bytes for each entry of the five lists, one after another from the start of bytes, and
  * answers the bytes written: 24 times the entries. Entry i of kinds, registers and values is the access of record i:
- * TARRAVANE_NONE with register and value 0, TARRAVANE_READ with value 0, or TARRAVANE_WRITE; bit 63 - m of its positive and
- * negative is alert m's. Later bytes stay as they were. No entries: nothing is written, and it answers 0.
+ * TARRAVANE_NONE with register and value 0, TARRAVANE_READ with value 0, or TARRAVANE_WRITE. Its wires are the TARRAVANE_WORDS
+ * words of positive and of negative from i * TARRAVANE_WORDS on, as in struct tarravane_wires. Later bytes stay as they were. No entries: nothing is written, and it answers 0.
  * Reading what was written (tarravane_batch) gives these accesses and wires; writing what was read of a well-formed record
  * gives its bytes.
  * -10: an entry that no well-formed record holds (a kind over 2, TARRAVANE_NONE with a register or value, a read with a
- * value, a register over 1023), or lists of unequal lengths. -11: length is less than 24 times the entries. In this order;
+ * value, a register over 1023), or lists of unequal lengths (positive and negative: TARRAVANE_WORDS for each entry). -11: length is less than 24 times the entries. In this order;
  * each leaves bytes as they were.
  * The caller owes: each list points to as many readable entries as its length says, aligned, and bytes to length writable
  * bytes that overlap none of them; no pointer is null, also where its length is 0. */
@@ -245,6 +254,8 @@ TARRAVANE_ASSERT(offsetof(struct tarravane_handler, classes) == 16);
 TARRAVANE_ASSERT(offsetof(struct tarravane_handler, alerts) == 160);
 TARRAVANE_ASSERT(offsetof(struct tarravane_handler, locals) == 416);
 TARRAVANE_ASSERT(offsetof(struct tarravane_handler, interrupts) == 444);
+TARRAVANE_ASSERT(sizeof(struct tarravane_wires) == 16);
+TARRAVANE_ASSERT(offsetof(struct tarravane_wires, neg) == 8);
 TARRAVANE_ASSERT(sizeof(struct tarravane_output) == 2);
 TARRAVANE_ASSERT(offsetof(struct tarravane_output, lines) == 1);
 TARRAVANE_ASSERT(sizeof(struct tarravane_made) == 456);

@@ -11,7 +11,6 @@
 
 typedef struct tarravane_handler handler;
 
-#define REST 0, UINT64_MAX /* all wires at (0,1) */
 #define GUARD UINT64_C(0x5EA15EA15EA15EA1)
 #define SPARE 3 /* guard words before and after a list */
 
@@ -25,6 +24,27 @@ static void check_at(bool holds, const char *fact, int line) {
     }
 }
 #define CHECK(fact) check_at((fact), #fact, __LINE__)
+
+/* ---- Wires ---- */
+
+/* The same bits in every word. */
+static struct tarravane_wires wires_of(uint64_t pos, uint64_t neg) {
+    struct tarravane_wires w;
+    for (int v = 0; v < TARRAVANE_WORDS; v++) {
+        w.pos[v] = pos;
+        w.neg[v] = neg;
+    }
+    return w;
+}
+#define REST wires_of(0, UINT64_MAX) /* all wires at (0,1) */
+
+/* Alert i at (1,0), the others at (0,1). */
+static struct tarravane_wires raised(int i) {
+    struct tarravane_wires w = REST;
+    w.pos[i / 64] = UINT64_C(1) << (63 - i % 64);
+    w.neg[i / 64] = ~w.pos[i / 64];
+    return w;
+}
 
 /* ---- States, field by field: padding is no field ---- */
 
@@ -150,7 +170,7 @@ static void entries_above(void) {
     handler h = new_handler(2);
     for (size_t i = h.n; i < TARRAVANE_ALERTS; i++)
         h.alerts.regwen[i] = h.alerts.en[i] = h.alerts.class_of[i] = h.alerts.cause[i] = 0xA5;
-    struct tarravane_answered t = tarravane_tick(h, TARRAVANE_WRITE, TARRAVANE_ALERT_EN(2), 1, UINT64_MAX, 0);
+    struct tarravane_answered t = tarravane_tick(h, TARRAVANE_WRITE, TARRAVANE_ALERT_EN(2), 1, wires_of(UINT64_MAX, 0));
     CHECK(t.answer == -TARRAVANE_NO_REGISTER);
     CHECK(t.handler.receivers.armed[0] == UINT64_MAX >> 2);
     t.handler.receivers = h.receivers;
@@ -258,7 +278,7 @@ static void wires(void) {
     memset(h.alerts.cause, 0, sizeof h.alerts.cause);
     for (int i = 0; i < 64; i++) {
         uint64_t one = UINT64_C(1) << (63 - i);
-        struct tarravane_answered t = tarravane_tick(h, TARRAVANE_NONE, 0, 0, one, ~one);
+        struct tarravane_answered t = tarravane_tick(h, TARRAVANE_NONE, 0, 0, raised(i));
         bool armed = (h.receivers.armed[0] & one) != 0;
         for (int m = 0; m < 64; m++) CHECK(t.handler.alerts.cause[m] == (m == i && armed && h.alerts.en[i] == 1));
         CHECK(t.handler.receivers.armed[0] == ~one);
@@ -304,7 +324,7 @@ static void answers(void) {
     CHECK(write_of(&h, 65535, 0) == -TARRAVANE_NO_REGISTER);
     CHECK(write_of(&h, TARRAVANE_ALERT_EN(0), 1) == 0);
     for (unsigned kind = 3; kind < 256; kind++) {
-        struct tarravane_answered t = tarravane_tick(h, (uint8_t)kind, TARRAVANE_CLASS_CTRL(1), 1, UINT64_MAX, 0);
+        struct tarravane_answered t = tarravane_tick(h, (uint8_t)kind, TARRAVANE_CLASS_CTRL(1), 1, wires_of(UINT64_MAX, 0));
         CHECK(t.answer == -TARRAVANE_BAD_RECORD);
         CHECK(t.handler.alerts.cause[0] == 1); /* the tick runs */
         CHECK(t.handler.classes[1].ctrl == 0x393C);
@@ -341,6 +361,16 @@ static uint64_t number_at(const uint8_t *bytes) {
     return n;
 }
 
+/* The wires of a record. */
+static struct tarravane_wires wires_at(const uint8_t *record) {
+    struct tarravane_wires w;
+    for (int v = 0; v < TARRAVANE_WORDS; v++) {
+        w.pos[v] = number_at(record + 8 + 8 * v);
+        w.neg[v] = number_at(record + 8 + 8 * TARRAVANE_WORDS + 8 * v);
+    }
+    return w;
+}
+
 /* The first 8 bytes of a record are malformed. */
 static bool malformed(uint64_t first) {
     unsigned kind = (unsigned)(first >> 62);
@@ -355,7 +385,7 @@ static struct tarravane_answered tick_of(const handler *h, const uint8_t *record
     uint64_t first = number_at(record);
     uint8_t kind = malformed(first) ? 3 : (uint8_t)(first >> 62);
     uint16_t number = (uint16_t)(first >> 52 & 1023);
-    return tarravane_tick(*h, kind, number, (uint32_t)first, number_at(record + 8), number_at(record + 16));
+    return tarravane_tick(*h, kind, number, (uint32_t)first, wires_at(record));
 }
 
 static void word_says(uint64_t word, const struct tarravane_answered *t) {
@@ -427,8 +457,8 @@ struct entries {
     uint8_t kinds[ENTRIES];
     uint16_t registers[ENTRIES];
     uint32_t values[ENTRIES];
-    uint64_t positive[ENTRIES];
-    uint64_t negative[ENTRIES];
+    uint64_t positive[ENTRIES * TARRAVANE_WORDS];
+    uint64_t negative[ENTRIES * TARRAVANE_WORDS];
 };
 
 /* A buffer between guard bytes, all of them at the guard's value. */
@@ -436,19 +466,19 @@ struct room {
     uint8_t all[MARGIN + ENTRIES * TARRAVANE_RECORD + MARGIN];
 };
 
-static void add(struct entries *e, unsigned kind, unsigned number, uint32_t value, uint64_t pos, uint64_t neg) {
+static void add(struct entries *e, unsigned kind, unsigned number, uint32_t value, struct tarravane_wires wires) {
     size_t i = e->count++;
     CHECK(i < ENTRIES);
     e->kinds[i] = (uint8_t)kind;
     e->registers[i] = (uint16_t)number;
     e->values[i] = value;
-    e->positive[i] = pos;
-    e->negative[i] = neg;
+    memcpy(&e->positive[i * TARRAVANE_WORDS], wires.pos, sizeof wires.pos);
+    memcpy(&e->negative[i * TARRAVANE_WORDS], wires.neg, sizeof wires.neg);
 }
 
 static int64_t recorded(const struct entries *e, uint8_t *bytes, size_t length) {
-    size_t n = e->count;
-    return tarravane_record(e->kinds, n, e->registers, n, e->values, n, e->positive, n, e->negative, n, bytes, length);
+    size_t n = e->count, words = n * TARRAVANE_WORDS;
+    return tarravane_record(e->kinds, n, e->registers, n, e->values, n, e->positive, words, e->negative, words, bytes, length);
 }
 
 static void store(uint8_t *at, uint64_t number) {
@@ -458,8 +488,10 @@ static void store(uint8_t *at, uint64_t number) {
 /* The record of document 01, from its widths. */
 static void packed(const struct entries *e, size_t i, uint8_t *at) {
     store(at, (uint64_t)e->kinds[i] << 62 | (uint64_t)e->registers[i] << 52 | e->values[i]);
-    store(at + 8, e->positive[i]);
-    store(at + 16, e->negative[i]);
+    for (int v = 0; v < TARRAVANE_WORDS; v++) {
+        store(at + 8 + 8 * v, e->positive[i * TARRAVANE_WORDS + v]);
+        store(at + 8 + 8 * TARRAVANE_WORDS + 8 * v, e->negative[i * TARRAVANE_WORDS + v]);
+    }
 }
 
 static struct room fresh(void) {
@@ -487,13 +519,13 @@ static void keeps(const struct entries *e, size_t length, int refusal) {
 static struct entries sound(void) {
     struct entries e = {0};
     uint64_t pos = UINT64_C(0x0123456789ABCDEF), neg = UINT64_C(0xFEDCBA9876543211);
-    add(&e, TARRAVANE_NONE, 0, 0, 0, UINT64_MAX);
-    add(&e, TARRAVANE_NONE, 0, 0, UINT64_MAX, 0);
-    add(&e, TARRAVANE_READ, 0, 0, 1, 2);
-    add(&e, TARRAVANE_READ, 1023, 0, pos, neg);
-    add(&e, TARRAVANE_WRITE, 0, 0, neg, pos);
-    add(&e, TARRAVANE_WRITE, 1023, UINT32_MAX, UINT64_MAX, UINT64_MAX);
-    add(&e, TARRAVANE_WRITE, 341, 0x01020304, 0, 0);
+    add(&e, TARRAVANE_NONE, 0, 0, REST);
+    add(&e, TARRAVANE_NONE, 0, 0, wires_of(UINT64_MAX, 0));
+    add(&e, TARRAVANE_READ, 0, 0, wires_of(1, 2));
+    add(&e, TARRAVANE_READ, 1023, 0, wires_of(pos, neg));
+    add(&e, TARRAVANE_WRITE, 0, 0, wires_of(neg, pos));
+    add(&e, TARRAVANE_WRITE, 1023, UINT32_MAX, wires_of(UINT64_MAX, UINT64_MAX));
+    add(&e, TARRAVANE_WRITE, 341, 0x01020304, wires_of(0, 0));
     return e;
 }
 
@@ -545,6 +577,8 @@ static void unequal(void) {
                 struct room is = fresh(), wanted = fresh();
                 if (other == rest) continue;
                 n[list] = other;
+                n[3] *= TARRAVANE_WORDS;
+                n[4] *= TARRAVANE_WORDS;
                 for (size_t length = 0; length <= ENTRIES * TARRAVANE_RECORD; length += ENTRIES * TARRAVANE_RECORD / 2)
                     CHECK(tarravane_record(e.kinds, n[0], e.registers, n[1], e.values, n[2], e.positive, n[3], e.negative,
                                            n[4], is.all + MARGIN, length) == -TARRAVANE_NO_RECORD);
@@ -556,8 +590,8 @@ static void unequal(void) {
 static void single_bits(void) {
     for (int b = 0; b < 64; b++) {
         struct entries e = {0};
-        add(&e, TARRAVANE_NONE, 0, 0, UINT64_C(1) << b, 0);
-        add(&e, TARRAVANE_NONE, 0, 0, 0, UINT64_C(1) << b);
+        add(&e, TARRAVANE_NONE, 0, 0, wires_of(UINT64_C(1) << b, 0));
+        add(&e, TARRAVANE_NONE, 0, 0, wires_of(0, UINT64_C(1) << b));
         if (b < 32) add(&e, TARRAVANE_WRITE, 0, UINT32_C(1) << b, REST);
         if (b < 10) add(&e, TARRAVANE_READ, 1u << b, 0, REST);
         writes(&e, e.count * TARRAVANE_RECORD);
@@ -570,7 +604,7 @@ static void written_again(const uint8_t *record) {
     uint8_t again[TARRAVANE_RECORD] = {0};
     uint64_t first = number_at(record);
     unsigned kind = malformed(first) ? 3 : (unsigned)(first >> 62);
-    add(&e, kind, (unsigned)(first >> 52 & 1023), (uint32_t)first, number_at(record + 8), number_at(record + 16));
+    add(&e, kind, (unsigned)(first >> 52 & 1023), (uint32_t)first, wires_at(record));
     if (kind == 3) {
         keeps(&e, TARRAVANE_RECORD, TARRAVANE_NO_RECORD);
         return;
@@ -590,8 +624,8 @@ static void read_back(void) {
     struct tarravane_batched b = tarravane_batch(first, r.all + MARGIN, (size_t)length, words, e.count);
     CHECK(b.answer == 0);
     for (size_t i = 0; i < e.count; i++) {
-        struct tarravane_answered t =
-            tarravane_tick(h, e.kinds[i], e.registers[i], e.values[i], e.positive[i], e.negative[i]);
+        struct tarravane_wires w = wires_at(r.all + MARGIN + i * TARRAVANE_RECORD);
+        struct tarravane_answered t = tarravane_tick(h, e.kinds[i], e.registers[i], e.values[i], w);
         word_says(words[i], &t);
         h = t.handler;
     }

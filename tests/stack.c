@@ -21,7 +21,8 @@ static struct tarravane_handler state;
 static uint8_t kinds[RECORDS];
 static uint16_t registers[RECORDS];
 static uint32_t values[RECORDS];
-static uint64_t positive[RECORDS], negative[RECORDS];
+static uint64_t positive[RECORDS * TARRAVANE_WORDS], negative[RECORDS * TARRAVANE_WORDS];
+static struct tarravane_wires wires;
 static size_t entries;
 
 /* A call takes its argument of 448 bytes and its result from the caller's frame: both are counted. */
@@ -36,7 +37,7 @@ static void call_new(void)
 static void call_tick(void)
 {
     NOTE_FRAME();
-    state = tarravane_tick(state, kinds[0], registers[0], values[0], positive[0], negative[0]).handler;
+    state = tarravane_tick(state, kinds[0], registers[0], values[0], wires).handler;
 }
 
 static void call_batch(void)
@@ -48,7 +49,8 @@ static void call_batch(void)
 static void call_record(void)
 {
     NOTE_FRAME();
-    tarravane_record(kinds, entries, registers, entries, values, entries, positive, entries, negative, entries, bytes,
+    size_t wire_words = entries * TARRAVANE_WORDS;
+    tarravane_record(kinds, entries, registers, entries, values, entries, positive, wire_words, negative, wire_words, bytes,
                      sizeof bytes);
 }
 
@@ -89,9 +91,13 @@ static void draw_input(void)
         kinds[i] = (uint8_t)(next_random() % 3);
         registers[i] = kinds[i] == TARRAVANE_NONE ? 0 : (uint16_t)(next_random() % 512);
         values[i] = kinds[i] == TARRAVANE_WRITE ? (uint32_t)(next_random() >> (next_random() % 64)) : 0;
+    }
+    for (size_t i = 0; i < RECORDS * TARRAVANE_WORDS; i++) {
         positive[i] = next_random();
         negative[i] = ~positive[i] ^ (next_random() & next_random() & next_random());
     }
+    memcpy(wires.pos, positive, sizeof wires.pos);
+    memcpy(wires.neg, negative, sizeof wires.neg);
 }
 
 /* A state of any number of alerts; in the first round one of zeros, as making one binds memcpy. */

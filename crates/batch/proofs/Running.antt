@@ -1,6 +1,6 @@
 -- A batch, record by record.
 -- Assumes nothing.
-use Prim.Native.Nat.{ℕ, suc, _<_, _≤_}
+use Prim.Native.Nat.{ℕ, suc, _+_, _*_, _≤_, _<_}
 use mathlib.Core.Path.{_≡_, refl, sym, ap, ap₂, subst, _∙_}
 use mathlib.Core.Bool.{true}
 use mathlib.Core.List.{List, [], _∷_, _++_, map, map-append}
@@ -9,16 +9,19 @@ use lib.ListN.{length, getD, set, take, drop, length-set, length-map}
 use lib.Seq.{take-suc, take-all, length-take-le, drop-cons, set-at, append-snoc}
 use Rattle.bits.proofs.IndexLaws.{at-each, length-each}
 use Rattle.bits.specs.Fields.{pack}
-use Rattle.rules.specs.Batch.{inputsOf, recordAt, recordCount}
-use Rattle.rules.specs.Record.{inputOf, wordLayout, wordFields, wordOf}
+use Rattle.rules.specs.Edition.{recordBytes}
+use Rattle.rules.specs.Record.{inputOf, inputsOf, recordAt, recordCount}
 use Rattle.rules.specs.Run.{run, ticks}
 use Rattle.rules.specs.State.{most}
 use Rattle.rules.specs.Tick.{tick, ticked}
 use Rattle.rules.specs.Valid.{valid}
+use Rattle.rules.specs.declared.Edition.{Edition}
 use Rattle.rules.specs.declared.Handler.{Handler}
 use Rattle.rules.specs.declared.Input.{Input}
 use Rattle.rules.specs.declared.Ticked.{Ticked}
+use Rattle.rules.specs.Word.{wordLayout, wordFields, wordOf}
 use Rattle.laws.proofs.KeepsValid.{run-valid}
+use Rattle.laws.proofs.PartLaws.{some-bytes, part-within}
 use Rattle.laws.proofs.Refusal7.{ticked-good}
 use Rattle.laws.proofs.Runs.{run-next, ticks-append, length-ticks}
 use Rattle.laws.proofs.ValidLaws.{facts}
@@ -78,13 +81,17 @@ module _ (h : Handler) (xs : List Input) (old : List ℕ) where
 -- ── the records of a batch whose first state is valid ──
 
 -- a batch has as many inputs as records
-pub length-inputs : (bytes : List ℕ) → length (inputsOf bytes) ≡ recordCount bytes
+pub length-inputs : (e : Edition) (bytes : List ℕ) → length (inputsOf e bytes) ≡ recordCount e bytes
 unfolding inputsOf
-length-inputs bytes = length-each (recordCount bytes) (λ i. inputOf (recordAt bytes i))
+length-inputs e bytes = length-each (recordCount e bytes) (λ i. inputOf e (recordAt e bytes i))
 
-input-at : (bytes : List ℕ) (i : ℕ) (d : Input) → i < recordCount bytes → getD (inputsOf bytes) i d ≡ inputOf (recordAt bytes i)
+input-at : (e : Edition) (bytes : List ℕ) (i : ℕ) (d : Input) → i < recordCount e bytes → getD (inputsOf e bytes) i d ≡ inputOf e (recordAt e bytes i)
 unfolding inputsOf
-input-at bytes i d l = at-each (recordCount bytes) (λ j. inputOf (recordAt bytes j)) i d l
+input-at e bytes i d l = at-each (recordCount e bytes) (λ j. inputOf e (recordAt e bytes j)) i d l
+
+-- where record i stands, by the size s of a record
+pub record-within : (e : Edition) (bytes : List ℕ) (i s : ℕ) → s ≡ recordBytes e → i < recordCount e bytes → i * s + recordBytes e ≤ length bytes
+record-within e bytes i s z l = rw z (part-within (recordBytes e) (some-bytes e) (length bytes) i l)
 
 module _ (h : Handler) (xs : List Input) (old : List ℕ) (v : valid h ≡ true) (g : Handler) (out : List ℕ) (i : ℕ) (r : Running h xs old g out i) where
   -- refusal 7 is looked for once: each later state is valid
@@ -95,13 +102,13 @@ module _ (h : Handler) (xs : List Input) (old : List ℕ) (v : valid h ≡ true)
   few-alerts = facts g still-valid .n
 
 -- record i, its tick and its word
-module _ (h : Handler) (bytes old : List ℕ) (v : valid h ≡ true) (g : Handler) (out : List ℕ) (i : ℕ) (r : Running h (inputsOf bytes) old g out i) (l : i < recordCount bytes) (m : i < length old) where
-  pub next-record : (x : Input) (t : Ticked) (w : ℕ) → x ≡ inputOf (recordAt bytes i) → t ≡ tick g x → w ≡ pack wordLayout (wordFields (t .output) (t .answer))
-      → Running h (inputsOf bytes) old (t .handler) (set out i w) (suc i)
+module _ (e : Edition) (h : Handler) (bytes old : List ℕ) (v : valid h ≡ true) (g : Handler) (out : List ℕ) (i : ℕ) (r : Running h (inputsOf e bytes) old g out i) (l : i < recordCount e bytes) (m : i < length old) where
+  pub next-record : (x : Input) (t : Ticked) (w : ℕ) → x ≡ inputOf e (recordAt e bytes i) → t ≡ tick g x → w ≡ pack wordLayout (wordFields (t .output) (t .answer))
+      → Running h (inputsOf e bytes) old (t .handler) (set out i w) (suc i)
   unfolding wordOf
-  next-record x t w e f u =
-      let c : ticked g (getD (inputsOf bytes) i x) ≡ t =
-      ap (ticked g) (input-at bytes i x l ∙ sym e) ∙ ticked-good g x (still-valid h (inputsOf bytes) old v g out i r) ∙ sym f in
-      let a : i < length (inputsOf bytes) = omega (arith, length-inputs bytes) in
-      subst (λ (n : ℕ). Running h (inputsOf bytes) old (t .handler) (set out i n) (suc i)) (sym u)
-      (subst (λ (d : Ticked). Running h (inputsOf bytes) old (d .handler) (set out i (wordOf d)) (suc i)) c (step h (inputsOf bytes) old g out i x r a m))
+  next-record x t w z f u =
+      let c : ticked g (getD (inputsOf e bytes) i x) ≡ t =
+      ap (ticked g) (input-at e bytes i x l ∙ sym z) ∙ ticked-good g x (still-valid h (inputsOf e bytes) old v g out i r) ∙ sym f in
+      let a : i < length (inputsOf e bytes) = omega (arith, length-inputs e bytes) in
+      subst (λ (n : ℕ). Running h (inputsOf e bytes) old (t .handler) (set out i n) (suc i)) (sym u)
+      (subst (λ (d : Ticked). Running h (inputsOf e bytes) old (d .handler) (set out i (wordOf d)) (suc i)) c (step h (inputsOf e bytes) old g out i x r a m))

@@ -1,2 +1,2 @@
 pub mod Running
-pub mod Given
+pub mod BatchedBy

@@ -1,10 +1,13 @@
 // "Traces": a batch fills a lent list of 64-bit words, one per record.
+use answers::signed;
 use handler::tick::step;
 use rules::Answer;
+use rules::Edition;
 use rules::Handler;
 use rules::Refusal;
-use state::answer::signed;
 use state::valid::is_valid;
+use trace::edition::alerts;
+use trace::edition::record_bytes;
 use trace::record::input_at;
 use trace::word::word;
 ghost use mathlib.Core.Path.{_≡_};
@@ -14,14 +17,12 @@ ghost use Prim.Native.Nat.{_≤_};
 ghost use lib.ListN.{length, drop};
 ghost use Rattle.escalation.specs.Escalation.{Demand3};
 ghost use Rattle.rules.specs.Answer.{number};
-ghost use Rattle.rules.specs.Batch.{recordCount, inputsOf, batchVerdict, batchInputs};
-ghost use Rattle.rules.specs.Record.{wordOf};
+ghost use Rattle.rules.specs.Batch.{batchVerdict, batchInputs};
+ghost use Rattle.rules.specs.Record.{recordCount, inputsOf};
+ghost use Rattle.rules.specs.Word.{wordOf};
 ghost use Rattle.rules.specs.Run.{run, ticks};
 ghost use Rattle.rules.specs.Valid.{valid};
-ghost use Rattle.batch.specs.Given.{Given};
-
-// The bytes of a record.
-const RECORD: usize = 24;
+ghost use Rattle.batch.specs.BatchedBy.{BatchedBy};
 
 // The state that a batch leaves, and its answer.
 #[repr(C)]
@@ -31,14 +32,15 @@ pub struct Batched {
 }
 
 // The ticks of all records, one after another, each with its word at its place. The first state is valid, so each state is.
-fn run_records(h: Handler, bytes: &[u8], out: &mut [u64], count: usize) -> Handler
-    requires { ⌜ (valid h ≡ true) × (count ≡ recordCount (now bytes)) × (count ≤ length (now out)) ⌝ }
-    ensures { λ r. ⌜ (r ≡ run h (inputsOf (now (bytes .entry)))) × (now (out .exit) ≡ map wordOf (ticks h (inputsOf (now (bytes .entry)))) ++ drop count (now (out .entry))) ⌝ }
+fn run_records(edition: Edition, h: Handler, bytes: &[u8], out: &mut [u64], count: usize) -> Handler
+    requires { ⌜ (valid h ≡ true) × (count ≡ recordCount edition (now bytes)) × (count ≤ length (now out)) ⌝ }
+    ensures { λ r. ⌜ (r ≡ run h (inputsOf edition (now (bytes .entry)))) × (now (out .exit) ≡ map wordOf (ticks h (inputsOf edition (now (bytes .entry)))) ++ drop count (now (out .entry))) ⌝ }
 {
+    let size = record_bytes(edition);
     let mut g = h;
     let mut i = 0;
     while i < count {
-        let x = input_at(bytes, i * RECORD);
+        let x = input_at(edition, bytes, i * size);
         let t = step(g, x);
         let output = t.output;
         let answer = t.answer;
@@ -60,13 +62,15 @@ fn refuse(h: Handler, m: Refusal) -> Batched
 }
 
 // A batch is refused by 7, 8 or 9, in this order, or it takes the ticks of its records and answers 0.
-pub fn batch(h: Handler, bytes: &[u8], out: &mut [u64]) -> Batched
-    ensures { λ r. ⌜ Given h (now (bytes .entry)) (now (out .entry)) r (now (out .exit)) ⌝ }
-    ensures demand3 { λ r. ⌜ (valid h ≡ true → Demand3 h (batchInputs (batchVerdict h (now (bytes .entry)) (now (out .entry))) (now (bytes .entry)))) ⌝ }
+pub fn batch(edition: Edition, h: Handler, bytes: &[u8], out: &mut [u64]) -> Batched
+    ensures { λ r. ⌜ BatchedBy edition h (now (bytes .entry)) (now (out .entry)) r (now (out .exit)) ⌝ }
+    ensures demand3 { λ r. ⌜ (valid h ≡ true → Demand3 h (batchInputs edition (batchVerdict edition h (now (bytes .entry)) (now (out .entry))) (now (bytes .entry)))) ⌝ }
 {
-    let broken = !is_valid(h);
-    let uneven = bytes.len() % RECORD != 0;
-    let count = bytes.len() / RECORD;
+    let size = record_bytes(edition);
+    let most = alerts(edition);
+    let broken = !(is_valid(h) & (h.n <= most));
+    let uneven = bytes.len() % size != 0;
+    let count = bytes.len() / size;
     let short = out.len() < count;
     if broken {
         refuse(h, Refusal::BadState)
@@ -75,7 +79,7 @@ pub fn batch(h: Handler, bytes: &[u8], out: &mut [u64]) -> Batched
     } else if short {
         refuse(h, Refusal::ShortList)
     } else {
-        let handler = run_records(h, bytes, out, count);
+        let handler = run_records(edition, h, bytes, out, count);
         Batched {
             handler,
             answer: signed(Answer::Done),

@@ -4,16 +4,18 @@ use batch::batch;
 use handler::tick::Answered;
 use handler::tick::tick;
 use rules::Access;
+use rules::Edition;
 use rules::Handler;
 use rules::Input;
 use rules::Made;
 use rules::Sample;
 use rules::Wires;
 use state::new::new;
+use trace::record::access_of;
 use writer::write;
 ghost use mathlib.Core.Path.{_≡_};
 ghost use mathlib.Core.Bool.{true};
-ghost use Rattle.batch.specs.Given.{Given};
+ghost use Rattle.batch.specs.BatchedBy.{BatchedBy};
 ghost use Rattle.boundary.specs.Input.{accessBy, inputBy};
 ghost use Rattle.escalation.specs.Escalation.{Demand3};
 ghost use Rattle.handler.specs.Answered.{answered};
@@ -23,15 +25,14 @@ ghost use Rattle.rules.specs.Tick.{ticked};
 ghost use Rattle.rules.specs.Valid.{valid};
 ghost use Rattle.writer.specs.Lent.{lent, Wrote, ReadBack, WrittenBack};
 
-// The access by a kind's number: 0 none, 1 read, 2 write. Any other is a malformed record.
+// The access by a kind's number: 0 none, 1 read, 2 write. Any other is a malformed record. What the kind does not use is not looked at.
 fn access_by(kind: u8, register: u16, value: u32) -> Access
     ensures { λ r. ⌜ r ≡ accessBy kind register value ⌝ }
 {
     match kind {
-        0 => Access::Nothing,
-        1 => Access::Read(register),
-        2 => Access::Write(register, value),
-        _ => Access::Malformed,
+        0 => access_of(kind, 0, 0),
+        2 => access_of(kind, register, value),
+        _ => access_of(kind, register, 0),
     }
 }
 
@@ -50,31 +51,25 @@ pub extern "C" fn tarravane_tick(
     kind: u8,
     register: u16,
     value: u32,
-    pos: u64,
-    neg: u64,
+    wires: Wires,
 ) -> Answered
-    ensures { λ r. ⌜ r ≡ answered (ticked h (inputBy kind register value pos neg)) ⌝ }
+    ensures { λ r. ⌜ r ≡ answered (ticked h (inputBy kind register value wires)) ⌝ }
 {
     let access = access_by(kind, register, value);
     let input = Input {
         access,
-        sample: Sample {
-            alerts: Wires {
-                pos: [pos],
-                neg: [neg],
-            },
-        },
+        sample: Sample { alerts: wires },
     };
     tick(h, input)
 }
 
-// The ticks of the records in these bytes, a word for each.
+// The ticks of the records of 24 bytes, a word for each.
 #[no_mangle]
 pub extern "C" fn tarravane_batch(h: Handler, bytes: &[u8], out: &mut [u64]) -> Batched
-    ensures { λ r. ⌜ Given h (now (bytes .entry)) (now (out .entry)) r (now (out .exit)) ⌝ }
-    ensures demand3 { λ r. ⌜ (valid h ≡ true → Demand3 h (batchInputs (batchVerdict h (now (bytes .entry)) (now (out .entry))) (now (bytes .entry)))) ⌝ }
+    ensures { λ r. ⌜ BatchedBy Edition.Bytes24 h (now (bytes .entry)) (now (out .entry)) r (now (out .exit)) ⌝ }
+    ensures demand3 { λ r. ⌜ (valid h ≡ true → Demand3 h (batchInputs Edition.Bytes24 (batchVerdict Edition.Bytes24 h (now (bytes .entry)) (now (out .entry))) (now (bytes .entry)))) ⌝ }
 {
-    batch(h, bytes, out)
+    batch(Edition::Bytes24, h, bytes, out)
 }
 
 // A record for each entry of the lent lists, into the lent buffer.

@@ -5,11 +5,12 @@ use mathlib.Core.Path.{_≡_}
 use mathlib.Core.List.{[], _∷_, _++_}
 use lib.IntN.{pos}
 use lib.ListN.{replicate}
-use Rattle.cases.specs.Ticks.{rest, raise, broken, none, write, configure, answer, answers, holds, heldBy, refused}
-use Rattle.classes.specs.declared.Class.{Class}
+use Rattle.cases.specs.Ticks.{rise, broken, configure, answers, holds, heldBy}
+use Rattle.class_rules.specs.declared.Class.{Class}
 use Rattle.rules.specs.Run.{run}
+use Rattle.rules.specs.Scenes.{rest, none, write, gives, refused}
 use Rattle.rules.specs.State.{newHandler, classAt, put, withClasses}
-use Rattle.classes.specs.Class.{noClass}
+use Rattle.class_rules.specs.Class.{noClass}
 use Rattle.rules.specs.declared.Access.{Access}
 use Rattle.rules.specs.declared.Field.{Field}
 use Rattle.rules.specs.declared.Handler.{Handler}
@@ -78,7 +79,7 @@ accum = Block AccumCnt 0
 
 pub record List12 : Type 0 where
   -- P1 New, N = 1: read 321 gives 0x393C
-  pub P1 : answer new (rest (Access.Read 321)) ≡ pos 0x393C
+  pub P1 : gives new (rest (Access.Read 321)) ≡ pos 0x393C
   -- P2 Write 65535 to 325: 0; then 65536: -4, register unchanged
   pub P2 :
       answers new (rest (Access.Write 325 65535) ∷ rest (Access.Write 325 65536) ∷ rest (Access.Read 325) ∷ [])
@@ -95,26 +96,26 @@ pub record List12 : Type 0 where
       ∷ [])
       ≡ pos 0 ∷ refused 3 ∷ pos 0x393C ∷ refused 3 ∷ pos 0 ∷ pos 0 ∷ []
   -- P5 Threshold 2, ACCUM_CNT 0, Idle: the third event starts Phase 0, ACCUM_CNT then 3; the second does not
-  pub P5-state : heldBy (on 2 0) (raise none ∷ rest none ∷ raise none ∷ rest none ∷ raise none ∷ []) state ≡ 0 ∷ 0 ∷ 0 ∷ 0 ∷ 4 ∷ []
-  pub P5-accum : heldBy (on 2 0) (raise none ∷ rest none ∷ raise none ∷ rest none ∷ raise none ∷ []) accum ≡ 1 ∷ 1 ∷ 2 ∷ 2 ∷ 3 ∷ []
+  pub P5-state : heldBy (on 2 0) (rise none ∷ rest none ∷ rise none ∷ rest none ∷ rise none ∷ []) state ≡ 0 ∷ 0 ∷ 0 ∷ 0 ∷ 4 ∷ []
+  pub P5-accum : heldBy (on 2 0) (rise none ∷ rest none ∷ rise none ∷ rest none ∷ rise none ∷ []) accum ≡ 1 ∷ 1 ∷ 2 ∷ 2 ∷ 3 ∷ []
   -- P6 Threshold and ACCUM_CNT 65535: next event starts it, ACCUM_CNT stays
-  pub P6 : (holds full [] accum ≡ 65535) × (holds full (raise none ∷ []) state ≡ 4) × (holds full (raise none ∷ []) accum ≡ 65535)
+  pub P6 : (holds full [] accum ≡ 65535) × (holds full (rise none ∷ []) state ≡ 4) × (holds full (rise none ∷ []) accum ≡ 65535)
   -- P7 Lengths 0, 10, 10, 5, start in tick 100, no clear: phases start at 100, 101, 111, 121; Terminal at 126: STATE after ticks 100 to 127
-  pub P7 : heldBy (long 0 10 10 5) (raise none ∷ replicate 27 (rest none)) state ≡ 4 ∷ replicate 10 5 ++ replicate 10 6 ++ replicate 5 7 ++ replicate 2 3
+  pub P7 : heldBy (long 0 10 10 5) (rise none ∷ replicate 27 (rest none)) state ≡ 4 ∷ replicate 10 5 ++ replicate 10 6 ++ replicate 5 7 ++ replicate 2 3
   -- P8 Timeout 1, first due in tick 7 and still due in 8: Phase 0 in 8. Timeout 0: stays Idle
   pub P8 :
-      (heldBy (on 9 1) (raise none ∷ rest none ∷ []) state ≡ 1 ∷ 4 ∷ []) × (heldBy (on 9 0) (raise none ∷ rest none ∷ []) state ≡ 0 ∷ 0 ∷ [])
+      (heldBy (on 9 1) (rise none ∷ rest none ∷ []) state ≡ 1 ∷ 4 ∷ []) × (heldBy (on 9 0) (rise none ∷ rest none ∷ []) state ≡ 0 ∷ 0 ∷ [])
   -- P9 Idle, accepted clear with an event at the threshold: ACCUM_CNT 0, no start, interrupt set
   pub P9 :
-      (answer (on 0 0) (raise (write (Block Clr 0) 1)) ≡ pos 0)
-      × (holds (on 0 0) (raise (write (Block Clr 0) 1) ∷ []) accum ≡ 0)
-      × (holds (on 0 0) (raise (write (Block Clr 0) 1) ∷ []) state ≡ 0)
-      × (holds (on 0 0) (raise (write (Block Clr 0) 1) ∷ []) IntrState ≡ 1)
+      (gives (on 0 0) (rise (write (Block Clr 0) 1)) ≡ pos 0)
+      × (holds (on 0 0) (rise (write (Block Clr 0) 1) ∷ []) accum ≡ 0)
+      × (holds (on 0 0) (rise (write (Block Clr 0) 1) ∷ []) state ≡ 0)
+      × (holds (on 0 0) (rise (write (Block Clr 0) 1) ∷ []) IntrState ≡ 1)
   -- P10 Clear one tick after a LOCK start: -3
   pub P10 :
-      (answers (on 0 0) (raise none ∷ rest (write (Block Clr 0) 1) ∷ []) ≡ pos 0 ∷ refused 3 ∷ [])
-      × (heldBy (long 5 5 5 5) (raise none ∷ rest (write (Block Clr 0) 1) ∷ []) state ≡ 4 ∷ 4 ∷ [])
+      (answers (on 0 0) (rise none ∷ rest (write (Block Clr 0) 1) ∷ []) ≡ pos 0 ∷ refused 3 ∷ [])
+      × (heldBy (long 5 5 5 5) (rise none ∷ rest (write (Block Clr 0) 1) ∷ []) state ≡ 4 ∷ 4 ∷ [])
   -- P11 Wires (1,1) on enabled alert 0, local 2 enabled in enabled class 1: register 42 reads 1 next tick
   pub P11 : answers sealed (broken (Access.Read 42) ∷ rest (Access.Read 42) ∷ []) ≡ pos 0 ∷ pos 1 ∷ []
   -- P12 INTR_STATE clear with an event: bit is 1 after
-  pub P12 : heldBy (on 9 0) (raise none ∷ rest none ∷ raise (write IntrState 1) ∷ rest (write IntrState 1) ∷ []) IntrState ≡ 1 ∷ 1 ∷ 1 ∷ 0 ∷ []
+  pub P12 : heldBy (on 9 0) (rise none ∷ rest none ∷ rise (write IntrState 1) ∷ rest (write IntrState 1) ∷ []) IntrState ≡ 1 ∷ 1 ∷ 1 ∷ 0 ∷ []

@@ -2,6 +2,7 @@
 use crate::play::print;
 use crate::play::print_answer;
 use crate::play::print_number;
+use rules::WORDS;
 use writer::write;
 
 // The buffer's bytes.
@@ -16,8 +17,11 @@ fn show_bytes(bytes: &[u8]) {
 // A read of 321 and a write of 0 to this register, with negative wire 0 at 1, into the first bytes of a buffer.
 fn show_two(register: u16, out: &mut [u8]) {
     let registers: [u16; 2] = [321, register];
-    let negative: [u64; 2] = [0x8000_0000_0000_0000; 2];
-    let answer = write(&[1, 2], &registers, &[0, 0], &[0, 0], &negative, out);
+    let positive: [u64; 2 * WORDS] = [0; 2 * WORDS];
+    let mut negative: [u64; 2 * WORDS] = [0; 2 * WORDS];
+    negative[0] = 0x8000_0000_0000_0000;
+    negative[WORDS] = 0x8000_0000_0000_0000;
+    let answer = write(&[1, 2], &registers, &[0, 0], &positive, &negative, out);
     print(b"  ");
     print_answer(answer);
     show_bytes(out);

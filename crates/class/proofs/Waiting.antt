@@ -5,10 +5,10 @@ use mathlib.Core.Path.{_≡_}
 use mathlib.Core.Bool.{Bool, true, false, _&&_, _||_}
 use lib.Dec.{leb}
 use borrow.Author.Tests.{leb-false}
-use Rattle.classes.specs.Step.{due, startsFrom, trigger}
-use Rattle.classes.specs.declared.Class.{Class}
-use Rattle.classes.specs.declared.ClassState.the-variants.{Timeout}
-use Rattle.classes.specs.declared.Signals.{Signals}
+use Rattle.class_rules.specs.Step.{due, startsFrom, trigger}
+use Rattle.class_rules.specs.declared.Class.{Class}
+use Rattle.class_rules.specs.declared.ClassState.the-variants.{Timeout}
+use Rattle.class_rules.specs.declared.Signals.{Signals}
 
 -- what a false "t, or d and l" with d says of l
 last : (t d l : Bool) → (t || (d && l)) ≡ false → d ≡ true → l ≡ false

@@ -1,17 +1,9 @@
 // CTRL of a class: bit 0 EN, 1 LOCK, 2 to 5 line enables, 6 to 13 line maps, two bits a line.
-use classes::Class;
+use class_rules::Class;
+use masks::is_set;
 ghost use mathlib.Core.Path.{_≡_};
 ghost use Prim.Native.Nat.{_<_};
-ghost use Rattle.bits.specs.Bits.{bit};
-ghost use Rattle.classes.specs.Class.{enabled, lineEnable, lineMap, lock};
-
-// Bit k of CTRL.
-fn is_set(ctrl: u16, k: u32) -> bool
-    requires { ⌜ k < 16 ⌝ }
-    ensures { λ r. ⌜ r ≡ bit ctrl k ⌝ }
-{
-    (ctrl >> k) % 2 == 1
-}
+ghost use Rattle.class_rules.specs.Class.{enabled, lineEnable, lineMap, lock};
 
 // EN as steps 3 and 4 read it: EN is 1 and at least one line enable is 1.
 pub fn enabled(c: Class) -> bool

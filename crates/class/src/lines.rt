@@ -2,12 +2,13 @@
 use crate::ctrl::line_enable;
 use crate::ctrl::line_map;
 use crate::state::state_of;
-use classes::Class;
-use classes::ClassState;
+use class_rules::Class;
+use class_rules::ClassState;
+use masks::num;
 ghost use mathlib.Core.Path.{_≡_};
-ghost use Prim.Native.Nat.{_<_, _≤_};
-ghost use Rattle.bits.specs.Bits.{bitsOf, num};
-ghost use Rattle.classes.specs.Class.{drives, isPhase};
+ghost use Prim.Native.Nat.{_<_};
+ghost use Rattle.bits.specs.Bits.{bitsOf};
+ghost use Rattle.class_rules.specs.Class.{drives, isPhase};
 
 // Whether the state is phase p.
 fn is_phase(m: ClassState, p: u16) -> bool
@@ -30,13 +31,6 @@ fn drives(c: Class, e: u32) -> bool
     ensures { λ r. ⌜ r ≡ drives c e ⌝ }
 {
     line_enable(c, e) & is_phase(state_of(c.state), line_map(c, e))
-}
-
-// A bit as a number.
-fn num(b: bool) -> u8
-    ensures { λ r. ⌜ (r ≡ num b) × (r ≤ 1) ⌝ }
-{
-    if b { 1 } else { 0 }
 }
 
 // The lines that the class drives, line 0 lowest.

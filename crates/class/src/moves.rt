@@ -1,14 +1,14 @@
 // The moves of step 4: where each state goes in a tick.
 use crate::ctrl::enabled;
-use classes::Class;
-use classes::ClassState;
-use classes::Place;
-use classes::Signals;
+use class_rules::Class;
+use class_rules::ClassState;
+use class_rules::Place;
+use class_rules::Signals;
 ghost use mathlib.Core.Path.{_≡_};
 ghost use mathlib.Core.Bool.{cond};
 ghost use Prim.Native.Nat.{_+_};
 ghost use lib.Dec.{leb};
-ghost use Rattle.classes.specs.Step.{at, due, movedFrom, startsFrom, trigger};
+ghost use Rattle.class_rules.specs.Step.{at, due, movedFrom, startsFrom, trigger};
 
 // An event with no accepted clear in this tick and ACCUM_CNT at or above ACCUM_THRESH before counting.
 fn trigger(s: Signals, c: Class) -> bool

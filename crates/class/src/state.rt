@@ -1,7 +1,7 @@
 // The seven states of a class and the numbers that STATE reads.
-use classes::ClassState;
+use class_rules::ClassState;
 ghost use mathlib.Core.Path.{_≡_};
-ghost use Rattle.classes.specs.Class.{stateOf, stateNumber};
+ghost use Rattle.class_rules.specs.Class.{stateOf, stateNumber};
 
 // The state of a number; 2 and numbers over 7 are no state's and give Idle.
 pub fn state_of(s: u8) -> ClassState

@@ -5,12 +5,12 @@ use crate::moves::moved_from;
 use crate::moves::starts_from;
 use crate::state::number;
 use crate::state::state_of;
-use classes::Class;
-use classes::Signals;
+use class_rules::Class;
+use class_rules::Signals;
 ghost use mathlib.Core.Path.{_≡_};
 ghost use mathlib.Core.Bool.{cond, _&&_};
-ghost use Rattle.classes.specs.Class.{lock};
-ghost use Rattle.classes.specs.Step.{classEvent, classStep, counted};
+ghost use Rattle.class_rules.specs.Class.{lock};
+ghost use Rattle.class_rules.specs.Step.{classEvent, classStep, counted};
 
 // The class has an event: something that happened is assigned to it and EN is 1.
 pub fn event(assigned: bool, c: Class) -> bool

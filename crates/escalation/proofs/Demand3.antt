@@ -1,6 +1,6 @@
 -- Demand 3, "A started escalation", of every list of ticks from every state that refusal 7 does not meet.
 -- It rests on these laws of the tick, and does not open it: of crate laws, Content (after-class, event-enabled, acted-place, line-is), Locks (acted-locked,
--- after-locked), Clears (no-clear), Frame (after-n), MapLaws (decode-number, decode-assigned), KeepsValid (run-valid), ValidLaws (facts),
+-- after-locked), Clears (no-clear), Frame (after-n), MapLaws (decode-number, decode-in-map), KeepsValid (run-valid), ValidLaws (facts),
 -- Refusal7 (ticked-handler, ticked-lines), Runs (run-next, ticks-at).
 -- Assumes nothing.
 use Prim.Native.Nat.{ℕ, _-_, _<_}
@@ -10,13 +10,13 @@ use mathlib.Core.Bool.{true}
 use mathlib.Core.List.{List}
 use native.Mathlib.Omega.{arith}
 use lib.ListN.{length}
-use Rattle.classes.specs.Class.{stateOf}
-use Rattle.classes.specs.Step.{starts, moved}
-use Rattle.classes.specs.declared.Class.{Class}
-use Rattle.classes.specs.declared.ClassState.the-variants.{Phase0}
-use Rattle.classes.specs.declared.Place.{Place}
+use Rattle.class_rules.specs.Class.{stateOf}
+use Rattle.class_rules.specs.Step.{starts, moved}
+use Rattle.class_rules.specs.declared.Class.{Class}
+use Rattle.class_rules.specs.declared.ClassState.the-variants.{Phase0}
+use Rattle.class_rules.specs.declared.Place.{Place}
 use Rattle.laws.proofs.Content.{after-class, event-enabled, acted-place}
-use Rattle.rules.specs.Access.{acted, clears}
+use Rattle.rules.specs.Access.{acted, effects}
 use Rattle.rules.specs.State.{classCount}
 use Rattle.rules.specs.Tick.{after}
 use Rattle.rules.specs.Valid.{valid}
@@ -43,7 +43,7 @@ module _ (g : Handler) (x : Input) (k : ℕ) (small : k < classCount) where
   start-is : StartIs g x k (after g x)
   start-is = record {
     move = (there, back);
-    line = λ e. has-line (met g x k) (classRead g x k) _ (event-enabled (acted g (x .access)) (x .sample .alerts) (clears g (x .access)) k) e;
+    line = λ e. has-line (met g x k) (classRead g x k) _ (event-enabled (acted g (x .access)) (x .sample .alerts) (effects g (x .access)) k) e;
     reason = λ e. ⊎-elim (λ t. inl t) (λ r. inr (sym read-state ∙ r .0, r .1, r .2)) (reason (met g x k) (classRead g x k) _ e);
   }
     where

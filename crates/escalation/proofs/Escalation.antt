@@ -12,18 +12,18 @@ use lib.Dec.{eqb}
 use lib.ListN.{length}
 use Rattle.bits.proofs.IndexLaws.{true-and}
 use Rattle.bits.specs.Bits.{bit}
-use Rattle.classes.specs.Class.{lineEnable, lineMap, stateOf, drives}
-use Rattle.classes.specs.Step.{at}
-use Rattle.classes.specs.declared.Class.{Class}
+use Rattle.class_rules.specs.Class.{lineEnable, lineMap, stateOf, drives}
+use Rattle.class_rules.specs.Step.{at}
+use Rattle.class_rules.specs.declared.Class.{Class}
 use Rattle.laws.proofs.Clears.{no-clear}
-use Rattle.laws.proofs.Content.{after-class, acted-place, line-is}
+use Rattle.laws.proofs.Content.{after-class, signal-clear, acted-place, line-is}
 use Rattle.laws.proofs.Locks.{acted-locked}
 use Rattle.laws.proofs.ValidLaws.{facts}
-use Rattle.laws.specs.Assigned.{settingExists}
+use Rattle.laws.specs.InMap.{settingExists}
 use Rattle.rules.specs.Access.{value, locked, settingValue, acted}
 use Rattle.rules.specs.Map.{guard}
 use Rattle.rules.specs.State.{classCount, classAt}
-use Rattle.rules.specs.Tick.{signals, lines, after}
+use Rattle.rules.specs.Tick.{lines, after}
 use Rattle.rules.specs.Valid.{valid}
 use Rattle.rules.specs.declared.Access.{Access}
 use Rattle.rules.specs.declared.Handler.{Handler}
@@ -66,10 +66,11 @@ module _ (g : Handler) (v : valid g ≡ true) (k : ℕ) (small : k < classCount)
 
   -- and so do steps 2 to 4, with one tick more: there is no accepted clear
   going-tick : (x : Input) (c : Class) (d : ℕ) → Going c d (classAt g k) → Going c (suc d) (classAt (after g x) k)
-  unfolding locked guard value signals
+  unfolding locked guard value
   going-tick x c d i =
       subst (Going c (suc d)) (sym (after-class g x k small))
-      (going-steps c (classRead g x k) d (met g x k) (no-clear g (x .access) k (eq-eqb _ 0 (i .clrwen)))
+      (going-steps c (classRead g x k) d (met g x k)
+      (signal-clear g (x .access) (acted g (x .access)) (x .sample .alerts) k ∙ no-clear g (x .access) k (eq-eqb _ 0 (i .clrwen)))
       (going-access (x .access) c d i))
 
   -- a start

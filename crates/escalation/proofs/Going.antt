@@ -8,13 +8,13 @@ use native.Mathlib.Omega.{arith}
 use borrow.Author.Tests.{eqb-true}
 use Rattle.bits.specs.Bits.{bit, field}
 use Rattle.bits.proofs.IndexLaws.{and-true, true-and}
-use Rattle.classes.proofs.ClassLaws.{state-number}
-use Rattle.classes.specs.Class.{lock, lineEnable, lineMap, phaseCyc, phase, isPhase, stateOf, drives}
-use Rattle.classes.specs.Step.{at, moved, starts, classStep}
-use Rattle.classes.specs.declared.Class.{Class}
-use Rattle.classes.specs.declared.ClassState.{ClassState}
-use Rattle.classes.specs.declared.ClassState.the-variants.{Idle, Timeout, Phase0, Phase1, Phase2, Phase3, Terminal}
-use Rattle.classes.specs.declared.Signals.{Signals}
+use Rattle.class_rules.proofs.ClassLaws.{state-number}
+use Rattle.class_rules.specs.Class.{lock, lineEnable, lineMap, phaseCyc, phase, isPhase, stateOf, drives}
+use Rattle.class_rules.specs.Step.{at, moved, starts, classStep}
+use Rattle.class_rules.specs.declared.Class.{Class}
+use Rattle.class_rules.specs.declared.ClassState.{ClassState}
+use Rattle.class_rules.specs.declared.ClassState.the-variants.{Idle, Timeout, Phase0, Phase1, Phase2, Phase3, Terminal}
+use Rattle.class_rules.specs.declared.Signals.{Signals}
 use Rattle.laws.proofs.Cases.{cond-same}
 use Rattle.escalation.specs.Escalation.{OfPhase}
 use Rattle.escalation.proofs.Phases.{placeOf, At, entered-at, next-at, in-phase}

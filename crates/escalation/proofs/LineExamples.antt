@@ -8,8 +8,9 @@ use mathlib.Core.List.{List, [], _∷_, map}
 use native.Mathlib.Omega.{arith}
 use lib.ListN.{set, replicate, length}
 use Rattle.bits.specs.Bits.{bit}
-use Rattle.classes.specs.Class.{drives}
-use Rattle.rules.proofs.Scenes.{rules, rest, raise, none, settings, station}
+use Rattle.class_rules.specs.Class.{drives}
+use Rattle.rules.specs.Scenes.{rest, raise, none}
+use Rattle.rules.proofs.Scenes.{rules, settings, station}
 use Rattle.rules.specs.Run.{ticks}
 use Rattle.rules.specs.State.{classCount, classAt, resetClass, withClasses}
 use Rattle.rules.specs.declared.Handler.{Handler}

@@ -12,8 +12,9 @@ use lib.ListN.{getD, length, take}
 use Rattle.bits.proofs.IndexLaws.{true-and}
 use Rattle.laws.proofs.MapLaws.{decode-number}
 use Rattle.laws.proofs.ValidLaws.{facts}
-use Rattle.laws.specs.Assigned.{assigned, settingExists}
-use Rattle.rules.proofs.Scenes.{rules, rest, write, settings, zeros}
+use Rattle.laws.specs.InMap.{inMap, settingExists}
+use Rattle.rules.specs.Scenes.{rest, write}
+use Rattle.rules.proofs.Scenes.{rules, settings, zeros}
 use Rattle.rules.specs.Access.{value, locked, clears}
 use Rattle.rules.specs.Map.{numberOf, isRegister, guard}
 use Rattle.rules.specs.Run.{run}
@@ -33,7 +34,7 @@ use Rattle.escalation.proofs.StartExamples
 
 module _ (h : Handler) (v : valid h ≡ true) where
   -- register q is locked while its guard g reads 0
-  shut : (g q : Register) → assigned (h .n) g ≡ true → assigned (h .n) q ≡ true → isRegister g ≡ true → guard q ≡ g
+  shut : (g q : Register) → inMap (h .n) g ≡ true → inMap (h .n) q ≡ true → isRegister g ≡ true → guard q ≡ g
       → valueOf h (numberOf g) ≡ 0 → Locked h (numberOf q)
   unfolding locked
   shut g q a b r e z =
@@ -48,7 +49,7 @@ module _ (h : Handler) (v : valid h ≡ true) where
     abbrev Same : ℕ → Type 0
     Same r = valueOf (run h (take t xs)) r ≡ valueOf h r
 
-    never : (g q : Register) → assigned (h .n) g ≡ true → assigned (h .n) q ≡ true → isRegister g ≡ true → guard q ≡ g
+    never : (g q : Register) → inMap (h .n) g ≡ true → inMap (h .n) q ≡ true → isRegister g ≡ true → guard q ≡ g
         → valueOf h (numberOf g) ≡ 0 → Same (numberOf q)
     unfolding run
     never g q a b r e z = demand3 h xs v .locks 0 t (numberOf q) (omega arith) l (shut g q a b r e z) .1
@@ -57,18 +58,18 @@ module _ (h : Handler) (v : valid h ≡ true) where
     alerts : (i : ℕ) → h .n ≡ 64 → i < 64 → valueOf h (64 + i) ≡ 0 → Same (128 + i) × Same (192 + i)
     unfolding numberOf guard
     alerts i n s z =
-        let a : assigned (h .n) (Alert Field.En i) ≡ true = lt-ltb i (h .n) (omega arith) in
+        let a : inMap (h .n) (Alert Field.En i) ≡ true = lt-ltb i (h .n) (omega arith) in
         (never (Alert Field.Regwen i) (Alert Field.En i) a a refl refl z, never (Alert Field.Regwen i) (Alert Field.Class i) a a refl refl z)
 
     -- 16+j guards 24+j and 32+j
     locals : (j : ℕ) → j < localCount → valueOf h (16 + j) ≡ 0 → Same (24 + j) × Same (32 + j)
     unfolding numberOf guard
     locals j s z =
-        let a : assigned (h .n) (Local Field.En j) ≡ true = lt-ltb j localCount s in
+        let a : inMap (h .n) (Local Field.En j) ≡ true = lt-ltb j localCount s in
         (never (Local Field.Regwen j) (Local Field.En j) a a refl refl z, never (Local Field.Regwen j) (Local Field.Class j) a a refl refl z)
 
     module _ (k : ℕ) (small : k < classCount) where
-      has : (s : Setting) → settingExists s ≡ true → assigned (h .n) (Block s k) ≡ true
+      has : (s : Setting) → settingExists s ≡ true → inMap (h .n) (Block s k) ≡ true
       has s e = true-and (lt-ltb k classCount small) e
 
       -- 320+16k guards +1, +5, +6 and +7 to +10

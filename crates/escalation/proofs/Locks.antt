@@ -13,9 +13,9 @@ use Rattle.laws.proofs.Clears
 use Rattle.laws.proofs.Cases.{by-kind}
 use Rattle.laws.proofs.Frame.{after-n}
 use Rattle.laws.proofs.Locks.{after-locked}
-use Rattle.laws.proofs.MapLaws.{decode-number, decode-assigned}
+use Rattle.laws.proofs.MapLaws.{decode-number, decode-in-map}
 use Rattle.laws.proofs.ValidLaws.{facts}
-use Rattle.laws.specs.Assigned.{assigned}
+use Rattle.laws.specs.InMap.{inMap}
 use Rattle.rules.specs.Access.{value, locked, clears}
 use Rattle.rules.specs.Map.{decode, numberOf, isRegister, guard}
 use Rattle.rules.specs.State.{most, classCount}
@@ -43,14 +43,14 @@ record Kept (f g : Handler) (q : Register) : Type 0 where
   pub holds : value g q ≡ value f q
 
 -- one tick more
-kept-next : (f g : Handler) (x : Input) (q : Register) → f .n ≤ most → assigned (f .n) q ≡ true → Kept f g q → Kept f (after g x) q
+kept-next : (f g : Handler) (x : Input) (q : Register) → f .n ≤ most → inMap (f .n) q ≡ true → Kept f g q → Kept f (after g x) q
 kept-next f g x q m a k =
-    let l = after-locked g x q (omega (arith, k .n)) (ap (λ (n : ℕ). assigned n q) (k .n) ∙ a) (k .still) in
+    let l = after-locked g x q (omega (arith, k .n)) (ap (λ (n : ℕ). inMap n q) (k .n) ∙ a) (k .still) in
     record { n = after-n g x ∙ k .n; still = l .0; holds = l .1 ∙ k .holds }
 
 module _ (h : Handler) (xs : List Input) (v : valid h ≡ true) where
   -- d ticks more
-  kept : (i d : ℕ) (q : Register) → i + d ≤ length xs → assigned (at h xs i .n) q ≡ true → locked (at h xs i) q ≡ true
+  kept : (i d : ℕ) (q : Register) → i + d ≤ length xs → inMap (at h xs i .n) q ≡ true → locked (at h xs i) q ≡ true
       → Kept (at h xs i) (at h xs (i + d)) q
   kept i zero q l a e = rw add-zero (record { n = refl; still = e; holds = refl })
   kept i (suc d) q l a e =
@@ -64,7 +64,7 @@ module _ (h : Handler) (xs : List Input) (v : valid h ≡ true) where
       let s : i + (j - i) ≡ j = omega arith in
       let k : Kept (at h xs i) (at h xs j) q =
       rw s at
-      (kept i (j - i) q (omega arith) (decode-assigned (at h xs i .n) r (locked-register (at h xs i) q e)) e) in
+      (kept i (j - i) q (omega arith) (decode-in-map (at h xs i .n) r (locked-register (at h xs i) q e)) e) in
       let d : decode (at h xs j .n) r ≡ q = ap (λ (n : ℕ). decode n r) (k .n) in
       (ap (locked (at h xs j)) d ∙ k .still, ap (value (at h xs j)) d ∙ k .holds)
 

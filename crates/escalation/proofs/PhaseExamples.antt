@@ -7,14 +7,15 @@ use mathlib.Core.Bool.{true}
 use mathlib.Core.List.{List, [], _∷_}
 use native.Mathlib.Omega.{arith}
 use lib.ListN.{length}
-use Rattle.classes.proofs.ClassLaws.{state-number}
-use Rattle.classes.specs.Class.{phase, stateOf, stateNumber}
-use Rattle.classes.specs.declared.Class.{Class}
-use Rattle.classes.specs.declared.ClassState.{ClassState}
-use Rattle.classes.specs.declared.ClassState.the-variants.{Terminal}
+use Rattle.class_rules.proofs.ClassLaws.{state-number}
+use Rattle.class_rules.specs.Class.{phase, stateOf, stateNumber}
+use Rattle.class_rules.specs.declared.Class.{Class}
+use Rattle.class_rules.specs.declared.ClassState.{ClassState}
+use Rattle.class_rules.specs.declared.ClassState.the-variants.{Terminal}
 use Rattle.laws.proofs.StateNumber.{number-state}
 use Rattle.laws.proofs.ValidLaws.{facts}
-use Rattle.rules.proofs.Scenes.{rules, raise, none}
+use Rattle.rules.specs.Scenes.{raise, none}
+use Rattle.rules.proofs.Scenes.{rules}
 use Rattle.rules.specs.Run.{run}
 use Rattle.rules.specs.State.{classCount, classAt}
 use Rattle.rules.specs.Valid.{valid}

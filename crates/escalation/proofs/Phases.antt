@@ -9,13 +9,13 @@ use native.Mathlib.Nat.{add-zero, add-suc, le-refl, le-trans}
 use native.Mathlib.Decide.{decLt}
 use borrow.Author.Tests.{leb-true, leb-false}
 use lib.Dec.{leb}
-use Rattle.classes.specs.Class.{phaseCyc, phase, stateOf}
-use Rattle.classes.specs.Step.{at, afterPhase, inPhase, movedFrom, moved}
-use Rattle.classes.specs.declared.Class.{Class}
-use Rattle.classes.specs.declared.ClassState.{ClassState}
-use Rattle.classes.specs.declared.ClassState.the-variants.{Idle, Timeout, Phase0, Phase1, Phase2, Phase3, Terminal}
-use Rattle.classes.specs.declared.Place.{Place}
-use Rattle.classes.specs.declared.Signals.{Signals}
+use Rattle.class_rules.specs.Class.{phaseCyc, phase, stateOf}
+use Rattle.class_rules.specs.Step.{at, afterPhase, inPhase, movedFrom, moved}
+use Rattle.class_rules.specs.declared.Class.{Class}
+use Rattle.class_rules.specs.declared.ClassState.{ClassState}
+use Rattle.class_rules.specs.declared.ClassState.the-variants.{Idle, Timeout, Phase0, Phase1, Phase2, Phase3, Terminal}
+use Rattle.class_rules.specs.declared.Place.{Place}
+use Rattle.class_rules.specs.declared.Signals.{Signals}
 use Rattle.escalation.specs.Escalation.{phaseStart}
 
 -- the state and count of a class

@@ -9,13 +9,13 @@ use borrow.Author.Tests.{leb-true}
 use lib.Dec.{leb}
 use Rattle.bits.specs.Index.{anyTo}
 use Rattle.bits.proofs.IndexLaws.{and-true, any-some}
-use Rattle.classes.specs.Class.{en, enabled, lineEnable}
-use Rattle.classes.specs.Step.{trigger, due, at, startsFrom, movedFrom}
-use Rattle.classes.specs.declared.Class.{Class}
-use Rattle.classes.specs.declared.ClassState.{ClassState}
-use Rattle.classes.specs.declared.ClassState.the-variants.{Idle, Timeout, Phase0, Phase1, Phase2, Phase3, Terminal}
-use Rattle.classes.specs.declared.Place.{Place}
-use Rattle.classes.specs.declared.Signals.{Signals}
+use Rattle.class_rules.specs.Class.{en, enabled, lineEnable}
+use Rattle.class_rules.specs.Step.{trigger, due, at, startsFrom, movedFrom}
+use Rattle.class_rules.specs.declared.Class.{Class}
+use Rattle.class_rules.specs.declared.ClassState.{ClassState}
+use Rattle.class_rules.specs.declared.ClassState.the-variants.{Idle, Timeout, Phase0, Phase1, Phase2, Phase3, Terminal}
+use Rattle.class_rules.specs.declared.Place.{Place}
+use Rattle.class_rules.specs.declared.Signals.{Signals}
 
 -- a class that has not started
 abbrev pub Unstarted : ClassState → Type 0

@@ -7,12 +7,13 @@ use mathlib.Core.Bool.{true, false, false≢true}
 use mathlib.Core.List.{List, [], _∷_}
 use native.Mathlib.Omega.{arith}
 use lib.ListN.{set, replicate}
-use Rattle.classes.specs.Class.{lineEnable}
-use Rattle.classes.specs.Step.{trigger, starts}
-use Rattle.classes.specs.declared.Class.{Class}
-use Rattle.classes.specs.declared.ClassState.the-variants.{Timeout, Phase0}
-use Rattle.rules.proofs.Scenes.{rules, rest, raise, none, write, settings, station}
-use Rattle.rules.specs.Access.{withSetting, clears}
+use Rattle.class_rules.specs.Class.{lineEnable}
+use Rattle.class_rules.specs.Step.{trigger, starts}
+use Rattle.class_rules.specs.declared.Class.{Class}
+use Rattle.class_rules.specs.declared.ClassState.the-variants.{Timeout, Phase0}
+use Rattle.rules.specs.Scenes.{rest, raise, none, write}
+use Rattle.rules.proofs.Scenes.{rules, settings, station}
+use Rattle.rules.specs.Access.{clears}
 use Rattle.rules.specs.Run.{run, ticks}
 use Rattle.rules.specs.State.{classCount, classAt}
 use Rattle.rules.specs.Tick.{ticked}
@@ -28,9 +29,24 @@ use Rattle.escalation.proofs.Demand3.{demand3}
 
 -- ── scenes: 64 alerts, of which the last is enabled, in class k ──
 
+-- a class with REGWEN 0
+abbrev shut : Class → Class
+shut c =
+    record {
+      lengths = c .lengths;
+      timeout = c .timeout;
+      count = c .count;
+      ctrl = c .ctrl;
+      accum = c .accum;
+      thresh = c .thresh;
+      regwen = 0;
+      clrwen = c .clrwen;
+      state = c .state;
+    }
+
 -- a locked class with EN, LOCK and all lines, line e in phase e
 abbrev pub locked : ℕ → ℕ → List ℕ → Class
-locked thresh timeout lengths = withSetting Setting.Regwen 0 (settings 0x393F thresh timeout lengths)
+locked thresh timeout lengths = shut (settings 0x393F thresh timeout lengths)
 
 abbrev pub post : ℕ → Class → Handler
 post k c = station 64 (set (replicate 64 0) 63 1) (set (replicate 64 0) 63 k) k c
@@ -122,7 +138,7 @@ with-line = start-is waiting (rest none) 3 refl (omega arith) .line (by-timeout 
 
 -- which may be line 3 alone
 abbrev lastLine : Handler
-lastLine = post 2 (withSetting Setting.Regwen 0 (settings 0x3923 0 0 nines))
+lastLine = post 2 (shut (settings 0x3923 0 0 nines))
 
 by-last-line : Starts lastLine (raise 63 none) 2 × (lineEnable (classRead lastLine (raise 63 none) 2) 0 ≡ false)
 unfolding rules
@@ -130,7 +146,7 @@ by-last-line = (record { is-class = omega arith; is-start = refl; is-locked = re
 
 -- and the same class without line enables does not start
 abbrev lineless : Handler
-lineless = post 2 (withSetting Setting.Regwen 0 (settings 0x3903 0 0 nines))
+lineless = post 2 (shut (settings 0x3903 0 0 nines))
 
 no-start : starts (met lineless (raise 63 none) 2) (classRead lineless (raise 63 none) 2) ≡ false
 unfolding rules

@@ -9,11 +9,11 @@ use mathlib.Core.Bool.{true, false}
 use mathlib.Core.List.{List}
 use lib.ListN.{getD, length, take}
 use Rattle.bits.specs.Bits.{bit}
-use Rattle.classes.specs.Class.{en, lock, lineEnable, lineMap, phaseCyc, phase, stateOf, drives}
-use Rattle.classes.specs.Step.{trigger, due, starts}
-use Rattle.classes.specs.declared.Class.{Class}
-use Rattle.classes.specs.declared.ClassState.{ClassState}
-use Rattle.classes.specs.declared.ClassState.the-variants.{Idle, Timeout, Phase0, Terminal}
+use Rattle.class_rules.specs.Class.{en, lock, lineEnable, lineMap, phaseCyc, phase, stateOf, drives}
+use Rattle.class_rules.specs.Step.{trigger, due, starts}
+use Rattle.class_rules.specs.declared.Class.{Class}
+use Rattle.class_rules.specs.declared.ClassState.{ClassState}
+use Rattle.class_rules.specs.declared.ClassState.the-variants.{Idle, Timeout, Phase0, Terminal}
 use Rattle.escalation.specs.List.{IsTick, before, inputAt, givenAt, noInput, classRead, met}
 use Rattle.rules.specs.Access.{value, locked, clears}
 use Rattle.rules.specs.Map.{decode, numberOf}

@@ -3,9 +3,9 @@
 use Prim.Native.Nat.{ℕ, _+_, _-_, _≤_, _<_}
 use mathlib.Core.List.{List, []}
 use lib.ListN.{getD, length, take}
-use Rattle.classes.specs.declared.Class.{Class}
-use Rattle.classes.specs.declared.Signals.{Signals}
-use Rattle.rules.specs.Access.{acted, clears}
+use Rattle.class_rules.specs.declared.Class.{Class}
+use Rattle.class_rules.specs.declared.Signals.{Signals}
+use Rattle.rules.specs.Access.{acted, effects}
 use Rattle.rules.specs.Run.{run, ticks}
 use Rattle.rules.specs.State.{classAt, newHandler}
 use Rattle.rules.specs.Tick.{signals, noOutput}
@@ -45,4 +45,4 @@ abbrev pub classRead : Handler → Input → ℕ → Class
 classRead g x k = classAt (acted g (x .access)) k
 
 abbrev pub met : Handler → Input → ℕ → Signals
-met g x k = signals (acted g (x .access)) (x .sample .alerts) (clears g (x .access)) k
+met g x k = signals (acted g (x .access)) (x .sample .alerts) (effects g (x .access)) k

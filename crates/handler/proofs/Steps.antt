@@ -2,19 +2,19 @@
 -- Assumes nothing.
 use Prim.Native.Nat.{ℕ, _<_}
 use mathlib.Core.Path.{_≡_, ap, ap₂, _∙_}
-use mathlib.Core.Bool.{Bool}
 use mathlib.Core.List.{List}
 use Rattle.bits.specs.Bits.{bitsOf}
 use Rattle.bits.specs.Index.{each}
 use Rattle.bits.proofs.BitLaws.{bit-bitsOf, bitsOf-lt, is-bitsOf}
 use Rattle.bits.proofs.IndexLaws.{each-ext}
-use Rattle.classes.specs.Class.{noClass}
-use Rattle.classes.specs.Step.{classStep}
-use Rattle.classes.specs.declared.Class.{Class}
-use Rattle.classes.specs.declared.Signals.{Signals}
+use Rattle.class_rules.specs.Class.{noClass}
+use Rattle.class_rules.specs.Step.{classStep}
+use Rattle.class_rules.specs.declared.Class.{Class}
+use Rattle.class_rules.specs.declared.Signals.{Signals}
 use Rattle.rules.specs.Samples.{assigned, sampled}
 use Rattle.rules.specs.State.{classCount, classAt, withInterrupts, withClasses}
 use Rattle.rules.specs.Tick.{event, interruptNow, signals, stepped}
+use Rattle.rules.specs.declared.Effects.{Effects}
 use Rattle.rules.specs.declared.Handler.{Handler}
 use Rattle.rules.specs.declared.Wires.{Wires}
 use Rattle.handler.specs.Classes.{interruptBy, metBy, classesBy, interruptsBy}
@@ -27,20 +27,20 @@ abbrev pub joined : Handler → ℕ → ℕ → Handler
 joined s assigned clears =
     withStepped (classesBy (s .classes) (s .interrupts .state) assigned clears) (interruptsBy (s .classes) (s .interrupts .state) assigned) s
 
-module _ (g : Handler) (w : Wires) (clear : ℕ → Bool) where
+module _ (g : Handler) (w : Wires) (fx : Effects) where
   -- class k's interrupt bit, from the mask of what is assigned
   interrupt-by : (k : ℕ) → k < 4 → interruptBy (classAt g k) k (g .interrupts .state) (bitsOf 4 (assigned g w)) ≡ interruptNow g w k
   unfolding interruptBy interruptNow event
   interrupt-by k l = rw (bit-bitsOf 4 (assigned g w) k l)
 
   -- what it meets, from the masks
-  met-by : (k : ℕ) → k < 4 → metBy (classAt g k) k (g .interrupts .state) (bitsOf 4 (assigned g w)) (bitsOf 4 clear) ≡ signals g w clear k
+  met-by : (k : ℕ) → k < 4 → metBy (classAt g k) k (g .interrupts .state) (bitsOf 4 (assigned g w)) (fx .clears) ≡ signals g w fx k
   unfolding metBy signals event
-  met-by k l = rw (interrupt-by k l, bit-bitsOf 4 (assigned g w) k l, bit-bitsOf 4 clear k l)
+  met-by k l = rw (interrupt-by k l, bit-bitsOf 4 (assigned g w) k l)
 
   -- the four classes, and INTR_STATE
-  classes-by : classesBy (g .classes) (g .interrupts .state) (bitsOf 4 (assigned g w)) (bitsOf 4 clear)
-      ≡ each classCount (λ k. classStep (signals g w clear k) (classAt g k))
+  classes-by : classesBy (g .classes) (g .interrupts .state) (bitsOf 4 (assigned g w)) (fx .clears)
+      ≡ each classCount (λ k. classStep (signals g w fx k) (classAt g k))
   unfolding classesBy
   classes-by = each-ext classCount _ _ noClass (λ k l. ap (λ (s : Signals). classStep s (classAt g k)) (met-by k l))
 
@@ -49,6 +49,6 @@ module _ (g : Handler) (w : Wires) (clear : ℕ → Bool) where
   interrupts-by = is-bitsOf 4 _ (interruptNow g w) (bitsOf-lt 4 _) (λ k l. bit-bitsOf 4 _ k l ∙ interrupt-by k l)
 
   -- so the code's parts are the state after steps 2 to 4
-  pub stepped-by : joined (sampled g w) (bitsOf 4 (assigned g w)) (bitsOf 4 clear) ≡ stepped g w clear
+  pub stepped-by : joined (sampled g w) (bitsOf 4 (assigned g w)) (fx .clears) ≡ stepped g w fx
   unfolding stepped sampled
   stepped-by = ap₂ (λ (cs : List Class) (i : ℕ). withStepped cs i (sampled g w)) classes-by interrupts-by

@@ -4,8 +4,8 @@ use Prim.Native.Nat.{ℕ, _≤_}
 use mathlib.Core.Path.{_≡_, sym, ap, ap₂, subst, _∙_}
 use mathlib.Core.List.{List}
 use Rattle.bits.specs.Bits.{bitsOf}
-use Rattle.classes.specs.declared.Class.{Class}
-use Rattle.rules.specs.Access.{acted, answerTo, clears, accessed}
+use Rattle.class_rules.specs.declared.Class.{Class}
+use Rattle.rules.specs.Access.{accessed, acted, answerTo, effects}
 use Rattle.rules.specs.Samples.{assigned, sampled}
 use Rattle.rules.specs.State.{most}
 use Rattle.rules.specs.Tick.{interrupts, lines, outputOf, after, tick}
@@ -26,7 +26,7 @@ use Rattle.handler.proofs.Steps.{withStepped, joined, stepped-by}
 
 -- an access leaves N
 pub accessed-most : (h : Handler) (x : Access) (a : Accessed) → a ≡ accessed h x → h .n ≤ most → a .handler .n ≤ most
-unfolding accessed
+unfolding acted
 accessed-most h x a e l = subst (λ (n : ℕ). n ≤ most) (sym (ap (λ (b : Accessed). b .handler .n) e ∙ acted-n h x)) l
 
 -- the end of a tick: its outputs from the state now reached
@@ -37,14 +37,14 @@ ends a g = record { handler = g; answer = a; output = outputOf g }
 module _ (h : Handler) (x : Input) (a : Accessed) (s : Sampled) (i : ℕ) (cs : List Class) (o : Output) where
   pub tick-by : a ≡ accessed h (x .access) → SampledBy (a .handler) (x .sample .alerts) s
       → i ≡ interruptsBy (s .handler .classes) (s .handler .interrupts .state) (s .assigned)
-      → cs ≡ classesBy (s .handler .classes) (s .handler .interrupts .state) (s .assigned) (a .clears)
+      → cs ≡ classesBy (s .handler .classes) (s .handler .interrupts .state) (s .assigned) (a .effects .clears)
       → o ≡ record { interrupts = interruptsOn i (s .handler .interrupts .enable); lines = linesOn cs }
       → _≡_ {A = Ticked} (record { handler = withStepped cs i (s .handler); answer = a .answer; output = o }) (tick h x)
-  unfolding accessed after tick outputOf interrupts lines interruptsOn linesOn
+  unfolding acted answerTo effects after tick outputOf interrupts lines interruptsOn linesOn
   tick-by ea es ei ec eo =
       let w : Wires = x .sample .alerts in
       ap (λ (p : Output). record { handler = withStepped cs i (s .handler); answer = a .answer; output = p }) eo
       ∙ ap₂ (λ (j : ℕ) (ds : List Class). ends (a .answer) (withStepped ds j (s .handler))) ei ec
-      ∙ ap₂ (λ (g : Handler) (m : ℕ). ends (a .answer) (joined g m (a .clears))) (es .handler) (es .assigns)
-      ∙ ap (λ (b : Accessed). ends (b .answer) (joined (sampled (b .handler) w) (bitsOf 4 (assigned (b .handler) w)) (b .clears))) ea
-      ∙ ap (ends (answerTo h (x .access))) (stepped-by (acted h (x .access)) w (clears h (x .access)))
+      ∙ ap₂ (λ (g : Handler) (m : ℕ). ends (a .answer) (joined g m (a .effects .clears))) (es .handler) (es .assigns)
+      ∙ ap (λ (b : Accessed). ends (b .answer) (joined (sampled (b .handler) w) (bitsOf 4 (assigned (b .handler) w)) (b .effects .clears))) ea
+      ∙ ap (ends (answerTo h (x .access))) (stepped-by (acted h (x .access)) w (effects h (x .access)))

@@ -6,10 +6,10 @@ use mathlib.Core.List.{List}
 use lib.ListN.{getD}
 use Rattle.bits.specs.Bits.{bit, bitsOf}
 use Rattle.bits.specs.Index.{each}
-use Rattle.classes.specs.Class.{noClass}
-use Rattle.classes.specs.Step.{classEvent, classStep}
-use Rattle.classes.specs.declared.Class.{Class}
-use Rattle.classes.specs.declared.Signals.{Signals}
+use Rattle.class_rules.specs.Class.{noClass}
+use Rattle.class_rules.specs.Step.{classEvent, classStep}
+use Rattle.class_rules.specs.declared.Class.{Class}
+use Rattle.class_rules.specs.declared.Signals.{Signals}
 use Rattle.rules.specs.State.{classCount}
 
 -- the interrupt bit of class k, c, now

@@ -6,8 +6,8 @@ use mathlib.Core.List.{List}
 use lib.ListN.{getD}
 use Rattle.bits.specs.Bits.{bit, bitsOf}
 use Rattle.bits.specs.Index.{anyTo}
-use Rattle.classes.specs.Class.{drives, noClass}
-use Rattle.classes.specs.declared.Class.{Class}
+use Rattle.class_rules.specs.Class.{drives, noClass}
+use Rattle.class_rules.specs.declared.Class.{Class}
 use Rattle.rules.specs.State.{classCount}
 
 -- INTR_STATE and INTR_ENABLE, bit by bit

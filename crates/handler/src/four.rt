@@ -1,28 +1,22 @@
 // Steps 3 and 4 of the four classes. Masks have a bit for each class, class 0 lowest.
 use class::step::event;
 use class::step::step;
-use classes::Class;
-use classes::Signals;
+use class_rules::Class;
+use class_rules::Signals;
+use masks::is_set;
+use masks::num;
 ghost use mathlib.Core.Path.{_≡_};
 ghost use Prim.Native.Nat.{_<_, _≤_};
-ghost use Rattle.bits.specs.Bits.{bit, num};
-ghost use Rattle.classes.specs.Step.{classStep};
+ghost use Rattle.bits.specs.Bits.{num};
+ghost use Rattle.class_rules.specs.Step.{classStep};
 ghost use Rattle.handler.specs.Classes.{interruptBy, metBy, classesBy, interruptsBy};
-
-// Bit k of a mask.
-fn is_set(mask: u8, k: u32) -> bool
-    requires { ⌜ k < 4 ⌝ }
-    ensures { λ r. ⌜ r ≡ bit mask k ⌝ }
-{
-    (mask >> k) % 2 == 1
-}
 
 // The interrupt bit of class k now: an event sets it, after any clearing in step 1.
 fn interrupt(c: Class, k: u32, state: u8, assigned: u8) -> bool
     requires { ⌜ k < 4 ⌝ }
     ensures { λ r. ⌜ r ≡ interruptBy c k state assigned ⌝ }
 {
-    is_set(state, k) | event(is_set(assigned, k), c)
+    is_set(state as u16, k) | event(is_set(assigned as u16, k), c)
 }
 
 // What class k meets in this tick.
@@ -31,9 +25,9 @@ fn meet(c: Class, k: u32, state: u8, assigned: u8, clears: u8) -> Signals
     ensures { λ r. ⌜ r ≡ metBy c k state assigned clears ⌝ }
 {
     Signals {
-        event: event(is_set(assigned, k), c),
+        event: event(is_set(assigned as u16, k), c),
         interrupt: interrupt(c, k, state, assigned),
-        clear: is_set(clears, k),
+        clear: is_set(clears as u16, k),
     }
 }
 
@@ -62,11 +56,7 @@ fn interrupt_bit(c: Class, k: u32, state: u8, assigned: u8) -> u8
     requires { ⌜ k < 4 ⌝ }
     ensures { λ r. ⌜ (r ≡ num (interruptBy c k state assigned)) × (r ≤ 1) ⌝ }
 {
-    if interrupt(c, k, state, assigned) {
-        1
-    } else {
-        0
-    }
+    num(interrupt(c, k, state, assigned))
 }
 
 // INTR_STATE after step 3.

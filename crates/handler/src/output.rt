@@ -1,6 +1,6 @@
 // Step 5 of a tick: outputs from the state now reached. Masks have a bit for each class or line, 0 lowest.
 use class::lines::lines;
-use classes::Class;
+use class_rules::Class;
 use rules::Output;
 ghost use mathlib.Core.Path.{_≡_};
 ghost use Rattle.handler.specs.Outputs.{interruptsOn, linesOn};

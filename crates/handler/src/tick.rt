@@ -2,6 +2,7 @@
 use crate::four::classes_after;
 use crate::four::interrupts_after;
 use crate::output::output;
+use answers::signed;
 use registers::access::access;
 use rules::Answer;
 use rules::Handler;
@@ -11,7 +12,6 @@ use rules::Output;
 use rules::Refusal;
 use rules::Ticked;
 use samples::sample;
-use state::answer::signed;
 use state::valid::is_valid;
 ghost use mathlib.Core.Path.{_≡_};
 ghost use Prim.Native.Nat.{_≤_};
@@ -45,7 +45,7 @@ pub fn step(h: Handler, x: Input) -> Ticked
         before,
         next.interrupts.state,
         sampled.assigned,
-        accessed.clears,
+        accessed.effects.clears,
     );
     let enable = next.interrupts.enable;
     next.classes = classes;

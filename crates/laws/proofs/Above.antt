@@ -12,9 +12,9 @@ use Rattle.bits.proofs.BitLaws.{bit-ones}
 use Rattle.bits.proofs.IndexLaws.{and-true}
 use Rattle.bits.specs.Bits.{place}
 use Rattle.bits.specs.Index.{placeIn}
-use Rattle.rules.specs.Access.{store, fieldStored, accepted, written, acted, clears}
+use Rattle.rules.specs.Access.{store, fieldStored, written, acted, effects}
 use Rattle.rules.specs.Batch.{batch, batchOf, batchInputs, batchVerdict}
-use Rattle.rules.specs.Map.{alertAt, decode, blockAt, within, stride, classBase}
+use Rattle.rules.specs.Map.{decode, isRegister}
 use Rattle.rules.specs.Run.{run}
 use Rattle.rules.specs.Samples.{alertEvent, rearmed, sampled}
 use Rattle.rules.specs.State.{most, words, alert, alertColumn, armed, newHandler, badCount, made}
@@ -23,18 +23,23 @@ use Rattle.rules.specs.Valid.{valid}
 use Rattle.rules.specs.declared.Access.{Access}
 use Rattle.rules.specs.declared.Access.the-variants.{Nothing, Read, Write, Malformed}
 use Rattle.rules.specs.declared.Alerts.{Alerts}
+use Rattle.rules.specs.declared.Effects.{Effects}
 use Rattle.rules.specs.declared.Field.{Field}
+use Rattle.rules.specs.declared.Edition.{Edition}
 use Rattle.rules.specs.declared.Handler.{Handler}
 use Rattle.rules.specs.declared.Input.{Input}
 use Rattle.rules.specs.declared.Made.{Made}
 use Rattle.rules.specs.declared.Receivers.{Receivers}
 use Rattle.rules.specs.declared.Register.{Register}
-use Rattle.rules.specs.declared.Register.the-variants.{IntrState, IntrEnable, IntrTest, Local, Alert, Block, Unassigned}
+use Rattle.rules.specs.declared.Register.the-variants.{Alert}
 use Rattle.rules.specs.declared.Ticked.{Ticked}
 use Rattle.rules.specs.declared.Wires.{Wires}
 use Rattle.laws.specs.Above.{SameAbove, EntriesNew, atReset}
+use Rattle.laws.specs.InMap.{inMap}
 use Rattle.laws.specs.Columns.{sameField}
-use Rattle.laws.proofs.Cases.{pick}
+use Rattle.laws.proofs.Cases.{pick, by-kind}
+use Rattle.laws.proofs.MapLaws.{decode-in-map}
+use Rattle.laws.proofs.Step1.{acted-either}
 use Rattle.laws.proofs.StateLaws.{alert-store, alert-sampled, armed-sampled}
 
 -- a state with the same N, alerts and receivers
@@ -58,52 +63,6 @@ then h g k a b =
       receivers = λ i l c. b .receivers i (omega (arith, a .n)) c ∙ a .receivers i l c;
     }
 
--- ── a register number names no alert at N and above ──
-
-abbrev below : ℕ → Register → Bool
-below n IntrState = true
-below n IntrEnable = true
-below n IntrTest = true
-below n (Local f j) = true
-below n (Alert f i) = ltb i n
-below n (Block s k) = true
-below n Unassigned = true
-
-abbrev Below : ℕ → Register → Type 0
-Below n q = below n q ≡ true
-
-block-below : (n k o : ℕ) → Below n (blockAt k o)
-unfolding blockAt
-block-below n k o =
-    pick (Below n) (eqb o 0) _ _ (λ _. refl)
-    (λ _. pick (Below n) (eqb o 1) _ _ (λ _. refl)
-    (λ _. pick (Below n) (eqb o 2) _ _ (λ _. refl)
-    (λ _. pick (Below n) (eqb o 3) _ _ (λ _. refl)
-    (λ _. pick (Below n) (eqb o 4) _ _ (λ _. refl)
-    (λ _. pick (Below n) (eqb o 5) _ _ (λ _. refl)
-    (λ _. pick (Below n) (eqb o 6) _ _ (λ _. refl)
-    (λ _. pick (Below n) (within 7 4 o) _ _ (λ _. refl)
-    (λ _. pick (Below n) (eqb o 11) _ _ (λ _. refl) (λ _. pick (Below n) (eqb o 12) _ _ (λ _. refl) (λ _. refl))))))))))
-
-alert-below : (n : ℕ) (f : Field) (i : ℕ) → Below n (alertAt n f i)
-alert-below n f i = pick (Below n) (ltb i n) (Alert f i) Unassigned (λ e. e) (λ _. refl)
-
-decode-below : (n r : ℕ) → Below n (decode n r)
-unfolding decode
-decode-below n r =
-    pick (Below n) (eqb r 0) _ _ (λ _. refl)
-    (λ _. pick (Below n) (eqb r 1) _ _ (λ _. refl)
-    (λ _. pick (Below n) (eqb r 2) _ _ (λ _. refl)
-    (λ _. pick (Below n) (within 16 7 r) _ _ (λ _. refl)
-    (λ _. pick (Below n) (within 24 7 r) _ _ (λ _. refl)
-    (λ _. pick (Below n) (within 32 7 r) _ _ (λ _. refl)
-    (λ _. pick (Below n) (within 40 7 r) _ _ (λ _. refl)
-    (λ _. pick (Below n) (within stride stride r) _ _ (λ _. alert-below n Field.Regwen (r - stride))
-    (λ _. pick (Below n) (within (2 * stride) stride r) _ _ (λ _. alert-below n Field.En (r - 2 * stride))
-    (λ _. pick (Below n) (within (3 * stride) stride r) _ _ (λ _. alert-below n Field.Class (r - 3 * stride))
-    (λ _. pick (Below n) (within (4 * stride) stride r) _ _ (λ _. alert-below n Field.Cause (r - 4 * stride))
-    (λ _. pick (Below n) (within classBase (16 * 4) r) _ _ (λ _. block-below n _ _) (λ _. refl))))))))))))
-
 -- ── step 1 ──
 
 -- a write to alert j leaves the alerts above it
@@ -113,26 +72,27 @@ alert-kept h g j v f i l b =
     ∙ pick (λ (m : ℕ). m ≡ alert h f i) (sameField g f && eqb i j) (fieldStored g (alert h g j) v) (alert h f i)
     (λ e. absurd (omega (arith, eqb-true i j (and-true (sameField g f) (eqb i j) e .1)))) (λ _. refl)
 
-store-above : (h : Handler) (q : Register) (v : ℕ) → Below (h .n) q → SameAbove h (store h q v)
+-- a register number names no alert at N and above
+store-above : (h : Handler) (q : Register) (v : ℕ) → (isRegister q ≡ true → inMap (h .n) q ≡ true) → SameAbove h (store h q v)
 unfolding store
-store-above h IntrState v e = kept h _ refl refl refl
-store-above h IntrEnable v e = kept h _ refl refl refl
-store-above h IntrTest v e = kept h _ refl refl refl
-store-above h (Local g j) v e = kept h _ refl refl refl
-store-above h (Alert g j) v e =
-    record { n = refl; alerts = λ f i l b. alert-kept h g j v f i (omega (arith, ltb-true j (h .n) e)) b; receivers = λ i l b. refl }
-store-above h (Block s k) v e = kept h _ refl refl refl
-store-above h Unassigned v e = same h
+store-above h q v =
+    by-kind (λ q. (isRegister q ≡ true → inMap (h .n) q ≡ true) → SameAbove h (store h q v)) (λ e. kept h _ refl refl refl)
+    (λ e. kept h _ refl refl refl) (λ e. kept h _ refl refl refl) (λ g j e. kept h _ refl refl refl)
+    (λ g j e. record {
+      n = refl;
+      alerts = λ f i l b. alert-kept h g j v f i (omega (arith, ltb-true j (h .n) (e refl))) b;
+      receivers = λ i l b. refl;
+    })
+    (λ s k e. kept h _ refl refl refl) (λ e. same h) q
 
 written-above : (h : Handler) (x : Access) → SameAbove h (written h x)
 written-above h Nothing = same h
 written-above h (Read r) = same h
-written-above h (Write r v) = store-above h (decode (h .n) r) v (decode-below (h .n) r)
+written-above h (Write r v) = store-above h (decode (h .n) r) v (decode-in-map (h .n) r)
 written-above h Malformed = same h
 
 acted-above : (h : Handler) (x : Access) → SameAbove h (acted h x)
-unfolding acted
-acted-above h x = pick (SameAbove h) (accepted h x) (written h x) h (λ _. written-above h x) (λ _. same h)
+acted-above h x = acted-either h x (SameAbove h) (λ _. written-above h x) (λ _. same h)
 
 -- ── steps 2 to 4: samples at N and above count for nothing ──
 
@@ -151,9 +111,9 @@ module _ (g : Handler) (w : Wires) where
   unfolding rearmed
   rearmed-above i l = rw (le-ltb i (g .n) l)
 
-  stepped-above : (clear : ℕ → Bool) → SameAbove g (stepped g w clear)
+  stepped-above : (fx : Effects) → SameAbove g (stepped g w fx)
   unfolding stepped sampled
-  stepped-above clear =
+  stepped-above fx =
       record { n = refl; alerts = sampled-alerts; receivers = λ i l b. armed-sampled g w i b ∙ rearmed-above i l }
 
 -- ── ticks ──
@@ -163,7 +123,7 @@ pub after-above : (h : Handler) (x : Input) → SameAbove h (after h x)
 unfolding after
 after-above h x =
     let g : Handler = acted h (x .access) in
-    then h g (stepped g (x .sample .alerts) (clears h (x .access))) (acted-above h (x .access)) (stepped-above g (x .sample .alerts) (clears h (x .access)))
+    then h g (stepped g (x .sample .alerts) (effects h (x .access))) (acted-above h (x .access)) (stepped-above g (x .sample .alerts) (effects h (x .access)))
 
 -- a tick, refused or not
 pub ticked-above : (h : Handler) (x : Input) → SameAbove h (ticked h x .handler)
@@ -177,9 +137,9 @@ run-above h [] = same h
 run-above h (x ∷ xs) = then h (ticked h x .handler) (run (ticked h x .handler) xs) (ticked-above h x) (run-above (ticked h x .handler) xs)
 
 -- a batch, refused or not
-pub batch-above : (h : Handler) (bytes out : List ℕ) → SameAbove h (batch h bytes out .handler)
+pub batch-above : (e : Edition) (h : Handler) (bytes out : List ℕ) → SameAbove h (batch e h bytes out .handler)
 unfolding batch batchOf
-batch-above h bytes out = run-above h (batchInputs (batchVerdict h bytes out) bytes)
+batch-above e h bytes out = run-above h (batchInputs e (batchVerdict e h bytes out) bytes)
 
 -- ── a new handler has them at reset, also where refusal 6 is met ──
 

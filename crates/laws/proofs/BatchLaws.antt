@@ -1,51 +1,78 @@
 -- A batch: refused, it changes nothing; otherwise it gives what its ticks give one by one, and a trace may be cut between records.
 -- Assumes nothing.
-use Prim.Native.Nat.{ℕ, _+_, _-_, _*_, _%_, _≤_, _<_}
+use Prim.Native.Nat.{ℕ, _+_, _-_, _*_, _/_, _%_, _≤_, _<_}
 use mathlib.Core.Path.{_≡_, sym, ap, ap₂, _∙_}
 use mathlib.Core.Bool.{true}
 use mathlib.Core.List.{List, [], _++_, map, map-append, append-assoc}
 use native.Mathlib.Decide.{decLt}
 use native.Mathlib.Omega.{arith}
-use borrow.Author.Tests.{eq-eqb, le-ltb}
+use borrow.Author.Tests.{eq-eqb, le-leb, le-ltb, leb-true}
+use lib.Dec.{leb}
 use lib.ListN.{length, getD, take, drop, length-append, length-drop, length-map, List·getD-append}
 use lib.Seq.{take-append-le, drop-append-le, drop-append-add, getD-append-add, take-at, drop-at, drop-drop}
-use Rattle.bits.proofs.IndexLaws.{at-each, length-each, is-each}
+use Rattle.bits.proofs.IndexLaws.{and-true, true-and, at-each, length-each, is-each}
 use Rattle.bits.specs.Index.{each}
 use Rattle.rules.specs.Answer.{firstOf, number}
-use Rattle.rules.specs.Batch.{Batched, batch, batchOf, batchVerdict, inputsOf, recordAt, recordCount}
-use Rattle.rules.specs.Record.{inputOf, recordBytes, wordOf}
+use Rattle.rules.specs.Batch.{Batched, admits, batch, batchOf, batchVerdict}
+use Rattle.rules.specs.Edition.{recordBytes, alerts}
+use Rattle.rules.specs.Record.{inputOf, inputsOf, recordAt, recordCount}
 use Rattle.rules.specs.Run.{run, ticks}
 use Rattle.rules.specs.Valid.{valid}
 use Rattle.rules.specs.declared.Answer.{Answer}
+use Rattle.rules.specs.declared.Edition.{Edition}
+use Rattle.rules.specs.declared.Edition.the-variants.{Bytes24}
 use Rattle.rules.specs.declared.Handler.{Handler}
 use Rattle.rules.specs.declared.Input.{Input}
 use Rattle.rules.specs.declared.Refusal.{Refusal}
 use Rattle.rules.specs.declared.Verdict.{Verdict}
+use Rattle.rules.specs.Word.{wordOf}
 use Rattle.laws.specs.Batches.{ofTicks, behind, followed}
+use Rattle.laws.proofs.Above.{run-above}
 use Rattle.laws.proofs.KeepsValid.{run-valid}
+use Rattle.laws.proofs.PartLaws.{some-bytes, part-within, count-add, place-add, rest-add}
 use Rattle.laws.proofs.Runs.{run-append, ticks-append, length-ticks}
+use Rattle.laws.proofs.ValidLaws.{facts}
+
+-- ── the states that an edition admits ──
+
+pub admits-valid : (e : Edition) (h : Handler) → admits e h ≡ true → valid h ≡ true
+unfolding admits
+admits-valid e h a = and-true (valid h) (leb (h .n) (alerts e)) a .0
+
+-- any number of ticks leaves one
+pub run-admits : (e : Edition) (h : Handler) (xs : List Input) → admits e h ≡ true → admits e (run h xs) ≡ true
+unfolding admits
+run-admits e h xs a =
+    let b = and-true (valid h) (leb (h .n) (alerts e)) a in
+    true-and (run-valid h xs (b .0)) (ap (λ (n : ℕ). leb n (alerts e)) (run-above h xs .n) ∙ b .1)
+
+-- the records of 24 bytes speak of every alert that there is
+pub admits-all : (h : Handler) → valid h ≡ true → admits Edition.Bytes24 h ≡ true
+unfolding admits
+admits-all h v = true-and v (le-leb (h .n) 64 (facts h v .n))
 
 -- ── a refused batch ──
 
 -- it leaves the state and the list as they were
-pub batch-refused : (h : Handler) (bytes out : List ℕ) (m : Refusal) → batchVerdict h bytes out ≡ Verdict.Refused m → batch h bytes out ≡ record { handler = h; answer = number (Answer.Refused m); out = out }
+pub batch-refused : (e : Edition) (h : Handler) (bytes out : List ℕ) (m : Refusal) → batchVerdict e h bytes out ≡ Verdict.Refused m
+    → batch e h bytes out ≡ record { handler = h; answer = number (Answer.Refused m); out = out }
 unfolding batch batchOf run ticks
-batch-refused h bytes out m e = ap (λ (v : Verdict). batchOf v h bytes out) e
+batch-refused e h bytes out m r = ap (λ (v : Verdict). batchOf e v h bytes out) r
 
 -- ── any other ──
 
-module _ (h : Handler) (bytes out : List ℕ) where
-  verdict-good : valid h ≡ true → length bytes % recordBytes ≡ 0 → recordCount bytes ≤ length out → batchVerdict h bytes out ≡ Verdict.Accepted
+module _ (e : Edition) (h : Handler) (bytes out : List ℕ) where
+  verdict-good : admits e h ≡ true → length bytes % recordBytes e ≡ 0 → recordCount e bytes ≤ length out → batchVerdict e h bytes out ≡ Verdict.Accepted
   unfolding batchVerdict firstOf
-  verdict-good v w r = rw (v, eq-eqb (length bytes % recordBytes) 0 w, le-ltb (length out) (recordCount bytes) r)
+  verdict-good v w r = rw (v, eq-eqb (length bytes % recordBytes e) 0 w, le-ltb (length out) (recordCount e bytes) r)
 
   -- its answer is 0, its state and words those of its ticks
-  pub batch-good : valid h ≡ true → length bytes % recordBytes ≡ 0 → recordCount bytes ≤ length out → batch h bytes out ≡ ofTicks h bytes out
+  pub batch-good : admits e h ≡ true → length bytes % recordBytes e ≡ 0 → recordCount e bytes ≤ length out → batch e h bytes out ≡ ofTicks e h bytes out
   unfolding batch batchOf inputsOf
   batch-good v w r =
-      ap (λ (t : Verdict). batchOf t h bytes out) (verdict-good v w r)
-      ∙ ap (λ (n : ℕ). record { handler = run h (inputsOf bytes); answer = number Answer.Done; out = map wordOf (ticks h (inputsOf bytes)) ++ drop n out })
-      (length-each (recordCount bytes) (λ i. inputOf (recordAt bytes i)))
+      ap (λ (t : Verdict). batchOf e t h bytes out) (verdict-good v w r)
+      ∙ ap (λ (n : ℕ). record { handler = run h (inputsOf e bytes); answer = number Answer.Done; out = map wordOf (ticks h (inputsOf e bytes)) ++ drop n out })
+      (length-each (recordCount e bytes) (λ i. inputOf e (recordAt e bytes i)))
 
 -- ── a trace cut between two records ──
 
@@ -64,63 +91,68 @@ each-append {A} m n f g k d p q =
         ap (λ (x : ℕ). getD (each m f ++ each n g) x d) (sym e) ∙ getD-append-add (each m f) (each n g) (i - m) d
         ∙ at-each n g (i - m) d c ∙ q (i - m) c ∙ ap k r
 
-module _ (a b : List ℕ) (w : length a % recordBytes ≡ 0) where
-  pub count-append : recordCount (a ++ b) ≡ recordCount a + recordCount b
-  count-append = simp length-append (omega arith)
+module _ (e : Edition) (a b : List ℕ) (w : length a % recordBytes e ≡ 0) where
+  pub count-append : recordCount e (a ++ b) ≡ recordCount e a + recordCount e b
+  count-append = ap (λ (n : ℕ). n / recordBytes e) (length-append a b) ∙ count-add (recordBytes e) (some-bytes e) (length a) (length b) w
+
+  pub rest-append : length (a ++ b) % recordBytes e ≡ length b % recordBytes e
+  rest-append = ap (λ (n : ℕ). n % recordBytes e) (length-append a b) ∙ rest-add (recordBytes e) (some-bytes e) (length a) (length b) w
 
   -- the records of a, and then those of b
-  pub record-first : (i : ℕ) → i < recordCount a → recordAt (a ++ b) i ≡ recordAt a i
+  pub record-first : (i : ℕ) → i < recordCount e a → recordAt e (a ++ b) i ≡ recordAt e a i
   record-first i l =
-      ap (take recordBytes) (drop-append-le (i * recordBytes) a b (omega arith))
-      ∙ take-append-le recordBytes (drop (i * recordBytes) a) b (simp length-drop (omega arith))
+      let in-a : i * recordBytes e + recordBytes e ≤ length a = part-within (recordBytes e) (some-bytes e) (length a) i l in
+      ap (take (recordBytes e)) (drop-append-le (i * recordBytes e) a b (omega arith))
+      ∙ take-append-le (recordBytes e) (drop (i * recordBytes e) a) b (simp length-drop (omega arith))
 
-  pub record-second : (i : ℕ) → recordAt (a ++ b) (recordCount a + i) ≡ recordAt b i
+  pub record-second : (i : ℕ) → recordAt e (a ++ b) (recordCount e a + i) ≡ recordAt e b i
   record-second i =
-      let e : (recordCount a + i) * recordBytes ≡ length a + i * recordBytes = omega arith in
-      ap (λ (n : ℕ). take recordBytes (drop n (a ++ b))) e ∙ ap (take recordBytes) (drop-append-add a b (i * recordBytes))
+      ap (λ (n : ℕ). take (recordBytes e) (drop n (a ++ b))) (place-add (recordBytes e) (some-bytes e) (length a) i w)
+      ∙ ap (take (recordBytes e)) (drop-append-add a b (i * recordBytes e))
 
-  pub inputs-append : inputsOf (a ++ b) ≡ inputsOf a ++ inputsOf b
+  pub inputs-append : inputsOf e (a ++ b) ≡ inputsOf e a ++ inputsOf e b
   unfolding inputsOf
   inputs-append =
-      ap (λ (n : ℕ). each n (λ i. inputOf (recordAt (a ++ b) i))) count-append
-      ∙ sym (each-append (recordCount a) (recordCount b) (λ i. inputOf (recordAt a i)) (λ i. inputOf (recordAt b i)) (λ i. inputOf (recordAt (a ++ b) i)) (inputOf [])
-      (λ i l. ap inputOf (sym (record-first i l))) (λ i l. ap inputOf (sym (record-second i))))
+      ap (λ (n : ℕ). each n (λ i. inputOf e (recordAt e (a ++ b) i))) count-append
+      ∙ sym (each-append (recordCount e a) (recordCount e b) (λ i. inputOf e (recordAt e a i)) (λ i. inputOf e (recordAt e b i)) (λ i. inputOf e (recordAt e (a ++ b) i)) (inputOf e [])
+      (λ i l. ap (inputOf e) (sym (record-first i l))) (λ i l. ap (inputOf e) (sym (record-second i))))
 
-module _ (h : Handler) (a b out : List ℕ) (v : valid h ≡ true) (wa : length a % recordBytes ≡ 0) (wb : length b % recordBytes ≡ 0) (r : recordCount (a ++ b) ≤ length out) where
+module _ (e : Edition) (h : Handler) (a b out : List ℕ) (v : admits e h ≡ true) (wa : length a % recordBytes e ≡ 0) (wb : length b % recordBytes e ≡ 0)
+    (r : recordCount e (a ++ b) ≤ length out) where
   abbrev left : Handler
-  left = run h (inputsOf a)
+  left = run h (inputsOf e a)
 
   abbrev firstWords : List ℕ
-  firstWords = map wordOf (ticks h (inputsOf a))
+  firstWords = map wordOf (ticks h (inputsOf e a))
 
   abbrev rest : List ℕ
-  rest = drop (recordCount a) out
+  rest = drop (recordCount e a) out
 
-  words-first : length firstWords ≡ recordCount a
+  words-first : length firstWords ≡ recordCount e a
   unfolding inputsOf
-  words-first = length-map (ticks h (inputsOf a)) wordOf ∙ length-ticks h (inputsOf a) ∙ length-each (recordCount a) (λ i. inputOf (recordAt a i))
+  words-first = length-map (ticks h (inputsOf e a)) wordOf ∙ length-ticks h (inputsOf e a) ∙ length-each (recordCount e a) (λ i. inputOf e (recordAt e a i))
 
   -- the words of both
-  words-both : ofTicks h (a ++ b) out .out ≡ firstWords ++ ofTicks left b rest .out
+  words-both : ofTicks e h (a ++ b) out .out ≡ firstWords ++ ofTicks e left b rest .out
   words-both =
       ap₂ (λ (ws vs : List ℕ). ws ++ vs)
-      (ap (λ (xs : List Input). map wordOf (ticks h xs)) (inputs-append a b wa) ∙ ap (map wordOf) (ticks-append h (inputsOf a) (inputsOf b))
-      ∙ map-append wordOf (ticks h (inputsOf a)) (ticks left (inputsOf b)))
-      (ap (λ (n : ℕ). drop n out) (count-append a b wa) ∙ sym (drop-drop (recordCount b) (recordCount a) out))
-      ∙ append-assoc firstWords (map wordOf (ticks left (inputsOf b))) (drop (recordCount b) rest)
+      (ap (λ (xs : List Input). map wordOf (ticks h xs)) (inputs-append e a b wa) ∙ ap (map wordOf) (ticks-append h (inputsOf e a) (inputsOf e b))
+      ∙ map-append wordOf (ticks h (inputsOf e a)) (ticks left (inputsOf e b)))
+      (ap (λ (n : ℕ). drop n out) (count-append e a b wa) ∙ sym (drop-drop (recordCount e b) (recordCount e a) out))
+      ∙ append-assoc firstWords (map wordOf (ticks left (inputsOf e b))) (drop (recordCount e b) rest)
 
-  ticks-both : ofTicks h (a ++ b) out ≡ behind firstWords (ofTicks left b rest)
+  ticks-both : ofTicks e h (a ++ b) out ≡ behind firstWords (ofTicks e left b rest)
   ticks-both =
       ap₂ (λ (g : Handler) (ws : List ℕ). record { handler = g; answer = number Answer.Done; out = ws })
-      (ap (run h) (inputs-append a b wa) ∙ run-append h (inputsOf a) (inputsOf b)) words-both
+      (ap (run h) (inputs-append e a b wa) ∙ run-append h (inputsOf e a) (inputsOf e b)) words-both
 
-  followed-ticks : followed (recordCount a) (ofTicks h a out) b ≡ behind firstWords (ofTicks left b rest)
+  followed-ticks : followed e (recordCount e a) (ofTicks e h a out) b ≡ behind firstWords (ofTicks e left b rest)
   followed-ticks =
-      ap₂ (λ (ws vs : List ℕ). behind ws (batch left b vs)) (take-at firstWords rest (recordCount a) words-first) (drop-at firstWords rest (recordCount a) words-first)
-      ∙ ap (behind firstWords) (batch-good left b rest (run-valid h (inputsOf a) v) wb (simp length-drop (omega (arith, count-append a b wa))))
+      ap₂ (λ (ws vs : List ℕ). behind ws (batch e left b vs)) (take-at firstWords rest (recordCount e a) words-first) (drop-at firstWords rest (recordCount e a) words-first)
+      ∙ ap (behind firstWords) (batch-good e left b rest (run-admits e h (inputsOf e a) v) wb (simp length-drop (omega (arith, count-append e a b wa))))
 
   -- one batch gives what two give, the second on the state that the first leaves
-  pub batch-append : batch h (a ++ b) out ≡ followed (recordCount a) (batch h a out) b
+  pub batch-append : batch e h (a ++ b) out ≡ followed e (recordCount e a) (batch e h a out) b
   batch-append =
-      batch-good h (a ++ b) out v (simp length-append (omega arith)) r ∙ ticks-both ∙ sym followed-ticks
-      ∙ sym (ap (λ (f : Batched). followed (recordCount a) f b) (batch-good h a out v wa (omega (arith, count-append a b wa))))
+      batch-good e h (a ++ b) out v (rest-append e a b wa ∙ wb) r ∙ ticks-both ∙ sym followed-ticks
+      ∙ sym (ap (λ (f : Batched). followed e (recordCount e a) f b) (batch-good e h a out v wa (omega (arith, count-append e a b wa))))

@@ -1,15 +1,16 @@
 -- An accepted clear of a class is a write of 1 to its CLR while that is not locked.
 -- Assumes nothing.
-use Prim.Native.Nat.{ℕ}
+use Prim.Native.Nat.{ℕ, _+_}
 use mathlib.Core.Path.{_≡_, refl, sym, ap, ap₂, _∙_, subst}
 use mathlib.Core.Logic.{_↔_}
-use mathlib.Core.Bool.{Bool, true, false, false≢true, not, _&&_}
+use mathlib.Core.Bool.{Bool, true, false, false≢true, not}
 use mathlib.Core.Bool
+use native.Mathlib.Omega.{arith}
 use borrow.Author.Tests.{eqb-true, eq-eqb}
 use lib.Dec.{eqb}
 use Rattle.bits.proofs.IndexLaws.{and-true, true-and}
 use Rattle.bits.specs.Bits.{fits}
-use Rattle.rules.specs.Access.{locked, bars, accepted, settingIsClr, isClrOf, writesClr, clears}
+use Rattle.rules.specs.Access.{locked, bars, settingIsClr, isClrOf, writesClr, clears}
 use Rattle.rules.specs.Map.{decode, isRegister, bits, readOnly, isLock}
 use Rattle.rules.specs.declared.Access.{Access}
 use Rattle.rules.specs.declared.Access.the-variants.{Nothing, Read, Write, Malformed}
@@ -21,7 +22,9 @@ use Rattle.rules.specs.declared.Setting.the-variants.{Clr}
 use Rattle.laws.specs.ClearedBy.{ClearedBy}
 use Rattle.laws.specs.Refusals.{Unrefused}
 use Rattle.laws.proofs.Cases.{by-kind, by-setting}
+use Rattle.laws.proofs.MapLaws.{block-lt}
 use Rattle.laws.proofs.Refusals.{unrefused, is-accepted}
+use Rattle.laws.proofs.Step1.{clears-if, clears-both}
 
 -- a false test
 never : {A : Type 0} → false ≡ true → A
@@ -30,7 +33,8 @@ never e = absurd (false≢true e)
 -- only a class's CLR is one
 setting-clr : (s : Setting) → settingIsClr s ≡ true → s ≡ Clr
 setting-clr s =
-    by-setting (λ s. settingIsClr s ≡ true → s ≡ Clr) never never never (λ e. refl) never never never (λ p. never) never never s
+    by-setting (λ s. settingIsClr s ≡ true → s ≡ Clr) never never never (λ e. refl) never never never
+    (λ p e. let o : 7 + p ≡ 3 = eqb-true (7 + p) 3 e in absurd (omega arith)) never never s
 
 -- and only one of them is that of class k
 is-clr : (k : ℕ) (q : Register) → isClrOf k q ≡ true → q ≡ Block Clr k
@@ -45,11 +49,10 @@ clr-bars h k v = mathlib.Core.Bool.and-true (locked h (Block Clr k))
 
 -- an accepted clear is a write of 1 to an unlocked CLR
 pub clears-by : (h : Handler) (x : Access) (k : ℕ) → clears h x k ≡ true → ClearedBy h x k
-unfolding clears
-clears-by h Nothing k e = never (and-true (accepted h Nothing) false e .1)
-clears-by h (Read r) k e = never (and-true (accepted h (Read r)) false e .1)
+clears-by h Nothing k e = never (clears-both h Nothing k e .1)
+clears-by h (Read r) k e = never (clears-both h (Read r) k e .1)
 clears-by h (Write r v) k e =
-    let a = and-true (accepted h (Write r v)) (writesClr h (Write r v) k) e in
+    let a = clears-both h (Write r v) k e in
     let b = and-true (isClrOf k (decode (h .n) r)) (eqb v 1) (a .1) in
     let i : decode (h .n) r ≡ Block Clr k = is-clr k (decode (h .n) r) (b .0) in
     record {
@@ -58,14 +61,15 @@ clears-by h (Write r v) k e =
       names = i;
       free = sym (clr-bars h k v) ∙ ap (λ (q : Register). bars h q v) (sym i) ∙ unrefused h (Write r v) (a .0) .free;
     }
-clears-by h Malformed k e = never (and-true (accepted h Malformed) false e .1)
+clears-by h Malformed k e = never (clears-both h Malformed k e .1)
 
 -- and such a write is one
 pub clears-when : (h : Handler) (x : Access) (k : ℕ) → ClearedBy h x k → clears h x k ≡ true
-unfolding clears readOnly bits
+unfolding readOnly bits
 clears-when h x k c =
-    subst (λ (y : Access). (accepted h y && writesClr h y k) ≡ true) (sym (c .access))
-    (true-and (is-accepted h (Write (c .number) 1) unbarred)
+    subst (λ (y : Access). clears h y k ≡ true) (sym (c .access))
+    (clears-if h (Write (c .number) 1) k (block-lt (h .n) (c .number) Clr k (c .names))
+    ∙ true-and (is-accepted h (Write (c .number) 1) unbarred)
     (true-and (ap (isClrOf k) (c .names) ∙ eq-eqb k k refl) refl))
   where
     at : {A : Type 0} (f : Register → A) → f (decode (h .n) (c .number)) ≡ f (Block Clr k)

@@ -2,27 +2,24 @@
 -- Assumes nothing.
 use Prim.Native.Nat.{ℕ, zero, suc, _+_, _<_}
 use mathlib.Core.Path.{_≡_, refl, sym, ap, _∙_, subst}
-use mathlib.Core.Logic.{_⊎_, inl, inr, ⊎-elim}
 use mathlib.Core.Bool.{Bool, true, false, cond, _&&_}
 use mathlib.Core.List.{List}
-use native.Mathlib.Omega.{arith}
-use native.Mathlib.Decide.{ℕ-discrete}
-use borrow.Author.Tests.{eqb-true, ltb-true, eq-eqb, ne-eqb}
+use borrow.Author.Tests.{eqb-true, ltb-true}
 use lib.Dec.{eqb}
 use lib.ListN.{getD}
 use Rattle.bits.proofs.IndexLaws.{at-each}
-use Rattle.classes.specs.declared.Class.{Class}
-use Rattle.rules.specs.Access.{fieldStored, settingValue, lengthsStored, withSetting}
+use Rattle.class_rules.specs.Class.{phaseCyc}
+use Rattle.class_rules.specs.declared.Class.{Class}
+use Rattle.rules.specs.Access.{fieldStored, settingValue, withSetting}
 use Rattle.rules.specs.Map.{offset}
 use Rattle.rules.specs.State.{fieldIndex, localColumn, alertColumn, withLocalColumn, withAlertColumn, put}
 use Rattle.rules.specs.declared.Alerts.{Alerts}
 use Rattle.rules.specs.declared.Field.{Field}
 use Rattle.rules.specs.declared.Locals.{Locals}
 use Rattle.rules.specs.declared.Setting.{Setting}
-use Rattle.rules.specs.declared.Setting.the-variants.{Ctrl, ClrRegwen, Clr, AccumCnt, AccumThresh, TimeoutCyc, PhaseCyc, EscCnt}
-use Rattle.laws.specs.Assigned.{settingExists}
+use Rattle.laws.specs.InMap.{settingExists}
 use Rattle.laws.specs.RegisterFile.{settingStored}
-use Rattle.laws.proofs.Cases.{cond-same}
+use Rattle.laws.proofs.Cases.{by-setting, cond-same}
 
 -- ── an entry of a list ──
 
@@ -94,38 +91,15 @@ column-stored column n f g j i v l = go (eqb (fieldIndex f) (fieldIndex g)) refl
 
 -- ── a class's block ──
 
--- the length of phase p after a store
-module _ (v : ℕ) (ls : List ℕ) (p : ℕ) (h : p < 4) where
-  -- a register of the block that is no length
-  elsewhere : (o : ℕ) → (o < 7) ⊎ (10 < o) → getD ls p 0 ≡ cond (eqb o (7 + p)) v (getD ls p 0)
-  elsewhere o l = ap (λ (t : Bool). cond t v (getD ls p 0)) (sym (ne-eqb o (7 + p) (λ (e : o ≡ 7 + p). ⊎-elim (λ (m : o < 7). omega arith) (λ (m : 10 < o). omega arith) l)))
-
-  length-stored : (s : Setting) → getD (lengthsStored s v ls) p 0 ≡ cond (eqb (offset s) (7 + p)) v (getD ls p 0)
-  length-stored Setting.Regwen = elsewhere 0 (inl (omega arith))
-  length-stored Ctrl = elsewhere 1 (inl (omega arith))
-  length-stored ClrRegwen = elsewhere 2 (inl (omega arith))
-  length-stored Clr = elsewhere 3 (inl (omega arith))
-  length-stored AccumCnt = elsewhere 4 (inl (omega arith))
-  length-stored AccumThresh = elsewhere 5 (inl (omega arith))
-  length-stored TimeoutCyc = elsewhere 6 (inl (omega arith))
-  length-stored (PhaseCyc i) = at-put 4 ls 0 i p h v ∙ ap (λ (t : Bool). cond t v (getD ls p 0)) (go (ℕ-discrete p i))
-    where
-      go : Dec (p ≡ i) → eqb p i ≡ eqb (7 + i) (7 + p)
-      go (yes e) = eq-eqb p i e ∙ sym (eq-eqb (7 + i) (7 + p) (omega arith))
-      go (no e) = ne-eqb p i e ∙ sym (ne-eqb (7 + i) (7 + p) (λ (d : 7 + i ≡ 7 + p). e (omega arith)))
-  length-stored EscCnt = elsewhere 11 (inr (omega arith))
-  length-stored Setting.State = elsewhere 12 (inr (omega arith))
+-- the length of phase p
+pub length-stored : (s : Setting) (v : ℕ) (c : Class) (p : ℕ) → p < 4
+    → phaseCyc (withSetting s v c) p ≡ cond (eqb (offset s) (7 + p)) v (phaseCyc c p)
+length-stored s v c p l = at-each 4 (λ p. cond (eqb (offset s) (7 + p)) v (phaseCyc c p)) p 0 l
 
 -- register t of the block, once v is stored at s
 pub setting-value : (s t : Setting) (v : ℕ) (c : Class) → settingExists t ≡ true
     → settingValue t (withSetting s v c) ≡ cond (eqb (offset s) (offset t)) (settingStored t (settingValue t c) v) (settingValue t c)
-setting-value s Setting.Regwen v c e = refl
-setting-value s Ctrl v c e = refl
-setting-value s ClrRegwen v c e = refl
-setting-value s Clr v c e = cond-same (eqb (offset s) 3) 0
-setting-value s AccumCnt v c e = cond-same (eqb (offset s) 4) (c .accum)
-setting-value s AccumThresh v c e = refl
-setting-value s TimeoutCyc v c e = refl
-setting-value s (PhaseCyc p) v c e = length-stored v (c .lengths) p (ltb-true p 4 e) s
-setting-value s EscCnt v c e = cond-same (eqb (offset s) 11) (c .count)
-setting-value s Setting.State v c e = cond-same (eqb (offset s) 12) (c .state)
+setting-value s t v c =
+    by-setting (λ t. settingExists t ≡ true → settingValue t (withSetting s v c) ≡ cond (eqb (offset s) (offset t)) (settingStored t (settingValue t c) v) (settingValue t c))
+    (λ e. refl) (λ e. refl) (λ e. refl) (λ e. cond-same (eqb (offset s) 3) 0) (λ e. cond-same (eqb (offset s) 4) (c .accum)) (λ e. refl) (λ e. refl)
+    (λ p e. length-stored s v c p (ltb-true p 4 e)) (λ e. cond-same (eqb (offset s) 11) (c .count)) (λ e. cond-same (eqb (offset s) 12) (c .state)) t

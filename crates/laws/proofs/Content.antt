@@ -5,50 +5,56 @@ use mathlib.Core.Path.{_≡_, refl, sym, ap, ap₂, _∙_, subst}
 use mathlib.Core.Logic.{_↔_}
 use mathlib.Core.Bool
 use mathlib.Core.Bool.{Bool, true, false, cond, not, _&&_, _||_}
-use borrow.Author.Tests.{ltb-true, eq-eqb}
-use lib.Dec.{eqb, ltb}
+use borrow.Author.Tests.{eq-eqb}
+use lib.Dec.{eqb}
 use Rattle.bits.specs.Bits.{bit, fits}
 use Rattle.bits.specs.Index.{anyTo}
 use Rattle.bits.proofs.BitLaws.{bit-bitsOf}
 use Rattle.bits.proofs.IndexLaws.{and-true, any-at, any-some}
-use Rattle.classes.specs.Class.{enabled, drives}
-use Rattle.classes.specs.Step.{classStep}
-use Rattle.classes.specs.declared.Class.{Class}
-use Rattle.rules.specs.Access.{value, locked, bars, withSetting, store, accepted, acted, settingIsClr, isClrOf, clears}
-use Rattle.rules.specs.Map.{decode, isRegister, settingBits, bits, settingReadOnly, readOnly, guard, settingLocks, isLock}
+use Rattle.class_rules.specs.Class.{enabled, drives}
+use Rattle.class_rules.specs.Step.{classStep}
+use Rattle.class_rules.specs.declared.Class.{Class}
+use Rattle.rules.specs.Access.{value, locked, bars, withSetting, store, accepted, acted, settingIsClr, isClrOf, effects, clears}
+use Rattle.rules.specs.Map.{decode, isRegister, settingBits, settingRow, bits, onlyRead, readOnly, guard, isLock}
 use Rattle.rules.specs.Samples as samples
 use Rattle.rules.specs.State.{classCount, classAt}
 use Rattle.rules.specs.Tick.{event, interruptNow, signals, stepped, lines, after}
 use Rattle.rules.specs.declared.Access.{Access}
 use Rattle.rules.specs.declared.Access.the-variants.{Nothing, Read, Write, Malformed}
+use Rattle.rules.specs.declared.Effects.{Effects}
 use Rattle.rules.specs.declared.Handler.{Handler}
 use Rattle.rules.specs.declared.Input.{Input}
 use Rattle.rules.specs.declared.Register.{Register}
 use Rattle.rules.specs.declared.Register.the-variants.{Block}
 use Rattle.rules.specs.declared.Setting.{Setting}
 use Rattle.rules.specs.declared.Wires.{Wires}
-use Rattle.laws.specs.Assigned.{assigned, settingExists}
 use Rattle.laws.specs.Block.{classStored, settingLocked, blockAccepts, blockWritten, blockClears, ofBlock, writesBlock, Unmoved}
 use Rattle.laws.proofs.Clears.{clears-by}
 use Rattle.laws.proofs.Cases.{by-kind, by-setting, cond-same}
 use Rattle.laws.proofs.Frame.{stepped-class}
-use Rattle.laws.proofs.MapLaws.{decode-assigned}
+use Rattle.laws.proofs.MapLaws.{block-lt}
 use Rattle.laws.proofs.RegisterFile.{class-stored}
 use Rattle.laws.proofs.Refusals.{accepted-write}
+use Rattle.laws.proofs.Step1.{acted-is, clears-if}
 
 -- ── steps 2 to 4 ──
 
 -- class k after the tick: its step, by its signals, from what the access left
 pub after-class : (h : Handler) (x : Input) (k : ℕ) → k < classCount
     → classAt (after h x) k
-    ≡ classStep (signals (acted h (x .access)) (x .sample .alerts) (clears h (x .access)) k) (classAt (acted h (x .access)) k)
+    ≡ classStep (signals (acted h (x .access)) (x .sample .alerts) (effects h (x .access)) k) (classAt (acted h (x .access)) k)
 unfolding after
-after-class h x k l = stepped-class (acted h (x .access)) (x .sample .alerts) (clears h (x .access)) k l
+after-class h x k l = stepped-class (acted h (x .access)) (x .sample .alerts) (effects h (x .access)) k l
+
+-- an accepted clear of it, as step 1 found it
+pub signal-clear : (h : Handler) (x : Access) (g : Handler) (w : Wires) (k : ℕ) → signals g w (effects h x) k .clear ≡ clears h x k
+unfolding signals clears
+signal-clear h x g w k = refl
 
 -- an event is of an enabled class
-pub event-enabled : (g : Handler) (w : Wires) (clear : ℕ → Bool) (k : ℕ) → signals g w clear k .event ≡ true → enabled (classAt g k) ≡ true
+pub event-enabled : (g : Handler) (w : Wires) (fx : Effects) (k : ℕ) → signals g w fx k .event ≡ true → enabled (classAt g k) ≡ true
 unfolding signals event
-event-enabled g w clear k e = and-true (samples.assigned g w k) (enabled (classAt g k)) e .1
+event-enabled g w fx k e = and-true (samples.assigned g w k) (enabled (classAt g k)) e .1
 
 -- its interrupt bit: as the access left it, or set by an event
 pub after-bit : (h : Handler) (x : Input) (k : ℕ) → k < classCount
@@ -73,21 +79,13 @@ line-is h e l = (λ b. any-some on classCount (sym is ∙ b), λ d. is ∙ any-a
 module _ (h : Handler) (r v k : ℕ) where
   -- class k after a write
   acted-class : k < classCount → classAt (acted h (Write r v)) k ≡ cond (accepted h (Write r v)) (classStored (decode (h .n) r) v k (classAt h k)) (classAt h k)
-  unfolding acted
-  acted-class l = go (accepted h (Write r v))
+  acted-class l = ap (λ (g : Handler). classAt g k) (acted-is h (Write r v)) ∙ go (accepted h (Write r v))
     where
       go : (b : Bool) → classAt (cond b (store h (decode (h .n) r) v) h) k ≡ cond b (classStored (decode (h .n) r) v k (classAt h k)) (classAt h k)
       go true = class-stored h (decode (h .n) r) v k l
       go false = refl
 
   module _ (s : Setting) (e : decode (h .n) r ≡ Block s k) where
-    -- a decoded class is one of the four
-    block-lt : k < classCount
-    block-lt =
-        let a : assigned (h .n) (Block s k) ≡ true =
-        ap (assigned (h .n)) (sym e) ∙ decode-assigned (h .n) r (ap isRegister e) in
-        ltb-true k classCount (and-true (ltb k classCount) (settingExists s) a .0)
-
     -- a register of the block is locked by the block
     block-locked : locked h (Block s k) ≡ settingLocked s (classAt h k)
     unfolding locked guard value
@@ -100,22 +98,23 @@ module _ (h : Handler) (r v k : ℕ) where
     block-accepted =
         accepted-write h r v
         ∙ ap (λ (q : Register). isRegister q && (not (readOnly q) && (fits (bits q) v && not (bars h q v)))) e
-        ∙ ap (λ (b : Bool). not (settingReadOnly s) && (fits (settingBits s) v && not (b && not (settingLocks s && eqb v 0)))) block-locked
+        ∙ ap (λ (b : Bool). not (onlyRead (settingRow s .way)) && (fits (settingBits s) v && not (b && not (settingRow s .lock && eqb v 0)))) block-locked
 
     -- a write to class k's block, by the block alone
     pub acted-class-own : classAt (acted h (Write r v)) k ≡ blockWritten s v (classAt h k)
     unfolding blockWritten
     acted-class-own =
-        acted-class block-lt
+        acted-class (block-lt (h .n) r s k e)
         ∙ ap₂ (λ (b : Bool) (q : Register). cond b (classStored q v k (classAt h k)) (classAt h k)) block-accepted e
         ∙ ap (λ (t : Bool). cond (blockAccepts s v (classAt h k)) (cond t (withSetting s v (classAt h k)) (classAt h k)) (classAt h k))
         (eq-eqb k k refl)
 
     -- and whether it is an accepted clear
     pub clears-own : clears h (Write r v) k ≡ blockClears s v (classAt h k)
-    unfolding clears blockClears
+    unfolding blockClears
     clears-own =
-        ap₂ _&&_ block-accepted
+        clears-if h (Write r v) k (block-lt (h .n) r s k e)
+        ∙ ap₂ _&&_ block-accepted
         (ap (λ (q : Register). isClrOf k q && eqb v 1) e
         ∙ ap (λ (t : Bool). settingIsClr s && t && eqb v 1) (eq-eqb k k refl)
         ∙ ap (λ (t : Bool). t && eqb v 1) (mathlib.Core.Bool.and-true (settingIsClr s)))
@@ -128,14 +127,13 @@ stored-other q v k c =
 
 -- an access that does not write class k's block leaves it
 pub acted-class-other : (h : Handler) (x : Access) (k : ℕ) → k < classCount → writesBlock h x k ≡ false → classAt (acted h x) k ≡ classAt h k
-unfolding acted
-acted-class-other h Nothing k l e = ap (λ (g : Handler). classAt g k) (sym (cond-same (accepted h Nothing) h))
-acted-class-other h (Read r) k l e = ap (λ (g : Handler). classAt g k) (sym (cond-same (accepted h (Read r)) h))
+acted-class-other h Nothing k l e = ap (λ (g : Handler). classAt g k) (acted-is h Nothing ∙ sym (cond-same (accepted h Nothing) h))
+acted-class-other h (Read r) k l e = ap (λ (g : Handler). classAt g k) (acted-is h (Read r) ∙ sym (cond-same (accepted h (Read r)) h))
 acted-class-other h (Write r v) k l e =
     acted-class h r v k l
     ∙ ap (λ (c : Class). cond (accepted h (Write r v)) c (classAt h k)) (stored-other (decode (h .n) r) v k (classAt h k) e)
     ∙ sym (cond-same (accepted h (Write r v)) (classAt h k))
-acted-class-other h Malformed k l e = ap (λ (g : Handler). classAt g k) (sym (cond-same (accepted h Malformed) h))
+acted-class-other h Malformed k l e = ap (λ (g : Handler). classAt g k) (acted-is h Malformed ∙ sym (cond-same (accepted h Malformed) h))
 
 -- or clears it
 pub clears-other : (h : Handler) (x : Access) (k : ℕ) → writesBlock h x k ≡ false → clears h x k ≡ false

@@ -23,6 +23,7 @@ use Rattle.laws.specs.Columns.{sameField}
 use Rattle.laws.specs.Facts.{ClassValid, Valid}
 use Rattle.laws.proofs.Cases.{pick}
 use Rattle.laws.proofs.Refusals.{unrefused}
+use Rattle.laws.proofs.Step1.{acted-either}
 use Rattle.laws.proofs.RegisterFile.{class-stored}
 use Rattle.laws.proofs.StateLaws.{same-field, local-store, alert-store}
 use Rattle.laws.proofs.KeepsClass.{setting-valid}
@@ -86,8 +87,7 @@ written-valid h (Write r v) e t = store-valid h (decode (h .n) r) v (write-fits 
 written-valid h Malformed e t = t
 
 acted-facts : (h : Handler) (x : Access) → Valid h → Valid (acted h x)
-unfolding acted
-acted-facts h x t = pick Valid (accepted h x) (written h x) h (λ e. written-valid h x e t) (λ _. t)
+acted-facts h x t = acted-either h x Valid (λ e. written-valid h x e t) (λ _. t)
 
 -- step 1 keeps a state valid
 pub acted-valid : (h : Handler) (x : Access) → valid h ≡ true → valid (acted h x) ≡ true

@@ -4,23 +4,25 @@ use Prim.Native.Nat.{ℕ, zero, suc, _+_, _^_, _<_}
 use mathlib.Core.Path.{_≡_, refl, sym, ap, _∙_, subst}
 use mathlib.Core.Bool.{Bool, true, false, true≢false, cond, not, _&&_, _||_}
 use native.Mathlib.Omega.{arith}
-use borrow.Author.Tests.{ne-eqb, eqb-true, ltb-true, leb-false}
+use borrow.Author.Tests.{ne-eqb, eqb-true, ltb-true, lt-ltb, leb-false}
 use lib.Dec.{eqb, leb, ltb}
-use Rattle.classes.proofs.ClassLaws.{state-number}
-use Rattle.classes.specs.Class.{lock, phase, phaseCyc, stateOf, countFits}
-use Rattle.classes.specs.Step.{at, trigger, due, counted, starts, startsFrom, afterPhase, inPhase, movedFrom, moved, classStep}
-use Rattle.classes.specs.declared.Class.{Class}
-use Rattle.classes.specs.declared.ClassState.{ClassState}
-use Rattle.classes.specs.declared.ClassState.the-variants.{Idle, Timeout, Phase0, Phase1, Phase2, Phase3, Terminal}
-use Rattle.classes.specs.declared.Place.{Place}
-use Rattle.classes.specs.declared.Signals.{Signals}
+use Rattle.class_rules.proofs.ClassLaws.{state-number}
+use Rattle.class_rules.specs.Class.{lock, phase, phaseCyc, stateOf, countFits}
+use Rattle.class_rules.specs.Step.{at, trigger, due, counted, starts, startsFrom, afterPhase, inPhase, movedFrom, moved, classStep}
+use Rattle.class_rules.specs.declared.Class.{Class}
+use Rattle.class_rules.specs.declared.ClassState.{ClassState}
+use Rattle.class_rules.specs.declared.ClassState.the-variants.{Idle, Timeout, Phase0, Phase1, Phase2, Phase3, Terminal}
+use Rattle.class_rules.specs.declared.Place.{Place}
+use Rattle.class_rules.specs.declared.Signals.{Signals}
 use Rattle.rules.specs.Access.{withSetting}
 use Rattle.rules.specs.Map.{offset, settingBits}
 use Rattle.rules.specs.declared.Setting.{Setting}
-use Rattle.rules.specs.declared.Setting.the-variants.{Ctrl, ClrRegwen, Clr, AccumCnt, AccumThresh, TimeoutCyc, PhaseCyc, EscCnt}
+use Rattle.rules.specs.declared.Setting.the-variants.{Ctrl, ClrRegwen, AccumThresh, TimeoutCyc, PhaseCyc}
+use Rattle.laws.specs.InMap.{settingExists}
 use Rattle.laws.specs.Facts.{ClassValid}
 use Rattle.laws.proofs.Cases.{pick}
-use Rattle.laws.proofs.ColumnLaws.{at-put}
+use Rattle.laws.proofs.ColumnLaws.{length-stored}
+use Rattle.laws.proofs.MapLaws.{offset-eq, offset-exists}
 use Rattle.laws.proofs.StateNumber.{number-fits}
 
 -- ── step 4: the state and count reached ──
@@ -107,62 +109,28 @@ step-valid s c v =
 
 -- ── a write to its block ──
 
--- the lengths after a write
-lengths-valid : (s : Setting) (v : ℕ) (c : Class) → v < 2 ^ settingBits s → ClassValid c → (p : ℕ) → p < 4 → phaseCyc (withSetting s v c) p < 2 ^ 32
-lengths-valid Setting.Regwen v c l t = t .lengths
-lengths-valid Ctrl v c l t = t .lengths
-lengths-valid ClrRegwen v c l t = t .lengths
-lengths-valid Clr v c l t = t .lengths
-lengths-valid AccumCnt v c l t = t .lengths
-lengths-valid AccumThresh v c l t = t .lengths
-lengths-valid TimeoutCyc v c l t = t .lengths
-lengths-valid (PhaseCyc q) v c l t = λ p h.
-    rw (at-put 4 (c .lengths) 0 q p h v) (pick (λ n. n < 2 ^ 32) (eqb p q) v (phaseCyc c p) (λ _. l) (λ _. t .lengths p h))
-lengths-valid EscCnt v c l t = t .lengths
-lengths-valid Setting.State v c l t = t .lengths
-
--- the bits of the registers at +0 to +6, by offset
-abbrev offsetBits : ℕ → ℕ
-offsetBits zero = 1
-offsetBits (suc zero) = 14
-offsetBits (suc (suc zero)) = 1
-offsetBits (suc (suc (suc zero))) = 1
-offsetBits (suc (suc (suc (suc zero)))) = 16
-offsetBits (suc (suc (suc (suc (suc zero))))) = 16
-offsetBits (suc (suc (suc (suc (suc (suc o)))))) = 32
-
-offset-bits : (s : Setting) → offset s < 7 → settingBits s ≡ offsetBits (offset s)
-offset-bits Setting.Regwen h = refl
-offset-bits Ctrl h = refl
-offset-bits ClrRegwen h = refl
-offset-bits Clr h = refl
-offset-bits AccumCnt h = refl
-offset-bits AccumThresh h = refl
-offset-bits TimeoutCyc h = refl
-offset-bits (PhaseCyc p) h = absurd (omega arith)
-offset-bits EscCnt h = absurd (omega arith)
-offset-bits Setting.State h = absurd (omega arith)
-
 -- a class that was valid is so after a write that fits
 pub setting-valid : (s : Setting) (v : ℕ) (c : Class) → v < 2 ^ settingBits s → ClassValid c → ClassValid (withSetting s v c)
 setting-valid s v c l t =
     record {
-      regwen = at-offset 0 (c .regwen) (omega arith) (t .regwen);
-      ctrl = at-offset 1 (c .ctrl) (omega arith) (t .ctrl);
-      clrwen = at-offset 2 (c .clrwen) (omega arith) (t .clrwen);
+      regwen = written Setting.Regwen (c .regwen) refl (omega arith) (t .regwen);
+      ctrl = written Ctrl (c .ctrl) refl (omega arith) (t .ctrl);
+      clrwen = written ClrRegwen (c .clrwen) refl (omega arith) (t .clrwen);
       accum = t .accum;
-      thresh = at-offset 5 (c .thresh) (omega arith) (t .thresh);
-      timeout = at-offset 6 (c .timeout) (omega arith) (t .timeout);
-      lengths = lengths-valid s v c l t;
+      thresh = written AccumThresh (c .thresh) refl (omega arith) (t .thresh);
+      timeout = written TimeoutCyc (c .timeout) refl (omega arith) (t .timeout);
+      lengths = λ p h. rw (length-stored s v c p h) (written (PhaseCyc p) (phaseCyc c p) (lt-ltb p 4 h) (omega arith) (t .lengths p h));
       count = t .count;
       state = t .state;
       suits = t .suits;
     }
   where
-    at-offset : (o x : ℕ) → o < 7 → x < 2 ^ offsetBits o → cond (eqb (offset s) o) v x < 2 ^ offsetBits o
-    at-offset o x h b =
-        pick (λ n. n < 2 ^ offsetBits o) (eqb (offset s) o) v x
-        (λ e.
-        let d : offset s ≡ o = eqb-true (offset s) o e in
-        subst (λ (k : ℕ). v < 2 ^ k) (offset-bits s (omega arith) ∙ ap offsetBits d) l)
+    -- a register that holds v has the bits of the one that v was written to, since it is that one
+    written : (q : Setting) (x : ℕ) → settingExists q ≡ true → offset q < 11 → x < 2 ^ settingBits q
+        → cond (eqb (offset s) (offset q)) v x < 2 ^ settingBits q
+    written q x e h b =
+        pick (λ n. n < 2 ^ settingBits q) (eqb (offset s) (offset q)) v x
+        (λ i.
+        let d : offset s ≡ offset q = eqb-true (offset s) (offset q) i in
+        subst (λ (r : Setting). v < 2 ^ settingBits r) (offset-eq s q (offset-exists s (omega arith)) e d) l)
         (λ _. b)

@@ -10,9 +10,9 @@ use lib.Dec.{eqb, ltb}
 use lib.ListN.{getD, replicate, getD-replicate}
 use Rattle.bits.proofs.BitLaws.{bitsOf-lt}
 use Rattle.bits.proofs.IndexLaws.{at-each}
-use Rattle.classes.specs.Class.{noClass, stateOf}
-use Rattle.classes.specs.Step.{classStep}
-use Rattle.rules.specs.Access.{acted, clears}
+use Rattle.class_rules.specs.Class.{noClass, stateOf}
+use Rattle.class_rules.specs.Step.{classStep}
+use Rattle.rules.specs.Access.{acted, effects}
 use Rattle.rules.specs.Batch.{batch, batchOf, batchInputs, batchVerdict}
 use Rattle.rules.specs.Map.{fieldBits}
 use Rattle.rules.specs.Run.{run}
@@ -21,6 +21,8 @@ use Rattle.rules.specs.State.{most, localCount, classCount, local, alert, class
 use Rattle.rules.specs.Tick.{signals, stepped, after, tick, ticked}
 use Rattle.rules.specs.Valid.{valid}
 use Rattle.rules.specs.declared.Field.{Field}
+use Rattle.rules.specs.declared.Edition.{Edition}
+use Rattle.rules.specs.declared.Effects.{Effects}
 use Rattle.rules.specs.declared.Handler.{Handler}
 use Rattle.rules.specs.declared.Input.{Input}
 use Rattle.rules.specs.declared.Made.{Made}
@@ -43,28 +45,28 @@ marked-fits Field.En on x l = l
 marked-fits Field.Class on x l = l
 marked-fits Field.Cause on x l = pick (λ n. n < 2) on 1 x (λ _. omega arith) (λ _. l)
 
-stepped-facts : (g : Handler) (w : Wires) (clear : ℕ → Bool) → Valid g → Valid (stepped g w clear)
+stepped-facts : (g : Handler) (w : Wires) (fx : Effects) → Valid g → Valid (stepped g w fx)
 unfolding stepped sampled
-stepped-facts g w clear t =
+stepped-facts g w fx t =
     record {
       n = t .n;
       state = bitsOf-lt 4 _;
       enable = t .enable;
       locals = λ f j b. rw (local-sampled g w f j b) (marked-fits f (occurs g w j) (local g f j) (t .locals f j b));
       alerts = λ f i b. rw (alert-sampled g w f i (omega (arith, t .n))) (marked-fits f (alertEvent g w i) (alert g f i) (t .alerts f i b));
-      classes = λ k b. rw (at-each classCount (λ j. classStep (signals g w clear j) (classAt g j)) k noClass b) (step-valid (signals g w clear k) (classAt g k) (t .classes k b));
+      classes = λ k b. rw (at-each classCount (λ j. classStep (signals g w fx j) (classAt g j)) k noClass b) (step-valid (signals g w fx k) (classAt g k) (t .classes k b));
     }
 
 -- steps 2 to 4 keep a state valid, whatever the wires and the clears
-pub stepped-valid : (g : Handler) (w : Wires) (clear : ℕ → Bool) → valid g ≡ true → valid (stepped g w clear) ≡ true
-stepped-valid g w clear e = is-valid (stepped g w clear) (stepped-facts g w clear (facts g e))
+pub stepped-valid : (g : Handler) (w : Wires) (fx : Effects) → valid g ≡ true → valid (stepped g w fx) ≡ true
+stepped-valid g w fx e = is-valid (stepped g w fx) (stepped-facts g w fx (facts g e))
 
 -- ── ticks ──
 
 -- steps 1 to 4
 pub after-valid : (h : Handler) (x : Input) → valid h ≡ true → valid (after h x) ≡ true
 unfolding after
-after-valid h x e = stepped-valid (acted h (x .access)) (x .sample .alerts) (clears h (x .access)) (acted-valid h (x .access) e)
+after-valid h x e = stepped-valid (acted h (x .access)) (x .sample .alerts) (effects h (x .access)) (acted-valid h (x .access) e)
 
 -- a tick
 pub ticked-valid : (h : Handler) (x : Input) → valid h ≡ true → valid (ticked h x .handler) ≡ true
@@ -78,9 +80,9 @@ run-valid h [] e = e
 run-valid h (x ∷ xs) e = run-valid (ticked h x .handler) xs (ticked-valid h x e)
 
 -- a batch, refused or not
-pub batch-valid : (h : Handler) (bytes out : List ℕ) → valid h ≡ true → valid (batch h bytes out .handler) ≡ true
+pub batch-valid : (e : Edition) (h : Handler) (bytes out : List ℕ) → valid h ≡ true → valid (batch e h bytes out .handler) ≡ true
 unfolding batch batchOf
-batch-valid h bytes out e = run-valid h (batchInputs (batchVerdict h bytes out) bytes) e
+batch-valid e h bytes out v = run-valid h (batchInputs e (batchVerdict e h bytes out) bytes) v
 
 -- ── a new handler ──
 

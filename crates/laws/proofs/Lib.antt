@@ -1,6 +1,8 @@
 pub mod Cases
+pub mod RowLaws
 pub mod MapLaws
 pub mod ColumnLaws
+pub mod Step1
 pub mod Refusals
 pub mod RegisterFile
 pub mod StateLaws
@@ -16,7 +18,9 @@ pub mod Locks
 pub mod Clears
 pub mod Content
 pub mod Runs
+pub mod PartLaws
 pub mod BatchLaws
+pub mod WireLaws
 pub mod RecordLaws
 pub mod WellFormedLaws
 pub mod Recordable

@@ -1,32 +1,31 @@
 -- A locked register keeps its value and stays locked, in an access, in steps 2 to 4 and so in a tick.
 -- Assumes nothing.
-use Prim.Native.Nat.{ℕ, _≤_, _<_}
+use Prim.Native.Nat.{ℕ, _≤_}
 use mathlib.Core.Path.{_≡_, refl, sym, ap, _∙_, subst}
 use mathlib.Core.Logic.{_⊎_, inl, inr, ⊎-elim}
 use mathlib.Core.Bool.{Bool, true, false, false≢true, cond, not, _&&_}
 use borrow.Author.Tests.{eqb-true, ltb-true, not-false}
 use lib.Dec.{eqb, ltb}
 use Rattle.bits.proofs.IndexLaws.{and-true, true-and}
-use Rattle.rules.specs.Access.{value, locked, bars, accepted, acted, clears}
-use Rattle.rules.specs.Map.{decode, numberOf, isRegister, fieldGuarded, settingGuard, guard, isLock}
+use Rattle.rules.specs.Access.{value, locked, bars, accepted, acted, effects}
+use Rattle.rules.specs.Map.{decode, numberOf, isRegister, guard, isLock}
 use Rattle.rules.specs.State.{most, classCount}
 use Rattle.rules.specs.Tick.{stepped, after}
 use Rattle.rules.specs.declared.Access.{Access}
-use Rattle.rules.specs.declared.Field.{Field}
+use Rattle.rules.specs.declared.Effects.{Effects}
 use Rattle.rules.specs.declared.Handler.{Handler}
 use Rattle.rules.specs.declared.Input.{Input}
 use Rattle.rules.specs.declared.Register.{Register}
-use Rattle.rules.specs.declared.Register.the-variants.{IntrState, IntrEnable, IntrTest, Local, Alert, Block, Unassigned}
-use Rattle.rules.specs.declared.Setting.{Setting}
+use Rattle.rules.specs.declared.Register.the-variants.{Local, Alert, Block}
 use Rattle.rules.specs.declared.Setting.the-variants.{ClrRegwen}
 use Rattle.rules.specs.declared.Wires.{Wires}
-use Rattle.laws.specs.Assigned.{assigned, settingExists}
-use Rattle.laws.specs.Frame.{fieldMoves, settingMoves}
+use Rattle.laws.specs.InMap.{inMap}
+use Rattle.laws.specs.Frame.{movesItself}
 use Rattle.laws.specs.RegisterFile.{target, newValue, writes}
 use Rattle.laws.proofs.Cases.{by-kind, by-field, by-setting}
 use Rattle.laws.proofs.Frame.{stepped-frame, clrwen-falls}
 use Rattle.laws.proofs.MapLaws.{number-eq}
-use Rattle.laws.proofs.RegisterFile.{target-assigned, accepted-assigned, acted-value, acted-n}
+use Rattle.laws.proofs.RegisterFile.{target-in-map, accepted-in-map, acted-value, acted-n}
 use Rattle.laws.proofs.Refusals.{unrefused}
 
 -- ── the REGWEN that guards a register ──
@@ -41,9 +40,9 @@ guard-guard q =
     (λ s k. by-setting (λ s. guard (guard (Block s k)) ≡ guard (Block s k)) refl refl refl refl refl refl refl (λ p. refl) refl refl s) refl q
 
 -- a handler that has a register has its guard
-guard-assigned : (n : ℕ) (q : Register) → assigned n q ≡ true → isRegister (guard q) ≡ true → assigned n (guard q) ≡ true
+guard-in-map : (n : ℕ) (q : Register) → inMap n q ≡ true → isRegister (guard q) ≡ true → inMap n (guard q) ≡ true
 unfolding guard
-guard-assigned n q =
+guard-in-map n q =
     by-kind P (λ a r. r) (λ a r. r) (λ a r. r)
     (λ f j. by-field (λ f. P (Local f j)) (λ a r. a) (λ a r. a) (λ a r. a) (λ a r. r) f)
     (λ f i. by-field (λ f. P (Alert f i)) (λ a r. a) (λ a r. a) (λ a r. a) (λ a r. r) f)
@@ -51,7 +50,7 @@ guard-assigned n q =
     (λ p a r. true-and (and-true (ltb k classCount) (ltb p 4) a .0) refl) (λ a r. r) (λ a r. r) s) (λ a r. r) q
   where
     P : Register → Type 0
-    P q = assigned n q ≡ true → isRegister (guard q) ≡ true → assigned n (guard q) ≡ true
+    P q = inMap n q ≡ true → isRegister (guard q) ≡ true → inMap n (guard q) ≡ true
 
 -- a REGWEN guards itself and holds what is written
 is-lock : (q : Register) → isLock q ≡ true → (guard q ≡ q) × ((old v : ℕ) → newValue q old v ≡ v)
@@ -90,12 +89,12 @@ module _ (h : Handler) (q : Register) (e : locked h q ≡ true) where
       l .1 (value h q) v ∙ eqb-true v 0 (b .1) ∙ sym (locked-guard .1) ∙ ap (value h) (l .0)
 
 -- where each locked register keeps its value, each stays locked
-stays : (h g : Handler) → ((p : Register) → assigned (h .n) p ≡ true → locked h p ≡ true → value g p ≡ value h p)
-    → (q : Register) → assigned (h .n) q ≡ true → locked h q ≡ true → (locked g q ≡ true) × (value g q ≡ value h q)
+stays : (h g : Handler) → ((p : Register) → inMap (h .n) p ≡ true → locked h p ≡ true → value g p ≡ value h p)
+    → (q : Register) → inMap (h .n) q ≡ true → locked h q ≡ true → (locked g q ≡ true) × (value g q ≡ value h q)
 unfolding locked
 stays h g f q a e = (
   ap (λ (x : ℕ). isRegister (guard q) && eqb x 0)
-      (f (guard q) (guard-assigned (h .n) q a (locked-guard h q e .0)) (guard-locked h q e)) ∙ e,
+      (f (guard q) (guard-in-map (h .n) q a (locked-guard h q e .0)) (guard-locked h q e)) ∙ e,
   f q a e,
 )
 
@@ -109,7 +108,7 @@ target-locked h w =
     (λ e. refl) (λ e. refl) (λ e. absurd (false≢true e)) (λ f j e. refl) (λ f i e. refl) (λ s k e. refl) (λ e. refl) w
 
 -- an access leaves what is locked
-acted-keeps : (h : Handler) (x : Access) → h .n ≤ most → (q : Register) → assigned (h .n) q ≡ true → locked h q ≡ true
+acted-keeps : (h : Handler) (x : Access) → h .n ≤ most → (q : Register) → inMap (h .n) q ≡ true → locked h q ≡ true
     → value (acted h x) q ≡ value h q
 acted-keeps h Access.Nothing m q a e = acted-value h Access.Nothing q m a
 acted-keeps h (Access.Read r) m q a e = acted-value h (Access.Read r) q m a
@@ -123,7 +122,7 @@ acted-keeps h (Access.Write r v) m q a e =
     go true d =
         let b = and-true (accepted h (Access.Write r v)) (writes w q) d in
         let t : target w ≡ q =
-        number-eq (h .n) (target w) q m (target-assigned (h .n) w (accepted-assigned h r v (b .0))) a
+        number-eq (h .n) (target w) q m (target-in-map (h .n) w (accepted-in-map h r v (b .0))) a
         (eqb-true (numberOf (target w)) (numberOf q) (b .1)) in
         let i : w ≡ q = target-locked h w (ap (locked h) t ∙ e) ∙ t in
         ap (λ (x : Register). newValue x (value h q) v) i
@@ -132,62 +131,57 @@ acted-keeps h (Access.Write r v) m q a e =
 acted-keeps h Access.Malformed m q a e = acted-value h Access.Malformed q m a
 
 -- whatever the access, a locked register keeps its value and stays locked
-pub acted-locked : (h : Handler) (x : Access) (q : Register) → h .n ≤ most → assigned (h .n) q ≡ true → locked h q ≡ true
+pub acted-locked : (h : Handler) (x : Access) (q : Register) → h .n ≤ most → inMap (h .n) q ≡ true → locked h q ≡ true
     → (locked (acted h x) q ≡ true) × (value (acted h x) q ≡ value h q)
 acted-locked h x q m = stays h (acted h x) (acted-keeps h x m) q
 
 -- ── steps 2 to 4 ──
 
 -- of the locked registers only CLR_REGWEN moves by itself
-field-still : (f : Field) (r : Register) → isRegister (cond (fieldGuarded f) r Unassigned) ≡ true → fieldMoves f ≡ false
-field-still f r =
-    by-field (λ f. isRegister (cond (fieldGuarded f) r Unassigned) ≡ true → fieldMoves f ≡ false)
-    (λ e. refl) (λ e. refl) (λ e. refl) (λ e. sym e) f
+still : (q : Register) → isRegister (guard q) ≡ true → (movesItself q ≡ false) ⊎ ((k : ℕ) × (q ≡ Block ClrRegwen k))
+unfolding guard
+still =
+    by-kind P (λ e. inl (sym e)) (λ e. inl refl) (λ e. inl refl)
+    (λ f j. by-field (λ f. P (Local f j)) (λ e. inl refl) (λ e. inl refl) (λ e. inl refl) (λ e. inl (sym e)) f)
+    (λ f i. by-field (λ f. P (Alert f i)) (λ e. inl refl) (λ e. inl refl) (λ e. inl refl) (λ e. inl (sym e)) f)
+    (λ s k. by-setting (λ s. P (Block s k)) (λ e. inl refl) (λ e. inl refl) (λ e. inr (k, refl)) (λ e. inl refl) (λ e. inl (sym e)) (λ e. inl refl)
+    (λ e. inl refl) (λ p e. inl refl) (λ e. inl (sym e)) (λ e. inl (sym e)) s) (λ e. inl refl)
+  where
+    P : Register → Type 0
+    P q = isRegister (guard q) ≡ true → (movesItself q ≡ false) ⊎ ((k : ℕ) × (q ≡ Block ClrRegwen k))
 
--- CLR_REGWEN is one of a block
-setting-still : (s : Setting) (k : ℕ) → isRegister (settingGuard s k) ≡ true → (settingMoves s ≡ false) ⊎ (s ≡ ClrRegwen)
-setting-still s k =
-    by-setting (λ s. isRegister (settingGuard s k) ≡ true → (settingMoves s ≡ false) ⊎ (s ≡ ClrRegwen)) (λ e. inl refl) (λ e. inl refl)
-    (λ e. inr refl) (λ e. inl refl) (λ e. inl (sym e)) (λ e. inl refl) (λ e. inl refl) (λ p e. inl refl) (λ e. inl (sym e)) (λ e. inl (sym e)) s
+module _ (g : Handler) (w : Wires) (fx : Effects) where
+  -- steps 2 to 4 leave it where it is locked
+  abbrev Kept : Register → Type 0
+  Kept q = inMap (g .n) q ≡ true → locked g q ≡ true → value (stepped g w fx) q ≡ value g q
 
-module _ (g : Handler) (w : Wires) (clear : ℕ → Bool) where
-  -- and a 0 in it stays
-  clrwen-keeps : (k : ℕ) → k < classCount → locked g (Block ClrRegwen k) ≡ true
-      → value (stepped g w clear) (Block ClrRegwen k) ≡ value g (Block ClrRegwen k)
+  -- a 0 in CLR_REGWEN stays
+  clrwen-keeps : (k : ℕ) → Kept (Block ClrRegwen k)
   unfolding guard
-  clrwen-keeps k l e = ⊎-elim (λ s. s) (λ z. z ∙ sym (locked-guard g (Block ClrRegwen k) e .1)) (clrwen-falls g w clear k l)
+  clrwen-keeps k a e =
+      ⊎-elim (λ s. s) (λ z. z ∙ sym (locked-guard g (Block ClrRegwen k) e .1))
+      (clrwen-falls g w fx k (ltb-true k classCount (and-true (ltb k classCount) true a .0)))
 
   -- so steps 2 to 4 leave what is locked
-  stepped-keeps : (q : Register) → assigned (g .n) q ≡ true → locked g q ≡ true → value (stepped g w clear) q ≡ value g q
-  unfolding guard
-  stepped-keeps IntrState a e = absurd (false≢true (locked-guard g IntrState e .0))
-  stepped-keeps IntrEnable a e = stepped-frame g w clear IntrEnable a refl
-  stepped-keeps IntrTest a e = stepped-frame g w clear IntrTest a refl
-  stepped-keeps (Local f j) a e = stepped-frame g w clear (Local f j) a (field-still f (Local Field.Regwen j) (locked-guard g (Local f j) e .0))
-  stepped-keeps (Alert f i) a e = stepped-frame g w clear (Alert f i) a (field-still f (Alert Field.Regwen i) (locked-guard g (Alert f i) e .0))
-  stepped-keeps (Block s k) a e =
-      ⊎-elim (λ (m : settingMoves s ≡ false). stepped-frame g w clear (Block s k) a m)
-      (λ (c : s ≡ ClrRegwen).
-      subst (λ (t : Setting). value (stepped g w clear) (Block t k) ≡ value g (Block t k)) (sym c)
-      (clrwen-keeps k (ltb-true k classCount (and-true (ltb k classCount) (settingExists s) a .0))
-      (subst (λ (t : Setting). locked g (Block t k) ≡ true) c e)))
-      (setting-still s k (locked-guard g (Block s k) e .0))
-  stepped-keeps Unassigned a e = stepped-frame g w clear Unassigned a refl
+  stepped-keeps : (q : Register) → Kept q
+  stepped-keeps q a e =
+      ⊎-elim (λ (m : movesItself q ≡ false). stepped-frame g w fx q a m)
+      (λ (c : (k : ℕ) × (q ≡ Block ClrRegwen k)). subst Kept (sym (c .1)) (clrwen-keeps (c .0)) a e) (still q (locked-guard g q e .0))
 
   -- a locked register keeps its value and stays locked
-  pub stepped-locked : (q : Register) → assigned (g .n) q ≡ true → locked g q ≡ true
-      → (locked (stepped g w clear) q ≡ true) × (value (stepped g w clear) q ≡ value g q)
-  stepped-locked q = stays g (stepped g w clear) stepped-keeps q
+  pub stepped-locked : (q : Register) → inMap (g .n) q ≡ true → locked g q ≡ true
+      → (locked (stepped g w fx) q ≡ true) × (value (stepped g w fx) q ≡ value g q)
+  stepped-locked q = stays g (stepped g w fx) stepped-keeps q
 
 -- ── the tick ──
 
 -- whatever comes in, a locked register keeps its value and stays locked in a tick
-pub after-locked : (h : Handler) (x : Input) (q : Register) → h .n ≤ most → assigned (h .n) q ≡ true → locked h q ≡ true
+pub after-locked : (h : Handler) (x : Input) (q : Register) → h .n ≤ most → inMap (h .n) q ≡ true → locked h q ≡ true
     → (locked (after h x) q ≡ true) × (value (after h x) q ≡ value h q)
 unfolding after
 after-locked h x q m a e =
     let s = acted-locked h (x .access) q m a e in
     let t =
-    stepped-locked (acted h (x .access)) (x .sample .alerts) (clears h (x .access)) q
-    (ap (λ (n : ℕ). assigned n q) (acted-n h (x .access)) ∙ a) (s .0) in
+    stepped-locked (acted h (x .access)) (x .sample .alerts) (effects h (x .access)) q
+    (ap (λ (n : ℕ). inMap n q) (acted-n h (x .access)) ∙ a) (s .0) in
     (t .0, t .1 ∙ s .1)

@@ -14,7 +14,8 @@ use Rattle.rules.specs.declared.Register.{Register}
 use Rattle.rules.specs.declared.Register.the-variants.{IntrState, IntrEnable, IntrTest, Local, Alert, Block, Unassigned}
 use Rattle.rules.specs.declared.Setting.{Setting}
 use Rattle.rules.specs.declared.Setting.the-variants.{Ctrl, ClrRegwen, Clr, AccumCnt, AccumThresh, TimeoutCyc, PhaseCyc, EscCnt}
-use Rattle.laws.specs.Assigned.{assigned, settingExists}
+use Rattle.laws.specs.InMap.{inMap, settingExists}
+use Rattle.laws.proofs.Cases.{by-field, by-setting}
 
 -- ── tests on the way ──
 
@@ -52,24 +53,18 @@ four b d c K rest r =
     (cond (within (b + 3 * d) c r) (K Field.Cause (r - (b + 3 * d))) rest)))
 
 module _ (b d c : ℕ) (K : Field → ℕ → Register) (rest : Register) where
-  -- the number of a field decodes to it
-  four-hit : (f : Field) (i : ℕ) → c ≤ d → i < c → four b d c K rest (b + d * fieldIndex f + i) ≡ K f i
-  four-hit f i l m = go f (b + d * fieldIndex f + i) refl
-    where
-      go : (f : Field) (r : ℕ) → r ≡ b + d * fieldIndex f + i → four b d c K rest r ≡ K f i
-      go Field.Regwen r e = simp (hit b c r (omega arith) (omega arith)) (ap (K Field.Regwen) (omega arith))
-      go Field.En r e = simp (over b c r (omega arith), hit (b + d) c r (omega arith) (omega arith)) (ap (K Field.En) (omega arith))
-      go Field.Class r e =
-          simp (over b c r (omega arith), over (b + d) c r (omega arith), hit (b + 2 * d) c r (omega arith) (omega arith))
-          (ap (K Field.Class) (omega arith))
-      go Field.Cause r e =
-          simp (over b c r (omega arith), over (b + d) c r (omega arith), over (b + 2 * d) c r (omega arith), hit (b + 3 * d) c r (omega arith) (omega arith))
-          (ap (K Field.Cause) (omega arith))
-
-  -- a number past them
-  four-over : (r : ℕ) → b + 3 * d + c ≤ r → four b d c K rest r ≡ rest
-  four-over r l =
-      simp (over b c r (omega arith), over (b + d) c r (omega arith), over (b + 2 * d) c r (omega arith), over (b + 3 * d) c r (omega arith))
+  -- a number in the range of a field decodes to it
+  four-hit : (f : Field) (r : ℕ) → c ≤ d → b + d * fieldIndex f ≤ r → r < b + d * fieldIndex f + c
+      → four b d c K rest r ≡ K f (r - (b + d * fieldIndex f))
+  four-hit Field.Regwen r l m h = simp (hit b c r (omega arith) (omega arith)) (ap (K Field.Regwen) (omega arith))
+  four-hit Field.En r l m h =
+      simp (over b c r (omega arith), hit (b + d) c r (omega arith) (omega arith)) (ap (K Field.En) (omega arith))
+  four-hit Field.Class r l m h =
+      simp (over b c r (omega arith), over (b + d) c r (omega arith), hit (b + 2 * d) c r (omega arith) (omega arith))
+      (ap (K Field.Class) (omega arith))
+  four-hit Field.Cause r l m h =
+      simp (over b c r (omega arith), over (b + d) c r (omega arith), over (b + 2 * d) c r (omega arith), hit (b + 3 * d) c r (omega arith) (omega arith))
+      (ap (K Field.Cause) (omega arith))
 
   -- what holds of each field holds of what a number decodes to
   four-at : (P : Register → Type 0) (r : ℕ) → ((f : Field) (i : ℕ) → i < c → b + d * fieldIndex f + i ≡ r → P (K f i)) → P rest
@@ -80,48 +75,76 @@ module _ (b d c : ℕ) (K : Field → ℕ → Register) (rest : Register) where
       at : (g : Field) (first : ℕ) → b + d * fieldIndex g ≡ first → within first c r ≡ true → P (K g (r - first))
       at g first e w = let h = inside first c r w in f g (r - first) (omega arith) (omega arith)
 
--- ── from a register to its number and back ──
+  -- a number in none of the ranges
+  four-miss : (r : ℕ) → ((f : Field) → b + d * fieldIndex f ≤ r → r < b + d * fieldIndex f + c → ⊥) → four b d c K rest r ≡ rest
+  four-miss r m = four-at (λ q. q ≡ rest) r (λ f i l e. absurd (m f (omega arith) (omega arith))) refl
 
--- a block has 16 numbers
-offset-lt : (s : Setting) → settingExists s ≡ true → offset s < 16
-offset-lt Setting.Regwen e = omega arith
-offset-lt Ctrl e = omega arith
-offset-lt ClrRegwen e = omega arith
-offset-lt Clr e = omega arith
-offset-lt AccumCnt e = omega arith
-offset-lt AccumThresh e = omega arith
-offset-lt TimeoutCyc e = omega arith
-offset-lt (PhaseCyc p) e = omega (arith, ltb-true p 4 e)
-offset-lt EscCnt e = omega arith
-offset-lt Setting.State e = omega arith
+-- there are four
+field-lt : (f : Field) → fieldIndex f < 4
+field-lt = by-field (λ f. fieldIndex f < 4) (omega arith) (omega arith) (omega arith) (omega arith)
 
--- the register at its offset in a block
-block-at : (s : Setting) (k : ℕ) → settingExists s ≡ true → blockAt k (offset s) ≡ Block s k
-unfolding blockAt
-block-at Setting.Regwen k e = refl
-block-at Ctrl k e = refl
-block-at ClrRegwen k e = refl
-block-at Clr k e = refl
-block-at AccumCnt k e = refl
-block-at AccumThresh k e = refl
-block-at TimeoutCyc k e = refl
-block-at (PhaseCyc p) k e = phase (7 + p) (ltb-true p 4 e) refl
-  where
-    phase : (o : ℕ) → p < 4 → o ≡ 7 + p → blockAt k o ≡ Block (PhaseCyc p) k
-    phase o l e =
-        simp (
-          above o 0 (omega arith),
-          above o 1 (omega arith),
-          above o 2 (omega arith),
-          above o 3 (omega arith),
-          above o 4 (omega arith),
-          above o 5 (omega arith),
-          above o 6 (omega arith),
-          hit 7 4 o (omega arith) (omega arith),
-        )
-        (ap (λ (i : ℕ). Block (PhaseCyc i) k) (omega arith))
-block-at EscCnt k e = refl
-block-at Setting.State k e = refl
+-- ── the block of a class ──
+
+-- a block has 13 registers
+offset-lt : (s : Setting) → settingExists s ≡ true → offset s < 13
+offset-lt =
+    by-setting (λ s. settingExists s ≡ true → offset s < 13) (λ e. omega arith) (λ e. omega arith) (λ e. omega arith) (λ e. omega arith)
+    (λ e. omega arith) (λ e. omega arith) (λ e. omega arith) (λ p e. omega (arith, ltb-true p 4 e)) (λ e. omega arith) (λ e. omega arith)
+
+module _ (k : ℕ) where
+  -- the length of a phase
+  phase-at : (p o : ℕ) → p < 4 → o ≡ 7 + p → blockAt k o ≡ Block (PhaseCyc p) k
+  unfolding blockAt
+  phase-at p o l e =
+      simp (
+        above o 0 (omega arith),
+        above o 1 (omega arith),
+        above o 2 (omega arith),
+        above o 3 (omega arith),
+        above o 4 (omega arith),
+        above o 5 (omega arith),
+        above o 6 (omega arith),
+        hit 7 4 o (omega arith) (omega arith),
+      )
+      (ap (λ (i : ℕ). Block (PhaseCyc i) k) (omega arith))
+
+  -- the register at its offset
+  pub block-at : (s : Setting) → settingExists s ≡ true → blockAt k (offset s) ≡ Block s k
+  unfolding blockAt
+  block-at =
+      by-setting (λ s. settingExists s ≡ true → blockAt k (offset s) ≡ Block s k) (λ e. refl) (λ e. refl) (λ e. refl) (λ e. refl) (λ e. refl)
+      (λ e. refl) (λ e. refl) (λ p e. phase-at p (7 + p) (ltb-true p 4 e) refl) (λ e. refl) (λ e. refl)
+
+  -- what holds of the register with an offset, and of none, holds of what is at the offset
+  block-found : (P : Register → Type 0) (o : ℕ) → ((s : Setting) → settingExists s ≡ true → offset s ≡ o → P (Block s k)) → P Unassigned
+      → P (blockAt k o)
+  unfolding blockAt
+  block-found P o f g = either P _ _ _ (one Setting.Regwen refl) (either P _ _ _ (one Ctrl refl) (either P _ _ _ (one ClrRegwen refl)
+      (either P _ _ _ (one Clr refl) (either P _ _ _ (one AccumCnt refl) (either P _ _ _ (one AccumThresh refl)
+      (either P _ _ _ (one TimeoutCyc refl) (either P _ _ _ phase (either P _ _ _ (one EscCnt refl)
+      (either P _ _ _ (one Setting.State refl) g)))))))))
+    where
+      one : (s : Setting) → settingExists s ≡ true → eqb o (offset s) ≡ true → P (Block s k)
+      one s x t = f s x (sym (eqb-true o (offset s) t))
+
+      phase : within 7 4 o ≡ true → P (Block (PhaseCyc (o - 7)) k)
+      phase t = let h = inside 7 4 o t in f (PhaseCyc (o - 7)) (lt-ltb (o - 7) 4 (omega arith)) (omega arith)
+
+  -- past the registers there is none
+  pub block-none : (o : ℕ) → 13 ≤ o → blockAt k o ≡ Unassigned
+  block-none o l = block-found (λ q. q ≡ Unassigned) o (λ s x e. absurd (omega (arith, offset-lt s x))) refl
+
+-- registers at one offset are one
+pub offset-eq : (s t : Setting) → settingExists s ≡ true → settingExists t ≡ true → offset s ≡ offset t → s ≡ t
+offset-eq s t x y e = let i : Block s 0 ≡ Block t 0 = sym (block-at 0 s x) ∙ ap (blockAt 0) e ∙ block-at 0 t y in cc
+
+-- up to the lengths every offset is a register's
+pub offset-exists : (s : Setting) → offset s < 11 → settingExists s ≡ true
+offset-exists =
+    by-setting (λ s. offset s < 11 → settingExists s ≡ true) (λ l. refl) (λ l. refl) (λ l. refl) (λ l. refl) (λ l. refl) (λ l. refl) (λ l. refl)
+    (λ p l. lt-ltb p 4 (omega arith)) (λ l. refl) (λ l. refl)
+
+-- ── what each range decodes to ──
 
 -- the four classes
 abbrev blocks : ℕ → Register
@@ -132,55 +155,61 @@ decode-is : (n r : ℕ) → 2 < r → decode n r ≡ four 16 8 localCount Local 
 unfolding decode
 decode-is n r l = simp (above r 0 (omega arith), above r 1 (omega arith), above r 2 (omega arith))
 
+module _ (n r : ℕ) where
+  pub decode-local : (f : Field) → 16 + 8 * fieldIndex f ≤ r → r < 16 + 8 * fieldIndex f + localCount
+      → decode n r ≡ Local f (r - (16 + 8 * fieldIndex f))
+  decode-local f l m = decode-is n r (omega arith) ∙ four-hit 16 8 localCount Local _ f r (omega arith) l m
+
+  -- above the local alerts
+  decode-high : stride ≤ r → decode n r ≡ four stride stride stride (alertAt n) (blocks r) r
+  decode-high l = decode-is n r (omega arith) ∙ four-miss 16 8 localCount Local _ r (λ f x y. omega (arith, field-lt f))
+
+  pub decode-alert : (f : Field) → (1 + fieldIndex f) * stride ≤ r → r < (1 + fieldIndex f) * stride + stride
+      → decode n r ≡ alertAt n f (r - (1 + fieldIndex f) * stride)
+  decode-alert f l m =
+      decode-high (omega arith)
+      ∙ four-hit stride stride stride (alertAt n) (blocks r) f r (omega arith) (omega arith) (omega arith) ∙ ap (alertAt n f) (omega arith)
+
+  pub decode-block : classBase ≤ r → r < classBase + 16 * classCount → decode n r ≡ blockAt ((r - classBase) / 16) ((r - classBase) % 16)
+  decode-block l m =
+      decode-high (omega arith) ∙ four-miss stride stride stride (alertAt n) (blocks r) r (λ f x y. omega (arith, field-lt f))
+      ∙ simp (hit classBase (16 * classCount) r l m)
+
+  -- all other numbers are unassigned
+  pub decode-none : 2 < r → ((j : ℕ) → j < 4 → 16 + 8 * j ≤ r → r < 16 + 8 * j + localCount → ⊥) → (stride ≤ r → r < classBase + 16 * classCount → ⊥)
+      → decode n r ≡ Unassigned
+  decode-none h l b =
+      decode-is n r h ∙ four-miss 16 8 localCount Local _ r (λ f. l (fieldIndex f) (field-lt f))
+      ∙ four-miss stride stride stride (alertAt n) (blocks r) r (λ f x y. b (omega arith) (omega (arith, field-lt f)))
+      ∙ either (λ q. q ≡ Unassigned) (within classBase (16 * classCount) r) _ _
+      (λ t. let i = inside classBase (16 * classCount) r t in absurd (b (omega arith) (omega arith))) refl
+
+-- ── from a register to its number and back ──
+
 -- a register's number decodes to it
-pub decode-number : (n : ℕ) (q : Register) → n ≤ most → assigned n q ≡ true → decode n (numberOf q) ≡ q
+pub decode-number : (n : ℕ) (q : Register) → n ≤ most → inMap n q ≡ true → decode n (numberOf q) ≡ q
 unfolding decode numberOf
 decode-number n IntrState h e = refl
 decode-number n IntrEnable h e = refl
 decode-number n IntrTest h e = refl
 decode-number n (Local f j) h e =
-    decode-is n (16 + 8 * fieldIndex f + j) (omega arith) ∙ four-hit 16 8 localCount Local _ f j (omega arith) (ltb-true j localCount e)
+    let l : j < localCount = ltb-true j localCount e in
+    decode-local n (16 + 8 * fieldIndex f + j) f (omega arith) (omega arith) ∙ ap (Local f) (omega arith)
 decode-number n (Alert f i) h e =
-    let r : ℕ = stride + stride * fieldIndex f + i in
-    let d : (1 + fieldIndex f) * stride + i ≡ r = omega arith in
-    ap (decode n) d ∙ decode-is n r (omega arith) ∙ four-over 16 8 localCount Local _ r (omega arith)
-    ∙ four-hit stride stride stride (alertAt n) (blocks r) f i (omega arith) (omega (arith, ltb-true i n e))
-    ∙ ap (λ (t : Bool). cond t (Alert f i) Unassigned) e
+    let l : i < n = ltb-true i n e in
+    decode-alert n ((1 + fieldIndex f) * stride + i) f (omega arith) (omega arith)
+    ∙ ap (alertAt n f) (omega arith) ∙ ap (λ (t : Bool). cond t (Alert f i) Unassigned) e
 decode-number n (Block s k) h e =
-    let r : ℕ = classBase + 16 * k + offset s in
     let a = and-true (ltb k classCount) (settingExists s) e in
     let l : k < classCount = ltb-true k classCount (a .0) in
-    let o : offset s < 16 = offset-lt s (a .1) in
-    decode-is n r (omega arith) ∙ four-over 16 8 localCount Local _ r (omega arith) ∙ four-over stride stride stride (alertAt n) (blocks r) r (omega arith)
-    ∙ simp (hit classBase (16 * classCount) r (omega arith) (omega arith)) (ap₂ blockAt (omega arith) (omega arith)) ∙ block-at s k (a .1)
+    let o : offset s < 13 = offset-lt s (a .1) in
+    decode-block n (classBase + 16 * k + offset s) (omega arith) (omega arith)
+    ∙ ap₂ blockAt (omega arith) (omega arith) ∙ block-at k s (a .1)
 decode-number n Unassigned h e = absurd (false≢true e)
 
 -- q has the number r, and the map assigns it
 abbrev Numbered : ℕ → ℕ → Register → Type 0
-Numbered n r q = isRegister q ≡ true → (numberOf q ≡ r) × (assigned n q ≡ true)
-
-module _ (n r k o : ℕ) (l : k < classCount) (e : classBase + 16 * k + o ≡ r) where
-  -- a register of a block
-  setting-numbered : (s : Setting) → offset s ≡ o → settingExists s ≡ true → Numbered n r (Block s k)
-  unfolding numberOf
-  setting-numbered s d x h = (ap (λ (m : ℕ). classBase + 16 * k + m) d ∙ e, true-and (lt-ltb k classCount l) x)
-
-  -- and what is at an offset in the block
-  block-numbered : Numbered n r (blockAt k o)
-  unfolding blockAt
-  block-numbered = either P _ _ _ (one Setting.Regwen refl) (either P _ _ _ (one Ctrl refl) (either P _ _ _ (one ClrRegwen refl)
-      (either P _ _ _ (one Clr refl) (either P _ _ _ (one AccumCnt refl) (either P _ _ _ (one AccumThresh refl)
-      (either P _ _ _ (one TimeoutCyc refl) (either P _ _ _ phase (either P _ _ _ (one EscCnt refl)
-      (either P _ _ _ (one Setting.State refl) (λ h. absurd (false≢true h)))))))))))
-    where
-      P : Register → Type 0
-      P = Numbered n r
-
-      one : (s : Setting) → settingExists s ≡ true → eqb o (offset s) ≡ true → P (Block s k)
-      one s x t = setting-numbered s (sym (eqb-true o (offset s) t)) x
-
-      phase : within 7 4 o ≡ true → P (Block (PhaseCyc (o - 7)) k)
-      phase t = let h = inside 7 4 o t in setting-numbered (PhaseCyc (o - 7)) (omega arith) (lt-ltb (o - 7) 4 (omega arith))
+Numbered n r q = isRegister q ≡ true → (numberOf q ≡ r) × (inMap n q ≡ true)
 
 -- what a number decodes to has that number
 decoded : (n r : ℕ) → Numbered n r (decode n r)
@@ -200,16 +229,26 @@ decoded n r =
     alert f i e = either P (ltb i n) (Alert f i) Unassigned (λ t h. (omega arith, t)) (λ h. absurd (false≢true h))
 
     block : within classBase (16 * classCount) r ≡ true → P (blockAt ((r - classBase) / 16) ((r - classBase) % 16))
-    block t = let h = inside classBase (16 * classCount) r t in block-numbered n r ((r - classBase) / 16) ((r - classBase) % 16) (omega arith) (omega arith)
+    block t =
+        let h = inside classBase (16 * classCount) r t in
+        let k : (r - classBase) / 16 < classCount = omega arith in
+        block-found ((r - classBase) / 16) P ((r - classBase) % 16)
+        (λ s x (e : offset s ≡ (r - classBase) % 16) g. (omega arith, true-and (lt-ltb _ _ k) x)) (λ g. absurd (false≢true g))
 
 -- a number that decodes to a register is that register's
 pub number-decode : (n r : ℕ) → isRegister (decode n r) ≡ true → numberOf (decode n r) ≡ r
 number-decode n r h = decoded n r h .0
 
 -- what a number decodes to, a handler of n alerts has
-pub decode-assigned : (n r : ℕ) → isRegister (decode n r) ≡ true → assigned n (decode n r) ≡ true
-decode-assigned n r h = decoded n r h .1
+pub decode-in-map : (n r : ℕ) → isRegister (decode n r) ≡ true → inMap n (decode n r) ≡ true
+decode-in-map n r h = decoded n r h .1
+
+-- a decoded class is one of the four
+pub block-lt : (n r : ℕ) (s : Setting) (k : ℕ) → decode n r ≡ Block s k → k < classCount
+block-lt n r s k e =
+    let a : inMap n (Block s k) ≡ true = ap (inMap n) (sym e) ∙ decode-in-map n r (ap isRegister e) in
+    ltb-true k classCount (and-true (ltb k classCount) (settingExists s) a .0)
 
 -- registers with one number are one
-pub number-eq : (n : ℕ) (p q : Register) → n ≤ most → assigned n p ≡ true → assigned n q ≡ true → numberOf p ≡ numberOf q → p ≡ q
+pub number-eq : (n : ℕ) (p q : Register) → n ≤ most → inMap n p ≡ true → inMap n q ≡ true → numberOf p ≡ numberOf q → p ≡ q
 number-eq n p q h a b e = sym (decode-number n p h a) ∙ ap (decode n) e ∙ decode-number n q h b

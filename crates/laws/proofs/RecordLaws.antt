@@ -1,35 +1,44 @@
 -- One record: reading what was written gives the same access and sample, and writing what was read the same bytes.
 -- Assumes nothing.
-use Prim.Native.Nat.{ℕ, zero, suc, _*_, _^_, _<_}
+use Prim.Native.Nat.{ℕ, zero, suc, _*_, _^_, _≤_, _<_}
 use mathlib.Core.Path.{_≡_, refl, sym, ap, ap₂, _∙_, subst}
-use mathlib.Core.Bool.{Bool, true, false, false≢true, cond}
+use mathlib.Core.Bool.{Bool, true, false, false≢true, cond, _&&_}
 use mathlib.Core.List.{List, [], _∷_}
 use native.Mathlib.Omega.{arith}
 use native.Mathlib.Nat.{mod-lt}
-use borrow.Author.Tests.{ltb-true}
+use borrow.Author.Tests.{ltb-true, ne-eqb}
 use lib.Dec.{eqb, eqb·suc-zero}
 use lib.ListN.{getD, length}
 use lib.Pow.{pow-pos}
 use Rattle.bits.specs.Bits.{fits}
-use Rattle.bits.specs.Fields.{pack, unpack, ofBytes, toBytes, Fit, none, one}
+use Rattle.bits.specs.Fields.{total, pack, unpack, ofBytes, toBytes, Fit, none, one}
 use Rattle.bits.proofs.ByteLaws.{length-bytes, is-byte, bytes-lt, to-of-bytes, of-to-bytes}
-use Rattle.bits.proofs.FieldLaws.{pack-lt, unpack-pack, pack-unpack}
-use Rattle.bits.proofs.IndexLaws.{and-true, or-right}
+use Rattle.bits.proofs.FieldLaws.{pack-lt, unpack-pack, pack-unpack, unpack-fits}
+use Rattle.bits.proofs.IndexLaws.{and-true}
 use Rattle.rules.specs.Access.{malformed}
-use Rattle.rules.specs.Record.{recordBytes, recordLayout, registerBits, valueBits, accessOf, badRecord, inputOfFields, inputOf, kindOf, registerOf, valueOf, fieldsOfInput, recordOf, recordable}
+use Rattle.rules.specs.Edition.{recordBytes, registerBits, zeroBits, alerts}
+use Rattle.rules.specs.Record.{layout, valueBits, accessOf, accessIn, inputOfFields, heldIn, kindOf, registerOf, valueOf, fieldsOfInput, recordOf, recordable}
 use Rattle.rules.specs.Writer.{Wired}
 use Rattle.rules.specs.declared.Access.{Access}
 use Rattle.rules.specs.declared.Access.the-variants.{Nothing, Read, Write, Malformed}
+use Rattle.rules.specs.declared.Edition.{Edition}
+use Rattle.rules.specs.declared.Edition.the-variants.{Bytes24}
 use Rattle.rules.specs.declared.Input.{Input}
 use Rattle.rules.specs.declared.Sample.{Sample}
+use Rattle.laws.specs.Wires.{Blank}
+use Rattle.laws.proofs.WireLaws.{wires-lt, wires-back, words-back}
 
-pub record-length : (x : Input) → length (recordOf x) ≡ recordBytes
+pub record-length : (e : Edition) (x : Input) → length (recordOf e x) ≡ recordBytes e
 unfolding recordOf
-record-length x = length-bytes recordBytes (pack recordLayout (fieldsOfInput x))
+record-length e x = length-bytes (recordBytes e) (pack (layout e) (fieldsOfInput e x))
 
-pub record-byte : (x : Input) (i : ℕ) → getD (recordOf x) i 0 < 2 ^ 8
+pub record-byte : (e : Edition) (x : Input) (i : ℕ) → getD (recordOf e x) i 0 < 2 ^ 8
 unfolding recordOf
-record-byte x i = is-byte recordBytes (pack recordLayout (fieldsOfInput x)) i
+record-byte e x i = is-byte (recordBytes e) (pack (layout e) (fieldsOfInput e x)) i
+
+-- the fields fill the bytes
+layout-bytes : (e : Edition) → total (layout e) ≡ 8 * recordBytes e
+layout-bytes Bytes24 = refl
 
 -- ── from an access and sample to bytes and back ──
 
@@ -40,100 +49,91 @@ kind-lt (Read r) = omega arith
 kind-lt (Write r v) = omega arith
 kind-lt Malformed = omega arith
 
-register-lt : (a : Access) → recordable a ≡ true → registerOf a < 2 ^ registerBits
+register-lt : (e : Edition) (a : Access) → recordable e a ≡ true → registerOf a < 2 ^ registerBits e
 unfolding recordable
-register-lt Nothing e = pow-pos registerBits
-register-lt (Read r) e = ltb-true r (2 ^ registerBits) e
-register-lt (Write r v) e = ltb-true r (2 ^ registerBits) (and-true (fits registerBits r) (fits valueBits v) e .0)
-register-lt Malformed e = pow-pos registerBits
+register-lt e Nothing t = pow-pos (registerBits e)
+register-lt e (Read r) t = ltb-true r (2 ^ registerBits e) t
+register-lt e (Write r v) t = ltb-true r (2 ^ registerBits e) (and-true (fits (registerBits e) r) (fits valueBits v) t .0)
+register-lt e Malformed t = pow-pos (registerBits e)
 
-value-lt : (a : Access) → recordable a ≡ true → valueOf a < 2 ^ valueBits
+value-lt : (e : Edition) (a : Access) → recordable e a ≡ true → valueOf a < 2 ^ valueBits
 unfolding recordable
-value-lt Nothing e = pow-pos valueBits
-value-lt (Read r) e = pow-pos valueBits
-value-lt (Write r v) e = ltb-true v (2 ^ valueBits) (and-true (fits registerBits r) (fits valueBits v) e .1)
-value-lt Malformed e = pow-pos valueBits
+value-lt e Nothing t = pow-pos valueBits
+value-lt e (Read r) t = pow-pos valueBits
+value-lt e (Write r v) t = ltb-true v (2 ^ valueBits) (and-true (fits (registerBits e) r) (fits valueBits v) t .1)
+value-lt e Malformed t = pow-pos valueBits
 
 -- and give the access
-access-back : (a : Access) → recordable a ≡ true → accessOf (kindOf a) (registerOf a) 0 (valueOf a) ≡ a
+access-back : (e : Edition) (a : Access) → recordable e a ≡ true → accessOf (kindOf a) (registerOf a) (valueOf a) ≡ a
 unfolding recordable accessOf
-access-back Nothing e = refl
-access-back (Read r) e = refl
-access-back (Write r v) e = refl
-access-back Malformed e = absurd (false≢true e)
+access-back e Nothing t = refl
+access-back e (Read r) t = refl
+access-back e (Write r v) t = refl
+access-back e Malformed t = absurd (false≢true t)
 
--- a list of one word of 64
-abbrev OneWord : List ℕ → Type 0
-OneWord ws = (p : ℕ) × (p < 2 ^ 64) × (ws ≡ p ∷ [])
+module _ (e : Edition) (x : Input) (w : Wired x) (t : recordable e (x .access) ≡ true) where
+  fields-fit : Fit (layout e) (fieldsOfInput e x)
+  fields-fit =
+      one (kind-lt (x .access)) (one (register-lt e (x .access) t) (one (pow-pos (zeroBits e)) (one (value-lt e (x .access) t)
+      (one (wires-lt e (x .sample .alerts .pos) (w .positive)) (one (wires-lt e (x .sample .alerts .neg) (w .negative)) none)))))
 
-word-first : (ws : List ℕ) (w : OneWord ws) → getD ws 0 0 ≡ w .0
-word-first ws w = ap (λ (vs : List ℕ). getD vs 0 0) (w .2)
-
-word-lt : (ws : List ℕ) → OneWord ws → getD ws 0 0 < 2 ^ 64
-word-lt ws w = subst (λ (n : ℕ). n < 2 ^ 64) (sym (word-first ws w)) (w .1)
-
-word-back : (ws : List ℕ) → OneWord ws → getD ws 0 0 ∷ [] ≡ ws
-word-back ws w = ap (λ (n : ℕ). n ∷ []) (word-first ws w) ∙ sym (w .2)
-
-fields-fit : (x : Input) → Wired x → recordable (x .access) ≡ true → Fit recordLayout (fieldsOfInput x)
-fields-fit x w e =
-    one (kind-lt (x .access)) (one (register-lt (x .access) e) (one (pow-pos 20) (one (value-lt (x .access) e)
-    (one (word-lt (x .sample .alerts .pos) (w .positive)) (one (word-lt (x .sample .alerts .neg) (w .negative)) none)))))
-
-fields-back : (x : Input) → Wired x → recordable (x .access) ≡ true → inputOfFields (fieldsOfInput x) ≡ x
-fields-back x w e =
-    ap₂ (λ (a : Access) (s : Sample). record { access = a; sample = s }) (access-back (x .access) e)
-    (ap₂ (λ (p m : List ℕ). record { alerts = record { pos = p; neg = m } }) (word-back (x .sample .alerts .pos) (w .positive)) (word-back (x .sample .alerts .neg) (w .negative)))
-
-pub input-record : (x : Input) → Wired x → recordable (x .access) ≡ true → inputOf (recordOf x) ≡ x
-unfolding inputOf recordOf
-input-record x w e =
-    let f = fields-fit x w e in
-    ap (λ (n : ℕ). inputOfFields (unpack recordLayout n)) (of-to-bytes recordBytes (pack recordLayout (fieldsOfInput x)) (pack-lt f))
-    ∙ ap inputOfFields (unpack-pack f) ∙ fields-back x w e
+  -- no wire beyond the edition's is high
+  pub input-record : Blank e (x .sample .alerts .pos) → Blank e (x .sample .alerts .neg) → heldIn e (recordOf e x) ≡ x
+  unfolding heldIn recordOf
+  input-record p m =
+      let small = subst (λ (k : ℕ). pack (layout e) (fieldsOfInput e x) < 2 ^ k) (layout-bytes e) (pack-lt fields-fit) in
+      ap (λ (n : ℕ). inputOfFields e (unpack (layout e) n)) (of-to-bytes (recordBytes e) (pack (layout e) (fieldsOfInput e x)) small)
+      ∙ ap (inputOfFields e) (unpack-pack fields-fit)
+      ∙ ap₂ (λ (a : Access) (s : Sample). record { access = a; sample = s }) (access-back e (x .access) t)
+      (ap₂ (λ (p m : List ℕ). record { alerts = record { pos = p; neg = m } }) (words-back e (x .sample .alerts .pos) (w .positive) p) (words-back e (x .sample .alerts .neg) (w .negative) m))
 
 -- ── from bytes to an access and sample and back ──
 
+-- a kind over 2 is no access
+pub kind-over : (k r v : ℕ) → 3 ≤ k → accessOf k r v ≡ Malformed
+unfolding accessOf
+kind-over k r v h = rw (ne-eqb k 0 (λ z. omega arith), ne-eqb k 1 (λ z. omega arith), ne-eqb k 2 (λ z. omega arith))
+
 -- the wires of any bytes are words of 64
-pub input-wired : (bytes : List ℕ) → Wired (inputOf bytes)
-unfolding inputOf unpack
-input-wired bytes = record { positive = (_, mod-lt _ (pow-pos 64), refl); negative = (_, mod-lt _ (pow-pos 64), refl) }
+pub held-wired : (e : Edition) (bytes : List ℕ) → Wired (heldIn e bytes)
+unfolding heldIn
+held-wired e bytes = record { positive = unpack-fits _ _; negative = unpack-fits _ _ }
 
--- a record that is not malformed has zeros in its 20 bits, and its access has its kind, register and value
-record FieldsOf (a : Access) (kind register zeros value : ℕ) : Type 0 where
-  has-kind : kindOf a ≡ kind
-  has-register : registerOf a ≡ register
-  has-zeros : 0 ≡ zeros
-  has-value : valueOf a ≡ value
+-- a record that is not malformed has no bit among its zero bits, and its access has its kind, register and value
+pub record FieldsOf (a : Access) (kind register zeros value : ℕ) : Type 0 where
+  pub has-kind : kindOf a ≡ kind
+  pub has-register : registerOf a ≡ register
+  pub has-zeros : 0 ≡ zeros
+  pub has-value : valueOf a ≡ value
 
-is-bad : (k r z v : ℕ) → badRecord k r z v ≡ true → malformed (accessOf k r z v) ≡ false → ⊥
+-- a test that leads to a malformed record does not hold of one that is not
+not-bad : (b : Bool) (a : Access) → b ≡ false → malformed (cond b a Malformed) ≡ false → ⊥
+not-bad true a p q = false≢true (sym p)
+not-bad false a p q = false≢true (sym q)
+
+pub access-fields : (k r z v : ℕ) → malformed (accessIn k r z v) ≡ false → FieldsOf (accessIn k r z v) k r z v
 unfolding accessOf
-is-bad k r z v b e =
-    false≢true (sym e ∙ ap (λ (t : Bool). malformed (cond t Malformed (cond (eqb k 0) Nothing (cond (eqb k 1) (Read r) (Write r v))))) b)
-
-access-fields : (k r z v : ℕ) → k < 2 ^ 2 → malformed (accessOf k r z v) ≡ false → FieldsOf (accessOf k r z v) k r z v
-unfolding accessOf
-access-fields zero zero zero zero l e = record { has-kind = refl; has-register = refl; has-zeros = refl; has-value = refl }
-access-fields zero zero zero (suc v) l e = absurd (is-bad 0 0 0 (suc v) (rw (eqb·suc-zero v) refl) e)
-access-fields zero (suc r) zero v l e = absurd (is-bad 0 (suc r) 0 v (rw (eqb·suc-zero r) refl) e)
-access-fields (suc zero) r zero zero l e = record { has-kind = refl; has-register = refl; has-zeros = refl; has-value = refl }
-access-fields (suc zero) r zero (suc v) l e = absurd (is-bad 1 r 0 (suc v) (rw (eqb·suc-zero v) refl) e)
-access-fields (suc (suc zero)) r zero v l e = record { has-kind = refl; has-register = refl; has-zeros = refl; has-value = refl }
-access-fields (suc (suc (suc zero))) r zero v l e = absurd (is-bad 3 r 0 v refl e)
-access-fields (suc (suc (suc (suc k)))) r zero v l e = absurd (omega arith)
-access-fields k r (suc z) v l e = absurd (is-bad k r (suc z) v (or-right (eqb k 3) (rw (eqb·suc-zero z) refl)) e)
+access-fields zero zero zero zero f = record { has-kind = refl; has-register = refl; has-zeros = refl; has-value = refl }
+access-fields zero zero zero (suc v) f = absurd (not-bad (eqb (suc v) 0) Nothing (eqb·suc-zero v) f)
+access-fields zero (suc r) zero v f = absurd (not-bad (eqb (suc r) 0 && eqb v 0) Nothing (ap (λ (b : Bool). b && eqb v 0) (eqb·suc-zero r)) f)
+access-fields (suc zero) r zero zero f = record { has-kind = refl; has-register = refl; has-zeros = refl; has-value = refl }
+access-fields (suc zero) r zero (suc v) f = absurd (not-bad (eqb (suc v) 0) (Read r) (eqb·suc-zero v) f)
+access-fields (suc (suc zero)) r zero v f = record { has-kind = refl; has-register = refl; has-zeros = refl; has-value = refl }
+access-fields (suc (suc (suc k))) r zero v f = absurd (false≢true (sym f ∙ ap malformed (kind-over (suc (suc (suc k))) r v (omega arith))))
+access-fields k r (suc z) v f = absurd (not-bad (eqb (suc z) 0) (accessOf k r v) (eqb·suc-zero z) f)
 
 -- the fields of its access and wires are its fields
-fields-of-read : (k r z v p m : ℕ) → k < 2 ^ 2 → malformed (accessOf k r z v) ≡ false
-    → fieldsOfInput (inputOfFields (k ∷ r ∷ z ∷ v ∷ p ∷ m ∷ [])) ≡ k ∷ r ∷ z ∷ v ∷ p ∷ m ∷ []
-fields-of-read k r z v p m l e =
-    let f = access-fields k r z v l e in
-    rw (f .has-kind, f .has-register, f .has-value, ← f .has-zeros)
+fields-of-read : (e : Edition) (k r z v p m : ℕ) → p < 2 ^ alerts e → m < 2 ^ alerts e → malformed (accessIn k r z v) ≡ false
+    → fieldsOfInput e (inputOfFields e (k ∷ r ∷ z ∷ v ∷ p ∷ m ∷ [])) ≡ k ∷ r ∷ z ∷ v ∷ p ∷ m ∷ []
+fields-of-read e k r z v p m h l f =
+    let a = access-fields k r z v f in
+    rw (a .has-kind, a .has-register, a .has-value, ← a .has-zeros, wires-back e p h, wires-back e m l)
 
-pub record-input : (bytes : List ℕ) → length bytes ≡ recordBytes → ((i : ℕ) → getD bytes i 0 < 2 ^ 8) → malformed (inputOf bytes .access) ≡ false
-    → recordOf (inputOf bytes) ≡ bytes
-unfolding inputOf recordOf unpack
-record-input bytes n h e =
-    ap (λ (fs : List ℕ). toBytes recordBytes (pack recordLayout fs)) (fields-of-read _ _ _ _ _ _ (mod-lt _ (pow-pos 2)) e)
-    ∙ ap (toBytes recordBytes) (pack-unpack recordLayout (ofBytes bytes) (subst (λ (k : ℕ). ofBytes bytes < 2 ^ (8 * k)) n (bytes-lt bytes h)))
+pub record-input : (e : Edition) (bytes : List ℕ) → length bytes ≡ recordBytes e → ((i : ℕ) → getD bytes i 0 < 2 ^ 8) → malformed (heldIn e bytes .access) ≡ false
+    → recordOf e (heldIn e bytes) ≡ bytes
+unfolding heldIn recordOf unpack
+record-input e bytes n h f =
+    let small = subst (λ (k : ℕ). ofBytes bytes < 2 ^ k) (ap (λ (k : ℕ). 8 * k) n ∙ sym (layout-bytes e)) (bytes-lt bytes h) in
+    ap (λ (fs : List ℕ). toBytes (recordBytes e) (pack (layout e) fs)) (fields-of-read e _ _ _ _ _ _ (mod-lt _ (pow-pos (alerts e))) (mod-lt _ (pow-pos (alerts e))) f)
+    ∙ ap (toBytes (recordBytes e)) (pack-unpack (layout e) (ofBytes bytes) small)
     ∙ ap (λ (k : ℕ). toBytes k (ofBytes bytes)) (sym n) ∙ to-of-bytes bytes h

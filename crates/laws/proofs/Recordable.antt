@@ -3,64 +3,75 @@
 use Prim.Native.Nat.{ℕ, _^_, _<_}
 use mathlib.Core.Path.{_≡_, refl, sym, ap, _∙_}
 use mathlib.Core.Logic.{_↔_}
-use mathlib.Core.Bool.{Bool, true, false, false≢true, cond}
-use mathlib.Core.List.{List, [], _∷_}
+use mathlib.Core.Bool.{true, false, false≢true}
+use mathlib.Core.List.{List}
 use native.Mathlib.Nat.{mod-lt}
+use native.Mathlib.Omega.{arith}
 use borrow.Author.Tests.{lt-ltb}
-use lib.Dec.{eqb}
 use lib.Pow.{pow-pos}
-use Rattle.bits.specs.Fields.{unpack}
+use lib.ListN.{getD}
+use Rattle.bits.specs.Fields.{unpack, ofBytes}
+use Rattle.bits.proofs.FieldLaws.{unpack-fits}
 use Rattle.bits.proofs.IndexLaws.{true-and}
 use Rattle.rules.specs.Access.{malformed}
-use Rattle.rules.specs.Record.{registerBits, valueBits, badRecord, accessOf, inputOf, recordOf, recordable}
+use Rattle.rules.specs.Edition.{registerBits, alerts}
+use Rattle.rules.specs.Record.{layout, valueBits, accessIn, registerOf, valueOf, wireWords, heldIn, recordOf, recordable}
 use Rattle.rules.specs.Writer.{WellFormed, HeldBy, Wired}
 use Rattle.rules.specs.declared.Access.{Access}
 use Rattle.rules.specs.declared.Access.the-variants.{Nothing, Read, Write, Malformed}
+use Rattle.rules.specs.declared.Edition.{Edition}
 use Rattle.rules.specs.declared.Input.{Input}
-use Rattle.laws.proofs.RecordLaws.{record-length, record-byte, input-record}
+use Rattle.laws.specs.Wires.{Blank}
+use Rattle.laws.proofs.RecordLaws.{record-length, record-byte, input-record, access-fields}
 use Rattle.laws.proofs.WellFormedLaws.{formed-one, one-formed}
+use Rattle.laws.proofs.WireLaws.{words-blank}
 
 -- ── what a record holds ──
 
-fields-recordable : (k r z v : ℕ) → r < 2 ^ registerBits → v < 2 ^ valueBits → malformed (accessOf k r z v) ≡ false → recordable (accessOf k r z v) ≡ true
-unfolding accessOf recordable
-fields-recordable k r z v l m e = go (badRecord k r z v) (eqb k 0) (eqb k 1) e
-  where
-    go : (b c d : Bool) → malformed (cond b Malformed (cond c Nothing (cond d (Read r) (Write r v)))) ≡ false
-        → recordable (cond b Malformed (cond c Nothing (cond d (Read r) (Write r v)))) ≡ true
-    go true c d e = absurd (false≢true (sym e))
-    go false true d e = refl
-    go false false true e = lt-ltb r (2 ^ registerBits) l
-    go false false false e = true-and (lt-ltb r (2 ^ registerBits) l) (lt-ltb v (2 ^ valueBits) m)
+fields-recordable : (e : Edition) (a : Access) → malformed a ≡ false → registerOf a < 2 ^ registerBits e → valueOf a < 2 ^ valueBits → recordable e a ≡ true
+unfolding recordable
+fields-recordable e Nothing f l m = refl
+fields-recordable e (Read r) f l m = lt-ltb r (2 ^ registerBits e) l
+fields-recordable e (Write r v) f l m = true-and (lt-ltb r (2 ^ registerBits e) l) (lt-ltb v (2 ^ valueBits) m)
+fields-recordable e Malformed f l m = absurd (false≢true (sym f))
 
-pub read-recordable : (bytes : List ℕ) → malformed (inputOf bytes .access) ≡ false → recordable (inputOf bytes .access) ≡ true
-unfolding inputOf unpack
-read-recordable bytes e = fields-recordable _ _ _ _ (mod-lt _ (pow-pos registerBits)) (mod-lt _ (pow-pos valueBits)) e
+held-recordable : (e : Edition) (k r z v : ℕ) → r < 2 ^ registerBits e → v < 2 ^ valueBits → malformed (accessIn k r z v) ≡ false → recordable e (accessIn k r z v) ≡ true
+held-recordable e k r z v l m f =
+    let a = access-fields k r z v f in
+    fields-recordable e (accessIn k r z v) f (omega (arith, a .has-register)) (omega (arith, a .has-value))
+
+pub read-recordable : (e : Edition) (bytes : List ℕ) → malformed (heldIn e bytes .access) ≡ false → recordable e (heldIn e bytes .access) ≡ true
+unfolding heldIn unpack
+read-recordable e bytes f =
+    let fs : List ℕ = unpack (layout e) (ofBytes bytes) in
+    held-recordable e (getD fs 0 0) (getD fs 1 0) (getD fs 2 0) (getD fs 3 0) (mod-lt _ (pow-pos (registerBits e))) (mod-lt _ (pow-pos valueBits)) f
 
 -- ── a record for what is recordable ──
 
-formed : (a : Access) → recordable a ≡ true → malformed a ≡ false
+formed : (e : Edition) (a : Access) → recordable e a ≡ true → malformed a ≡ false
 unfolding recordable
-formed Nothing e = refl
-formed (Read r) e = refl
-formed (Write r v) e = refl
-formed Malformed e = absurd (false≢true e)
+formed e Nothing t = refl
+formed e (Read r) t = refl
+formed e (Write r v) t = refl
+formed e Malformed t = absurd (false≢true t)
 
-pub record-formed : (x : Input) → Wired x → recordable (x .access) ≡ true → WellFormed (recordOf x)
-record-formed x w e =
-    one-formed (recordOf x) (record-length x) (record-byte x)
-    (ap (λ (y : Input). malformed (y .access)) (input-record x w e) ∙ formed (x .access) e)
+pub record-formed : (e : Edition) (x : Input) → Wired x → Blank e (x .sample .alerts .pos) → Blank e (x .sample .alerts .neg) → recordable e (x .access) ≡ true
+    → WellFormed e (recordOf e x)
+record-formed e x w p m t =
+    one-formed e (recordOf e x) (record-length e x) (record-byte e x)
+    (ap (λ (y : Input). malformed (y .access)) (input-record e x w t p m) ∙ formed e (x .access) t)
 
 -- with all wires at 0
-abbrev quiet : Access → Input
-quiet a = record { access = a; sample = record { alerts = record { pos = 0 ∷ []; neg = 0 ∷ [] } } }
+abbrev quiet : Edition → Access → Input
+quiet e a = record { access = a; sample = record { alerts = record { pos = wireWords (alerts e) 0; neg = wireWords (alerts e) 0 } } }
 
-held : (a : Access) → recordable a ≡ true → HeldBy a
-held a e =
-    let x = quiet a in
-    let w : Wired x = record { positive = (0, pow-pos 64, refl); negative = (0, pow-pos 64, refl) } in
-    (recordOf x, record-length x, record-formed x w e, ap (λ (y : Input). y .access) (input-record x w e))
+held : (e : Edition) (a : Access) → recordable e a ≡ true → HeldBy e a
+held e a t =
+    let x = quiet e a in
+    let w : Wired x = record { positive = unpack-fits _ _; negative = unpack-fits _ _ } in
+    let b : Blank e (x .sample .alerts .pos) = words-blank e 0 (pow-pos (alerts e)) in
+    (recordOf e x, record-length e x, record-formed e x w b b t, ap (λ (y : Input). y .access) (input-record e x w t b b))
 
-pub recordable-is : (a : Access) → (recordable a ≡ true) ↔ HeldBy a
-recordable-is a =
-    (held a, λ h. ap recordable (sym (h .3)) ∙ read-recordable (h .0) (formed-one (h .0) (h .1) (h .2)))
+pub recordable-is : (e : Edition) (a : Access) → (recordable e a ≡ true) ↔ HeldBy e a
+recordable-is e a =
+    (held e a, λ h. ap (recordable e) (sym (h .3)) ∙ read-recordable e (h .0) (formed-one e (h .0) (h .1) (h .2)))

@@ -10,7 +10,7 @@ use borrow.Author.Tests.{eq-eqb, not-true}
 use lib.Dec.{eqb}
 use lib.IntN.{pos, negℤ, negℤ-negℤ}
 use Rattle.bits.proofs.IndexLaws.{and-true}
-use Rattle.rules.specs.Access.{verdict, accessCases, given, answerBy, answerTo}
+use Rattle.rules.specs.Access.{verdict, accessCases, given, accessedBy, accessed, answerTo}
 use Rattle.rules.specs.Answer.{Case, firstOf, number, refusalNumber}
 use Rattle.rules.specs.Tick.{lines, outputOf, after, tick, ticked, noOutput}
 use Rattle.rules.specs.Valid.{valid}
@@ -75,18 +75,18 @@ noSeven [] = true
 noSeven (c ∷ cs) = not (isSeven (Answer.Refused (c .refusal))) && noSeven cs
 
 -- so the first that holds is not
-first-other : (cs : List Case) (a : Answer) → noSeven cs ≡ true → NotSeven a → NotSeven (answerBy (firstOf cs) a)
+first-other : (h : Handler) (x : Access) (cs : List Case) → noSeven cs ≡ true → NotSeven (given h x) → NotSeven (accessedBy (firstOf cs) h x .answer)
 unfolding firstOf
-first-other [] a e n = n
-first-other (c ∷ cs) a e n =
+first-other h x [] e n = n
+first-other h x (c ∷ cs) e n =
     let b = and-true (not (isSeven (Answer.Refused (c .refusal)))) (noSeven cs) e in
-    pick (λ (v : Verdict). NotSeven (answerBy v a)) (c .holds) (Verdict.Refused (c .refusal)) (firstOf cs)
+    pick (λ (v : Verdict). NotSeven (accessedBy v h x .answer)) (c .holds) (Verdict.Refused (c .refusal)) (firstOf cs)
     (λ _. not-true (isSeven (Answer.Refused (c .refusal))) (b .0))
-    (λ _. first-other cs a (b .1) n)
+    (λ _. first-other h x cs (b .1) n)
 
 answer-other : (h : Handler) (x : Access) → NotSeven (answerTo h x)
-unfolding answerTo verdict
-answer-other h x = first-other (accessCases h x) (given h x) refl (given-other h x)
+unfolding answerTo accessed verdict
+answer-other h x = first-other h x (accessCases h x) refl (given-other h x)
 
 seven-test : (h : Handler) (x : Input) → isSeven (ticked h x .answer) ≡ not (valid h)
 unfolding ticked tick

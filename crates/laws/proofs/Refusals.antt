@@ -1,27 +1,29 @@
 -- Refusals: the first case that holds is given, and a refused access is as no access.
 -- Assumes nothing.
 use Prim.Native.Nat.{ℕ, zero, suc, _^_, _≤_, _<_}
-use mathlib.Core.Path.{_≡_, refl, sym, ap, ap₂, _∙_, subst, fun-ext}
+use mathlib.Core.Path.{_≡_, refl, sym, ap, ap₂, _∙_, subst}
 use mathlib.Core.Logic.{_↔_, inl, inr}
 use mathlib.Core.Bool.{Bool, true, false, false≢true, cond, not, _&&_}
 use mathlib.Core.List.{List, [], _∷_}
 use native.Mathlib.Omega.{arith}
 use lib.IntN.{pos, negℤ, negℤ-negℤ}
 use lib.ListN.{getD, length}
-use Rattle.bits.specs.Bits.{fits}
-use Rattle.rules.specs.Access.{value, bars, accessCases, verdict, accepts, accepted, written, acted, given, answerBy, answerTo, writesClr, clears}
+use Rattle.bits.specs.Bits.{bitsOf, fits}
+use Rattle.rules.specs.Access.{value, bars, accessCases, verdict, accepts, accepted, written, noEffects, accessedBy, accessed, acted, answerTo, effects}
 use Rattle.rules.specs.Answer.{refusalNumber, number, Case, firstOf}
 use Rattle.rules.specs.Map.{decode, isRegister, bits, readOnly}
 use Rattle.rules.specs.Tick.{stepped, outputOf, noOutput, after, tick, ticked}
 use Rattle.rules.specs.Valid.{valid}
 use Rattle.rules.specs.declared.Access.{Access}
 use Rattle.rules.specs.declared.Answer.{Answer}
+use Rattle.rules.specs.declared.Effects.{Effects}
 use Rattle.rules.specs.declared.Handler.{Handler}
 use Rattle.rules.specs.declared.Refusal.{Refusal}
 use Rattle.rules.specs.declared.Sample.{Sample}
 use Rattle.rules.specs.declared.Ticked.{Ticked}
 use Rattle.rules.specs.declared.Verdict.{Verdict}
 use Rattle.laws.specs.Refusals.{First, Unrefused, AccessNumber}
+use Rattle.laws.proofs.Step1.{acted-is, effects-refused}
 
 -- ── the first case, of any list of cases ──
 
@@ -135,25 +137,25 @@ accepted-write h r v = go (isRegister (decode (h .n) r)) (readOnly (decode (h .n
 module _ (h : Handler) where
   -- the access changes nothing
   pub acted-refused : (x : Access) → accepted h x ≡ false → acted h x ≡ h
-  unfolding acted
-  acted-refused x e = ap (λ (b : Bool). cond b (written h x) h) e
+  acted-refused x e = acted-is h x ∙ ap (λ (b : Bool). cond b (written h x) h) e
 
   -- no more does none
   acted-nothing : acted h Access.Nothing ≡ h
-  unfolding acted verdict firstOf
+  unfolding acted accessed verdict firstOf
   acted-nothing = refl
 
-  -- and clears nothing
-  clears-refused : (x : Access) → accepted h x ≡ false → clears h x ≡ clears h Access.Nothing
-  unfolding clears verdict firstOf
-  clears-refused x e = fun-ext (λ (k : ℕ). ap (λ (b : Bool). b && writesClr h x k) e)
+  -- and has no effect
+  effects-nothing : effects h Access.Nothing ≡ noEffects
+  unfolding effects accessed verdict firstOf bitsOf
+  effects-nothing = refl
 
   module _ (x : Access) (s : Sample) (e : accepted h x ≡ false) where
     -- the state after the tick
     pub refused-as-none : after h (record { access = x; sample = s }) ≡ after h (record { access = Access.Nothing; sample = s })
     unfolding after
     refused-as-none =
-        ap₂ (λ (g : Handler) (c : ℕ → Bool). stepped g (s .alerts) c) (acted-refused x e ∙ sym acted-nothing) (clears-refused x e)
+        ap₂ (λ (g : Handler) (fx : Effects). stepped g (s .alerts) fx) (acted-refused x e ∙ sym acted-nothing)
+        (effects-refused h x e ∙ sym effects-nothing)
 
     -- and its outputs
     pub refused-output : tick h (record { access = x; sample = s }) .output ≡ tick h (record { access = Access.Nothing; sample = s }) .output
@@ -195,10 +197,10 @@ access-refusal h x m e = let f = first-is (accessCases h x) none m .0 e in subst
 
 -- a read gives 0 to 4,294,967,295, anything else accepted 0, and a refusal -1 to -5
 pub answer-number : (h : Handler) (x : Access) → ((r : ℕ) → value h (decode (h .n) r) < 2 ^ 32) → AccessNumber (number (answerTo h x))
-unfolding answerTo number
+unfolding answerTo accessed number
 answer-number h x w = go (verdict h x) refl x
   where
-    go : (t : Verdict) → verdict h x ≡ t → (y : Access) → AccessNumber (number (answerBy t (given h y)))
+    go : (t : Verdict) → verdict h x ≡ t → (y : Access) → AccessNumber (number (accessedBy t h y .answer))
     go Verdict.Accepted e Access.Nothing = inl (0, omega arith, refl)
     go Verdict.Accepted e (Access.Read r) = inl (value h (decode (h .n) r), omega (arith, w r), refl)
     go Verdict.Accepted e (Access.Write r v) = inl (0, omega arith, refl)
@@ -207,14 +209,14 @@ answer-number h x w = go (verdict h x) refl x
 
 -- so no access answers -6, which a new handler answers alone
 pub answer-refusal : (h : Handler) (x : Access) (m : ℕ) → number (answerTo h x) ≡ negℤ (pos m) → m ≤ 5
-unfolding answerTo number
+unfolding answerTo accessed number
 answer-refusal h x m = go (verdict h x) refl x
   where
     value-least : (v m : ℕ) → pos v ≡ negℤ (pos m) → m ≤ 5
     value-least v zero e = omega arith
     value-least v (suc m) e = absurd (let z : _≡_ {A = ℕ} 0 1 = cc in omega arith)
 
-    go : (t : Verdict) → verdict h x ≡ t → (y : Access) → number (answerBy t (given h y)) ≡ negℤ (pos m) → m ≤ 5
+    go : (t : Verdict) → verdict h x ≡ t → (y : Access) → number (accessedBy t h y .answer) ≡ negℤ (pos m) → m ≤ 5
     go Verdict.Accepted e Access.Nothing d = value-least 0 m d
     go Verdict.Accepted e (Access.Read r) d = value-least (value h (decode (h .n) r)) m d
     go Verdict.Accepted e (Access.Write r v) d = value-least 0 m d

@@ -3,16 +3,15 @@
 use Prim.Native.Nat.{ℕ, _≤_, _<_}
 use mathlib.Core.Path.{_≡_, refl, sym, ap, _∙_, subst}
 use mathlib.Core.List.{List}
-use mathlib.Core.Bool.{Bool, true, false, false≢true, cond, _&&_}
+use mathlib.Core.Bool.{Bool, true, false, false≢true, cond, not, _&&_}
 use native.Mathlib.Omega.{arith}
 use borrow.Author.Tests.{eqb-true, eqb-false, ltb-true, not-false, eq-eqb}
 use lib.Dec.{eqb, ltb}
 use lib.ListN.{getD}
 use Rattle.bits.proofs.IndexLaws.{and-true}
-use Rattle.classes.specs.Class.{noClass}
-use Rattle.rules.specs.Access.{settingValue, value, fieldStored, withSetting, store, verdict, accepted, written, acted, answerTo}
-use Rattle.rules.specs.Answer.{firstOf}
-use Rattle.rules.specs.Map.{decode, numberOf, isRegister, settingWriteOnly, writeOnly, offset}
+use Rattle.class_rules.specs.Class.{noClass}
+use Rattle.rules.specs.Access.{settingValue, value, fieldStored, withSetting, store, accepted, written, acted, answerTo}
+use Rattle.rules.specs.Map.{decode, numberOf, isRegister, fieldRow, row, onlyWritten, writeOnly, offset}
 use Rattle.rules.specs.State.{most, localCount, classCount, fieldIndex, local, alert, classAt, localColumn, alertColumn}
 use Rattle.rules.specs.declared.Access.{Access}
 use Rattle.rules.specs.declared.Access.the-variants.{Nothing, Read, Write, Malformed}
@@ -22,13 +21,15 @@ use Rattle.rules.specs.declared.Handler.{Handler}
 use Rattle.rules.specs.declared.Register.{Register}
 use Rattle.rules.specs.declared.Register.the-variants.{IntrState, IntrEnable, IntrTest, Local, Alert, Block, Unassigned}
 use Rattle.rules.specs.declared.Setting.{Setting}
-use Rattle.laws.specs.Assigned.{assigned, settingExists}
+use Rattle.rules.specs.declared.Way.{Way}
+use Rattle.laws.specs.InMap.{inMap, settingExists}
 use Rattle.laws.specs.Block.{classStored}
-use Rattle.laws.specs.RegisterFile.{settingStored, target, newValue, writes, commits, committed, fieldPlain, settingPlain, plain}
-use Rattle.laws.proofs.Cases.{by-kind, by-setting, cond-same}
+use Rattle.laws.specs.RegisterFile.{target, newValue, writes, commits, committed, asWritten, plain}
+use Rattle.laws.proofs.Cases.{by-kind, by-field, cond-same}
 use Rattle.laws.proofs.ColumnLaws.{at-changed, column-stored, local-column, alert-column, setting-value}
-use Rattle.laws.proofs.MapLaws.{decode-assigned, number-eq}
-use Rattle.laws.proofs.Refusals.{unrefused}
+use Rattle.laws.proofs.MapLaws.{decode-in-map, number-eq}
+use Rattle.laws.proofs.Refusals.{unrefused, is-accepted}
+use Rattle.laws.proofs.Step1.{acted-is, acted-either, answer-accepted}
 
 -- ── what a store makes of each part ──
 
@@ -67,7 +68,7 @@ same : (a : ℕ) → eqb a a ≡ true
 same a = eq-eqb a a refl
 
 -- the register that is written
-own : (h : Handler) (q : Register) (v : ℕ) → h .n ≤ most → assigned (h .n) q ≡ true
+own : (h : Handler) (q : Register) (v : ℕ) → h .n ≤ most → inMap (h .n) q ≡ true
     → value (store h q v) (target q) ≡ newValue q (value h (target q)) v
 unfolding store value
 own h IntrState v m a = refl
@@ -110,7 +111,7 @@ module _ (h : Handler) (v : ℕ) where
       go false e = refl
 
   -- any other register
-  other : (q p : Register) → h .n ≤ most → assigned (h .n) p ≡ true → (numberOf (target q) ≡ numberOf p → ⊥)
+  other : (q p : Register) → h .n ≤ most → inMap (h .n) p ≡ true → (numberOf (target q) ≡ numberOf p → ⊥)
       → value (store h q v) p ≡ value h p
   unfolding store value numberOf
   other q IntrState m a =
@@ -138,61 +139,58 @@ module _ (h : Handler) (v : ℕ) where
   other q Unassigned m a = λ d. refl
 
 -- a handler that has q has what q writes
-pub target-assigned : (n : ℕ) (q : Register) → assigned n q ≡ true → assigned n (target q) ≡ true
-target-assigned n q =
-    by-kind (λ q. assigned n q ≡ true → assigned n (target q) ≡ true)
+pub target-in-map : (n : ℕ) (q : Register) → inMap n q ≡ true → inMap n (target q) ≡ true
+target-in-map n q =
+    by-kind (λ q. inMap n q ≡ true → inMap n (target q) ≡ true)
     (λ a. a) (λ a. a) (λ a. a) (λ f j a. a) (λ f i a. a) (λ s k a. a) (λ a. a) q
 
 -- v stored at q makes newValue of what q writes, and leaves every other register
-pub value-stored : (h : Handler) (q p : Register) (v : ℕ) → h .n ≤ most → assigned (h .n) q ≡ true → assigned (h .n) p ≡ true
+pub value-stored : (h : Handler) (q p : Register) (v : ℕ) → h .n ≤ most → inMap (h .n) q ≡ true → inMap (h .n) p ≡ true
     → value (store h q v) p ≡ cond (writes q p) (newValue q (value h p) v) (value h p)
 value-stored h q p v m a b = go (writes q p) refl
   where
     go : (w : Bool) → writes q p ≡ w → value (store h q v) p ≡ cond w (newValue q (value h p) v) (value h p)
     go true e =
         subst (λ (x : Register). value (store h q v) x ≡ newValue q (value h x) v)
-        (number-eq (h .n) (target q) p m (target-assigned (h .n) q a) b (eqb-true (numberOf (target q)) (numberOf p) e)) (own h q v m a)
+        (number-eq (h .n) (target q) p m (target-in-map (h .n) q a) b (eqb-true (numberOf (target q)) (numberOf p) e)) (own h q v m a)
     go false e = other h v q p m b (eqb-false (numberOf (target q)) (numberOf p) e)
 
 -- ── the access ──
 
 -- a register of which an accepted write tells
-pub accepted-assigned : (h : Handler) (r v : ℕ) → accepted h (Write r v) ≡ true → assigned (h .n) (decode (h .n) r) ≡ true
-accepted-assigned h r v e = decode-assigned (h .n) r (not-false (isRegister (decode (h .n) r)) (unrefused h (Write r v) e .exists))
+pub accepted-in-map : (h : Handler) (r v : ℕ) → accepted h (Write r v) ≡ true → inMap (h .n) (decode (h .n) r) ≡ true
+accepted-in-map h r v e = decode-in-map (h .n) r (not-false (isRegister (decode (h .n) r)) (unrefused h (Write r v) e .exists))
 
 -- an access changes what an accepted write writes, and no other register; a refused one changes none
-pub acted-value : (h : Handler) (x : Access) (p : Register) → h .n ≤ most → assigned (h .n) p ≡ true
+pub acted-value : (h : Handler) (x : Access) (p : Register) → h .n ≤ most → inMap (h .n) p ≡ true
     → value (acted h x) p ≡ cond (commits h x p) (committed h x (value h p)) (value h p)
-unfolding acted
-acted-value h Nothing p m a = ap (λ (g : Handler). value g p) (sym (cond-same (accepted h Nothing) h))
-acted-value h (Read r) p m a = ap (λ (g : Handler). value g p) (sym (cond-same (accepted h (Read r)) h))
-acted-value h (Write r v) p m a = go (accepted h (Write r v)) refl
+acted-value h Nothing p m a = acted-either h Nothing (λ g. value g p ≡ value h p) (λ _. refl) (λ _. refl)
+acted-value h (Read r) p m a = acted-either h (Read r) (λ g. value g p ≡ value h p) (λ _. refl) (λ _. refl)
+acted-value h (Write r v) p m a = ap (λ (g : Handler). value g p) (acted-is h (Write r v)) ∙ go (accepted h (Write r v)) refl
   where
     q : Register
     q = decode (h .n) r
 
     go : (b : Bool) → accepted h (Write r v) ≡ b
         → value (cond b (store h q v) h) p ≡ cond (b && writes q p) (newValue q (value h p) v) (value h p)
-    go true e = value-stored h q p v m (accepted-assigned h r v e) a
+    go true e = value-stored h q p v m (accepted-in-map h r v e) a
     go false e = refl
-acted-value h Malformed p m a = ap (λ (g : Handler). value g p) (sym (cond-same (accepted h Malformed) h))
+acted-value h Malformed p m a = acted-either h Malformed (λ g. value g p ≡ value h p) (λ _. refl) (λ _. refl)
 
 -- N stays in an access
 pub acted-n : (h : Handler) (x : Access) → acted h x .n ≡ h .n
-unfolding acted
-acted-n h x = go (accepted h x) x
+acted-n h x = acted-either h x (λ g. g .n ≡ h .n) (λ _. go x) (λ _. refl)
   where
-    go : (b : Bool) (x : Access) → cond b (written h x) h .n ≡ h .n
-    go false x = refl
-    go true Nothing = refl
-    go true (Read r) = refl
-    go true (Write r v) = store-n h (decode (h .n) r) v
-    go true Malformed = refl
+    go : (x : Access) → written h x .n ≡ h .n
+    go Nothing = refl
+    go (Read r) = refl
+    go (Write r v) = store-n h (decode (h .n) r) v
+    go Malformed = refl
 
 -- ── what follows ──
 
 -- what the access does not write is as before
-pub acted-other : (h : Handler) (x : Access) (p : Register) → h .n ≤ most → assigned (h .n) p ≡ true → commits h x p ≡ false
+pub acted-other : (h : Handler) (x : Access) (p : Register) → h .n ≤ most → inMap (h .n) p ≡ true → commits h x p ≡ false
     → value (acted h x) p ≡ value h p
 acted-other h x p m a e =
     acted-value h x p m a ∙ ap (λ (b : Bool). cond b (committed h x (value h p)) (value h p)) e
@@ -200,48 +198,46 @@ acted-other h x p m a e =
 -- an accepted write gives the register that it writes its new value
 pub acted-target : (h : Handler) (r v : ℕ) → h .n ≤ most → accepted h (Write r v) ≡ true
     → value (acted h (Write r v)) (target (decode (h .n) r)) ≡ newValue (decode (h .n) r) (value h (target (decode (h .n) r))) v
-unfolding acted
 acted-target h r v m e =
-    ap (λ (b : Bool). value (cond b (store h (decode (h .n) r) v) h) (target (decode (h .n) r))) e
-    ∙ own h (decode (h .n) r) v m (accepted-assigned h r v e)
+    ap (λ (g : Handler). value g (target (decode (h .n) r))) (acted-is h (Write r v))
+    ∙ ap (λ (b : Bool). value (cond b (store h (decode (h .n) r) v) h) (target (decode (h .n) r))) e
+    ∙ own h (decode (h .n) r) v m (accepted-in-map h r v e)
 
--- what a plain register holds once it is written
-field-plain : (f : Field) → fieldPlain f ≡ true → (old v : ℕ) → fieldStored f old v ≡ v
-field-plain Field.Regwen e = λ old v. refl
-field-plain Field.En e = λ old v. refl
-field-plain Field.Class e = λ old v. refl
-field-plain Field.Cause e = absurd (false≢true e)
+-- what takes a value as it is written can be read
+as-written : (w : Way) → asWritten w ≡ true → onlyWritten w ≡ false
+as-written Way.Both e = refl
+as-written Way.OneClears e = refl
+as-written Way.ReadOnly e = refl
+as-written Way.WriteOnly e = sym e
 
-setting-plain : (s : Setting) → settingPlain s ≡ true → (settingWriteOnly s ≡ false) × ((old v : ℕ) → settingStored s old v ≡ v)
-setting-plain s =
-    by-setting (λ s. settingPlain s ≡ true → (settingWriteOnly s ≡ false) × ((old v : ℕ) → settingStored s old v ≡ v))
-    (λ e. (refl, λ o v. refl)) (λ e. (refl, λ o v. refl)) (λ e. (refl, λ o v. refl)) (λ e. absurd (false≢true e)) (λ e. absurd (false≢true e))
-    (λ e. (refl, λ o v. refl)) (λ e. (refl, λ o v. refl)) (λ p e. (refl, λ o v. refl)) (λ e. absurd (false≢true e)) (λ e. absurd (false≢true e)) s
+field-plain : (f : Field) → asWritten (fieldRow f .way) ≡ true → (old v : ℕ) → fieldStored f old v ≡ v
+field-plain =
+    by-field (λ f. asWritten (fieldRow f .way) ≡ true → (old v : ℕ) → fieldStored f old v ≡ v)
+    (λ e old v. refl) (λ e old v. refl) (λ e old v. refl) (λ e. absurd (false≢true e))
 
--- a plain register reads as what is written
-plain-takes : (q : Register) → plain q ≡ true → (isRegister q ≡ true) × (writeOnly q ≡ false) × (target q ≡ q) × ((old v : ℕ) → newValue q old v ≡ v)
-unfolding writeOnly
-plain-takes IntrState e = absurd (false≢true e)
-plain-takes IntrEnable e = (refl, refl, refl, λ old v. refl)
-plain-takes IntrTest e = absurd (false≢true e)
-plain-takes (Local f j) e = (refl, refl, refl, field-plain f e)
-plain-takes (Alert f i) e = (refl, refl, refl, field-plain f e)
-plain-takes (Block s k) e = let b = setting-plain s e in (refl, b .0, refl, b .1)
-plain-takes Unassigned e = absurd (false≢true e)
+-- a plain register is written itself and takes what is written
+plain-takes : (q : Register) → plain q ≡ true → (target q ≡ q) × ((old v : ℕ) → newValue q old v ≡ v)
+plain-takes =
+    by-kind (λ q. plain q ≡ true → (target q ≡ q) × ((old v : ℕ) → newValue q old v ≡ v))
+    (λ e. absurd (false≢true e)) (λ e. (refl, λ old v. refl)) (λ e. absurd (false≢true e)) (λ f j e. (refl, field-plain f e))
+    (λ f i e. (refl, field-plain f e)) (λ s k e. (refl, λ old v. ap (λ (t : Bool). cond t v old) e)) (λ e. absurd (false≢true e))
 
 -- an accepted read gives the value
 pub read-answer : (h : Handler) (r : ℕ) → isRegister (decode (h .n) r) ≡ true → writeOnly (decode (h .n) r) ≡ false
     → answerTo h (Read r) ≡ Answer.Value (value h (decode (h .n) r))
-unfolding answerTo verdict firstOf
-read-answer h r a b = rw (a, b)
+read-answer h r a b =
+    answer-accepted h (Read r)
+    (is-accepted h (Read r) (record { formed = refl; exists = ap not a; way = b; width = refl; free = refl }))
 
 -- write, then read: the value comes back
 pub write-read : (h : Handler) (r v : ℕ) → h .n ≤ most → accepted h (Write r v) ≡ true → plain (decode (h .n) r) ≡ true
     → answerTo (acted h (Write r v)) (Read r) ≡ Answer.Value v
+unfolding writeOnly
 write-read h r v m e f =
     let g : Handler = acted h (Write r v) in
     let q : Register = decode (h .n) r in
+    let p = and-true (isRegister q) (asWritten (row q .way)) f in
     let t = plain-takes q f in
     let d : decode (g .n) r ≡ q = ap (λ (n : ℕ). decode n r) (acted-n h (Write r v)) in
-    read-answer g r (ap isRegister d ∙ t .0) (ap writeOnly d ∙ t .1)
-    ∙ ap Answer.Value (ap (value g) (d ∙ sym (t .2)) ∙ acted-target h r v m e ∙ t .3 (value h (target q)) v)
+    read-answer g r (ap isRegister d ∙ p .0) (ap writeOnly d ∙ as-written (row q .way) (p .1))
+    ∙ ap Answer.Value (ap (value g) (d ∙ sym (t .0)) ∙ acted-target h r v m e ∙ t .1 (value h (target q)) v)

@@ -6,11 +6,12 @@ use mathlib.Core.Bool.{Bool, true, false, _&&_, false≢true}
 use mathlib.Core.List.{List}
 use native.Mathlib.Omega.{arith}
 use borrow.Author.Tests.{lt-ltb, ltb-true, leb-true, le-leb}
+use lib.Dec.{ltb}
 use lib.ListN.{getD}
 use Rattle.bits.specs.Bits.{fits}
 use Rattle.bits.proofs.IndexLaws.{and-true, true-and, all-at, all-of}
-use Rattle.classes.specs.Class.{phaseCyc, lengthsFit, classFits}
-use Rattle.classes.specs.declared.Class.{Class}
+use Rattle.class_rules.specs.Class.{phaseCyc, lengthsFit, classFits}
+use Rattle.class_rules.specs.declared.Class.{Class}
 use Rattle.rules.specs.Access.{value, settingValue}
 use Rattle.rules.specs.Map.{bits, fieldBits, settingBits}
 use Rattle.rules.specs.State.{localCount, classCount, localColumn, alertColumn, classAt}
@@ -18,11 +19,10 @@ use Rattle.rules.specs.Valid.{valid, columnFits, columnsFit}
 use Rattle.rules.specs.declared.Field.{Field}
 use Rattle.rules.specs.declared.Handler.{Handler}
 use Rattle.rules.specs.declared.Register.{Register}
-use Rattle.rules.specs.declared.Register.the-variants.{IntrState, IntrEnable, IntrTest, Local, Alert, Block, Unassigned}
 use Rattle.rules.specs.declared.Setting.{Setting}
-use Rattle.rules.specs.declared.Setting.the-variants.{Ctrl, ClrRegwen, Clr, AccumCnt, AccumThresh, TimeoutCyc, PhaseCyc, EscCnt}
-use Rattle.laws.specs.Assigned.{assigned, settingExists}
+use Rattle.laws.specs.InMap.{inMap, settingExists}
 use Rattle.laws.specs.Facts.{ClassValid, Valid}
+use Rattle.laws.proofs.Cases.{by-kind, by-setting}
 
 four-true : (a b c d : Bool) → (a && (b && (c && d))) ≡ true → (a ≡ true) × (b ≡ true) × (c ≡ true) × (d ≡ true)
 four-true true true c d e = (refl, refl, and-true c d e .0, and-true c d e .1)
@@ -144,30 +144,20 @@ is-valid h v =
 -- ── every register ──
 
 -- a register of a class's block
-setting-bounded : (s : Setting) (c : Class) → ClassValid c → settingExists s ≡ true → settingValue s c < 2 ^ settingBits s
-setting-bounded Setting.Regwen c v e = v .regwen
-setting-bounded Ctrl c v e = v .ctrl
-setting-bounded ClrRegwen c v e = v .clrwen
-setting-bounded Clr c v e = omega arith
-setting-bounded AccumCnt c v e = v .accum
-setting-bounded AccumThresh c v e = v .thresh
-setting-bounded TimeoutCyc c v e = v .timeout
-setting-bounded (PhaseCyc p) c v e = v .lengths p (ltb-true _ _ e)
-setting-bounded EscCnt c v e = v .count
-setting-bounded Setting.State c v e = ltb-true _ _ (and-true _ _ (v .state) .0)
+setting-bounded : (c : Class) → ClassValid c → (s : Setting) → settingExists s ≡ true → settingValue s c < 2 ^ settingBits s
+setting-bounded c v =
+    by-setting (λ s. settingExists s ≡ true → settingValue s c < 2 ^ settingBits s) (λ e. v .regwen) (λ e. v .ctrl) (λ e. v .clrwen) (λ e. omega arith)
+    (λ e. v .accum) (λ e. v .thresh) (λ e. v .timeout) (λ p e. v .lengths p (ltb-true _ _ e)) (λ e. v .count)
+    (λ e. ltb-true _ _ (and-true _ _ (v .state) .0))
 
-register-bounded : (h : Handler) (q : Register) → Valid h → assigned (h .n) q ≡ true → value h q < 2 ^ bits q
+register-bounded : (h : Handler) → Valid h → (q : Register) → inMap (h .n) q ≡ true → value h q < 2 ^ bits q
 unfolding value bits
-register-bounded h IntrState v a = v .state
-register-bounded h IntrEnable v a = v .enable
-register-bounded h IntrTest v a = omega arith
-register-bounded h (Local f j) v a = v .locals f j (ltb-true _ _ a)
-register-bounded h (Alert f i) v a = v .alerts f i (ltb-true _ _ a)
-register-bounded h (Block s k) v a =
-    let b = and-true _ _ a in
-    setting-bounded s (classAt h k) (v .classes k (ltb-true _ _ (b .0))) (b .1)
-register-bounded h Unassigned v a = absurd (false≢true a)
+register-bounded h v =
+    by-kind (λ q. inMap (h .n) q ≡ true → value h q < 2 ^ bits q) (λ a. v .state) (λ a. v .enable) (λ a. omega arith)
+    (λ f j a. v .locals f j (ltb-true _ _ a)) (λ f i a. v .alerts f i (ltb-true _ _ a))
+    (λ s k a. let b = and-true (ltb k classCount) (settingExists s) a in setting-bounded (classAt h k) (v .classes k (ltb-true _ _ (b .0))) s (b .1))
+    (λ a. absurd (false≢true a))
 
--- in a valid state no assigned register holds more than its field's bits
-pub bounded : (h : Handler) (q : Register) → valid h ≡ true → assigned (h .n) q ≡ true → value h q < 2 ^ bits q
-bounded h q e a = register-bounded h q (facts h e) a
+-- in a valid state no inMap register holds more than its field's bits
+pub bounded : (h : Handler) (q : Register) → valid h ≡ true → inMap (h .n) q ≡ true → value h q < 2 ^ bits q
+bounded h q e a = register-bounded h (facts h e) q a

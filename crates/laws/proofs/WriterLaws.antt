@@ -5,6 +5,7 @@ use mathlib.Core.Path.{_≡_, refl, sym, ap, ap₂, _∙_}
 use mathlib.Core.Bool.{Bool, true, false, false≢true, cond, not, _||_}
 use mathlib.Core.Logic.{_↔_}
 use mathlib.Core.List.{List, [], _∷_, _++_, append-assoc}
+use native.Mathlib.Nat.{zero-mul, suc-mul}
 use native.Mathlib.Omega.{arith}
 use borrow.Author.Tests.{not-false, le-ltb}
 use lib.Dec.{ltb}
@@ -14,54 +15,59 @@ use lib.Seq.{take-at}
 use Rattle.bits.proofs.IndexLaws.{length-each}
 use Rattle.bits.specs.Index.{each, eachFrom}
 use Rattle.rules.specs.Answer.{firstOf, number}
-use Rattle.rules.specs.Batch.{inputsOf, recordAt, recordCount}
-use Rattle.rules.specs.Record.{recordBytes, inputOf, recordOf, recordable}
+use Rattle.rules.specs.Edition.{newest, recordBytes}
+use Rattle.rules.specs.Record.{carried, heldIn, inputOf, recordOf, recordable, inputsOf, recordAt, recordCount}
 use Rattle.rules.specs.Writer.{WellFormed, Wired, AllWired, none, one, recordsOf, anyUnrecordable, writeCases, writeVerdict, writeOf, write}
 use Rattle.rules.specs.declared.Answer.{Answer}
+use Rattle.rules.specs.declared.Access.{Access}
+use Rattle.rules.specs.declared.Access.the-variants.{Nothing, Read, Write, Malformed}
+use Rattle.rules.specs.declared.Edition.{Edition}
 use Rattle.rules.specs.declared.Input.{Input}
 use Rattle.rules.specs.declared.Refusal.{Refusal}
 use Rattle.rules.specs.declared.Refusal.the-variants.{NoRecord, ShortBuffer}
 use Rattle.rules.specs.declared.Verdict.{Verdict}
-use Rattle.laws.proofs.RecordLaws.{record-length, input-record, input-wired, record-input}
+use Rattle.laws.proofs.RecordLaws.{record-length, input-record, held-wired, record-input}
+use Rattle.laws.proofs.PartLaws.{some-bytes, whole-parts}
 use Rattle.laws.proofs.Recordable.{read-recordable, record-formed}
 use Rattle.laws.proofs.Refusals.{first-accepts}
 use Rattle.laws.proofs.WellFormedLaws.{formed-one, none-formed, well-formed-append, inputs-none, inputs-cons, by-records}
+use Rattle.laws.proofs.WireLaws.{newest-blank}
 
 -- ── a record for each ──
 
-pub records-length : (xs : List Input) → length (recordsOf xs) ≡ length xs * recordBytes
+pub records-length : (e : Edition) (xs : List Input) → length (recordsOf e xs) ≡ length xs * recordBytes e
 unfolding recordsOf
-records-length [] = refl
-records-length (x ∷ xs) =
-    length-append (recordOf x) (recordsOf xs) ∙ ap₂ _+_ (record-length x) (records-length xs)
-    ∙ (let e : recordBytes + length xs * recordBytes ≡ length (x ∷ xs) * recordBytes = omega arith in e)
+records-length e [] = sym (zero-mul (recordBytes e))
+records-length e (x ∷ xs) =
+    length-append (recordOf e x) (recordsOf e xs) ∙ ap₂ _+_ (record-length e x) (records-length e xs)
+    ∙ (let z : recordBytes e + length xs * recordBytes e ≡ length (x ∷ xs) * recordBytes e = omega (arith, suc-mul (length xs) (recordBytes e)) in z)
 
-pub records-append : (xs ys : List Input) → recordsOf (xs ++ ys) ≡ recordsOf xs ++ recordsOf ys
+pub records-append : (e : Edition) (xs ys : List Input) → recordsOf e (xs ++ ys) ≡ recordsOf e xs ++ recordsOf e ys
 unfolding recordsOf
-records-append [] ys = refl
-records-append (x ∷ xs) ys =
-    ap (λ (bs : List ℕ). recordOf x ++ bs) (records-append xs ys) ∙ sym (append-assoc (recordOf x) (recordsOf xs) (recordsOf ys))
+records-append e [] ys = refl
+records-append e (x ∷ xs) ys =
+    ap (λ (bs : List ℕ). recordOf e x ++ bs) (records-append e xs ys) ∙ sym (append-assoc (recordOf e x) (recordsOf e xs) (recordsOf e ys))
 
 -- ── what writing gives ──
 
-pub write-refused : (xs : List Input) (buffer : List ℕ) (m : Refusal) → writeVerdict xs buffer ≡ Verdict.Refused m
-    → write xs buffer ≡ record { answer = number (Answer.Refused m); buffer = buffer }
+pub write-refused : (e : Edition) (xs : List Input) (buffer : List ℕ) (m : Refusal) → writeVerdict e xs buffer ≡ Verdict.Refused m
+    → write e xs buffer ≡ record { answer = number (Answer.Refused m); buffer = buffer }
 unfolding write writeOf
-write-refused xs buffer m e = ap (λ (v : Verdict). writeOf v xs buffer) e
+write-refused e xs buffer m r = ap (λ (v : Verdict). writeOf e v xs buffer) r
 
-pub write-accepted : (xs : List Input) (buffer : List ℕ) → writeVerdict xs buffer ≡ Verdict.Accepted
-    → write xs buffer .buffer ≡ recordsOf xs ++ drop (length xs * recordBytes) buffer
+pub write-accepted : (e : Edition) (xs : List Input) (buffer : List ℕ) → writeVerdict e xs buffer ≡ Verdict.Accepted
+    → write e xs buffer .buffer ≡ recordsOf e xs ++ drop (length xs * recordBytes e) buffer
 unfolding write writeOf
-write-accepted xs buffer e = ap (λ (v : Verdict). writeOf v xs buffer .buffer) e
+write-accepted e xs buffer a = ap (λ (v : Verdict). writeOf e v xs buffer .buffer) a
 
-pub write-answer : (xs : List Input) (buffer : List ℕ) → writeVerdict xs buffer ≡ Verdict.Accepted → write xs buffer .answer ≡ pos (length xs * recordBytes)
+pub write-answer : (e : Edition) (xs : List Input) (buffer : List ℕ) → writeVerdict e xs buffer ≡ Verdict.Accepted → write e xs buffer .answer ≡ pos (length xs * recordBytes e)
 unfolding write writeOf
-write-answer xs buffer e = ap (λ (v : Verdict). writeOf v xs buffer .answer) e
+write-answer e xs buffer a = ap (λ (v : Verdict). writeOf e v xs buffer .answer) a
 
 -- 10 is given exactly where an access is not recordable
-pub ten-is : (xs : List Input) (buffer : List ℕ) → (writeVerdict xs buffer ≡ Verdict.Refused NoRecord) ↔ (anyUnrecordable xs ≡ true)
+pub ten-is : (e : Edition) (xs : List Input) (buffer : List ℕ) → (writeVerdict e xs buffer ≡ Verdict.Refused NoRecord) ↔ (anyUnrecordable e xs ≡ true)
 unfolding writeVerdict firstOf
-ten-is xs buffer = go (anyUnrecordable xs) (ltb (length buffer) (length xs * recordBytes))
+ten-is e xs buffer = go (anyUnrecordable e xs) (ltb (length buffer) (length xs * recordBytes e))
   where
     go : (a b : Bool) → (cond a (Verdict.Refused NoRecord) (cond b (Verdict.Refused ShortBuffer) Verdict.Accepted) ≡ Verdict.Refused NoRecord) ↔ (a ≡ true)
     go true b = (λ e. refl, λ e. refl)
@@ -69,10 +75,10 @@ ten-is xs buffer = go (anyUnrecordable xs) (ltb (length buffer) (length xs * rec
     go false false = (λ e. let z : _≡_ {A = ℕ} 0 1 = cc in absurd (omega arith), λ e. absurd (false≢true e))
 
 -- and 11 exactly where all are and the buffer is too short
-pub eleven-is : (xs : List Input) (buffer : List ℕ)
-    → (writeVerdict xs buffer ≡ Verdict.Refused ShortBuffer) ↔ ((anyUnrecordable xs ≡ false) × (ltb (length buffer) (length xs * recordBytes) ≡ true))
+pub eleven-is : (e : Edition) (xs : List Input) (buffer : List ℕ)
+    → (writeVerdict e xs buffer ≡ Verdict.Refused ShortBuffer) ↔ ((anyUnrecordable e xs ≡ false) × (ltb (length buffer) (length xs * recordBytes e) ≡ true))
 unfolding writeVerdict firstOf
-eleven-is xs buffer = go (anyUnrecordable xs) (ltb (length buffer) (length xs * recordBytes))
+eleven-is e xs buffer = go (anyUnrecordable e xs) (ltb (length buffer) (length xs * recordBytes e))
   where
     go : (a b : Bool)
         → (cond a (Verdict.Refused NoRecord) (cond b (Verdict.Refused ShortBuffer) Verdict.Accepted) ≡ Verdict.Refused ShortBuffer) ↔ ((a ≡ false) × (b ≡ true))
@@ -81,9 +87,9 @@ eleven-is xs buffer = go (anyUnrecordable xs) (ltb (length buffer) (length xs * 
     go false false = (λ e. let z : _≡_ {A = ℕ} 0 1 = cc in absurd (omega arith), λ e. absurd (false≢true (e .1)))
 
 -- accepted: every access is recordable
-pub accepted-recordable : (xs : List Input) (buffer : List ℕ) → writeVerdict xs buffer ≡ Verdict.Accepted → anyUnrecordable xs ≡ false
+pub accepted-recordable : (e : Edition) (xs : List Input) (buffer : List ℕ) → writeVerdict e xs buffer ≡ Verdict.Accepted → anyUnrecordable e xs ≡ false
 unfolding writeVerdict
-accepted-recordable xs buffer e = first-accepts (writeCases xs buffer) (record { refusal = NoRecord; holds = false }) .0 e 0 (omega arith)
+accepted-recordable e xs buffer a = first-accepts (writeCases e xs buffer) (record { refusal = NoRecord; holds = false }) .0 a 0 (omega arith)
 
 -- ── wires ──
 
@@ -95,9 +101,25 @@ wired-from b (suc n) f w = one (w b) (wired-from (suc b) n f w)
 pub each-wired : (n : ℕ) (f : ℕ → Input) → ((i : ℕ) → Wired (f i)) → AllWired (each n f)
 each-wired n f w = wired-from 0 n f w
 
-pub read-wired : (bytes : List ℕ) → AllWired (inputsOf bytes)
+pub input-wired : (e : Edition) (bytes : List ℕ) → Wired (inputOf e bytes)
+unfolding inputOf
+input-wired e bytes = let w = held-wired e bytes in record { positive = w .positive; negative = w .negative }
+
+pub read-wired : (e : Edition) (bytes : List ℕ) → AllWired (inputsOf e bytes)
 unfolding inputsOf
-read-wired bytes = each-wired (recordCount bytes) (λ i. inputOf (recordAt bytes i)) (λ i. input-wired (recordAt bytes i))
+read-wired e bytes = each-wired (recordCount e bytes) (λ i. inputOf e (recordAt e bytes i)) (λ i. input-wired e (recordAt e bytes i))
+
+-- ── the newest edition has the map's own register numbers ──
+
+own-access : (a : Access) → carried newest a ≡ a
+own-access Nothing = refl
+own-access (Read r) = refl
+own-access (Write r v) = refl
+own-access Malformed = refl
+
+pub own-numbers : (bytes : List ℕ) → inputOf newest bytes ≡ heldIn newest bytes
+unfolding inputOf
+own-numbers bytes = ap (λ (a : Access). record { access = a; sample = heldIn newest bytes .sample }) (own-access (heldIn newest bytes .access))
 
 -- ── reading what was written ──
 
@@ -105,45 +127,46 @@ or-false : (a b : Bool) → (a || b) ≡ false → (a ≡ false) × (b ≡ false
 or-false true b e = absurd (false≢true (sym e))
 or-false false b e = (refl, e)
 
-inputs-records : (xs : List Input) → AllWired xs → anyUnrecordable xs ≡ false → inputsOf (recordsOf xs) ≡ xs
+inputs-records : (xs : List Input) → AllWired xs → anyUnrecordable newest xs ≡ false → inputsOf newest (recordsOf newest xs) ≡ xs
 unfolding recordsOf anyUnrecordable
-inputs-records [] w e = inputs-none
+inputs-records [] w e = inputs-none newest
 inputs-records (x ∷ xs) (one v w) e =
-    let p = or-false (not (recordable (x .access))) (anyUnrecordable xs) e in
-    inputs-cons (recordOf x) (recordsOf xs) (record-length x)
-    ∙ ap₂ {C = List Input} _∷_ (input-record x v (not-false (recordable (x .access)) (p .0))) (inputs-records xs w (p .1))
+    let p = or-false (not (recordable newest (x .access))) (anyUnrecordable newest xs) e in
+    inputs-cons newest (recordOf newest x) (recordsOf newest xs) (record-length newest x)
+    ∙ ap₂ {C = List Input} _∷_ (own-numbers (recordOf newest x)
+    ∙ input-record newest x v (not-false (recordable newest (x .access)) (p .0)) (newest-blank _) (newest-blank _)) (inputs-records xs w (p .1))
 
 -- what is written is well formed
-pub written-formed : (xs : List Input) → AllWired xs → anyUnrecordable xs ≡ false → WellFormed (recordsOf xs)
+pub written-formed : (xs : List Input) → AllWired xs → anyUnrecordable newest xs ≡ false → WellFormed newest (recordsOf newest xs)
 unfolding recordsOf anyUnrecordable
-written-formed [] w e = none-formed
+written-formed [] w e = none-formed newest
 written-formed (x ∷ xs) (one v w) e =
-    let p = or-false (not (recordable (x .access))) (anyUnrecordable xs) e in
-    well-formed-append (recordOf x) (recordsOf xs) (record-formed x v (not-false (recordable (x .access)) (p .0))) (written-formed xs w (p .1))
+    let p = or-false (not (recordable newest (x .access))) (anyUnrecordable newest xs) e in
+    well-formed-append newest (recordOf newest x) (recordsOf newest xs) (record-formed newest x v (newest-blank _) (newest-blank _) (not-false (recordable newest (x .access)) (p .0))) (written-formed xs w (p .1))
 
-pub read-written : (xs : List Input) (buffer : List ℕ) → AllWired xs → writeVerdict xs buffer ≡ Verdict.Accepted
-    → inputsOf (take (length xs * recordBytes) (write xs buffer .buffer)) ≡ xs
+pub read-written : (xs : List Input) (buffer : List ℕ) → AllWired xs → writeVerdict newest xs buffer ≡ Verdict.Accepted
+    → inputsOf newest (take (length xs * recordBytes newest) (write newest xs buffer .buffer)) ≡ xs
 read-written xs buffer w e =
-    ap (λ (bs : List ℕ). inputsOf (take (length xs * recordBytes) bs)) (write-accepted xs buffer e)
-    ∙ ap inputsOf (take-at (recordsOf xs) (drop (length xs * recordBytes) buffer) (length xs * recordBytes) (records-length xs))
-    ∙ inputs-records xs w (accepted-recordable xs buffer e)
+    ap (λ (bs : List ℕ). inputsOf newest (take (length xs * recordBytes newest) bs)) (write-accepted newest xs buffer e)
+    ∙ ap (inputsOf newest) (take-at (recordsOf newest xs) (drop (length xs * recordBytes newest) buffer) (length xs * recordBytes newest) (records-length newest xs))
+    ∙ inputs-records xs w (accepted-recordable newest xs buffer e)
 
 -- ── writing what was read ──
 
-pub written-read : (bytes : List ℕ) → WellFormed bytes → recordsOf (inputsOf bytes) ≡ bytes
+pub written-read : (bytes : List ℕ) → WellFormed newest bytes → recordsOf newest (inputsOf newest bytes) ≡ bytes
 unfolding recordsOf
 written-read =
-    by-records (λ bytes. recordsOf (inputsOf bytes) ≡ bytes) (ap recordsOf inputs-none)
-    (λ r rest n w e. ap recordsOf (inputs-cons r rest n) ∙ ap₂ {C = List ℕ} _++_ (record-input r n (w .byte) (formed-one r n w)) e)
+    by-records newest (λ bytes. recordsOf newest (inputsOf newest bytes) ≡ bytes) (ap (recordsOf newest) (inputs-none newest))
+    (λ r rest n w e. ap (recordsOf newest) (inputs-cons newest r rest n) ∙ ap₂ {C = List ℕ} _++_ (ap (recordOf newest) (own-numbers r) ∙ record-input newest r n (w .byte) (formed-one newest r n w)) e)
 
-read-all-recordable : (bytes : List ℕ) → WellFormed bytes → anyUnrecordable (inputsOf bytes) ≡ false
+read-all-recordable : (bytes : List ℕ) → WellFormed newest bytes → anyUnrecordable newest (inputsOf newest bytes) ≡ false
 unfolding anyUnrecordable
 read-all-recordable =
-    by-records (λ bytes. anyUnrecordable (inputsOf bytes) ≡ false) (ap anyUnrecordable inputs-none)
-    (λ r rest n w e. ap anyUnrecordable (inputs-cons r rest n) ∙ ap₂ (λ (a b : Bool). not a || b) (read-recordable r (formed-one r n w)) e)
+    by-records newest (λ bytes. anyUnrecordable newest (inputsOf newest bytes) ≡ false) (ap (anyUnrecordable newest) (inputs-none newest))
+    (λ r rest n w e. ap (anyUnrecordable newest) (inputs-cons newest r rest n) ∙ ap₂ (λ (a b : Bool). not a || b) (ap (λ (x : Input). recordable newest (x .access)) (own-numbers r) ∙ read-recordable newest r (formed-one newest r n w)) e)
 
-pub well-formed-accepted : (bytes buffer : List ℕ) → WellFormed bytes → length bytes ≤ length buffer → writeVerdict (inputsOf bytes) buffer ≡ Verdict.Accepted
+pub well-formed-accepted : (bytes buffer : List ℕ) → WellFormed newest bytes → length bytes ≤ length buffer → writeVerdict newest (inputsOf newest bytes) buffer ≡ Verdict.Accepted
 unfolding writeVerdict firstOf inputsOf
 well-formed-accepted bytes buffer w l =
-    let n : length (inputsOf bytes) ≡ recordCount bytes = length-each (recordCount bytes) (λ i. inputOf (recordAt bytes i)) in
-    rw (read-all-recordable bytes w, le-ltb (length buffer) (length (inputsOf bytes) * recordBytes) (omega (arith, w .whole)))
+    let n : length (inputsOf newest bytes) ≡ recordCount newest bytes = length-each (recordCount newest bytes) (λ i. inputOf newest (recordAt newest bytes i)) in
+    rw (read-all-recordable bytes w, le-ltb (length buffer) (length (inputsOf newest bytes) * recordBytes newest) (omega (arith, w .whole)))

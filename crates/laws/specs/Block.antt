@@ -4,17 +4,18 @@ use Prim.Native.Nat.{ℕ}
 use mathlib.Core.Path.{_≡_}
 use mathlib.Core.Bool.{Bool, false, cond, not, _&&_}
 use lib.Dec.{eqb}
-use Rattle.classes.specs.declared.Class.{Class}
+use Rattle.class_rules.specs.declared.Class.{Class}
 use Rattle.bits.specs.Bits.{fits}
 use Rattle.rules.specs.Access.{withSetting, settingIsClr}
-use Rattle.rules.specs.Map.{decode, settingBits, settingReadOnly, settingLocks}
+use Rattle.rules.specs.Map.{decode, settingBits, settingRow, onlyRead}
 use Rattle.rules.specs.declared.Access.{Access}
 use Rattle.rules.specs.declared.Access.the-variants.{Nothing, Read, Write, Malformed}
+use Rattle.rules.specs.declared.Guard.{Guard}
+use Rattle.rules.specs.declared.Guard.the-variants.{Free, ByRegwen, ByClrRegwen}
 use Rattle.rules.specs.declared.Handler.{Handler}
 use Rattle.rules.specs.declared.Register.{Register}
 use Rattle.rules.specs.declared.Register.the-variants.{IntrState, IntrEnable, IntrTest, Local, Alert, Block, Unassigned}
 use Rattle.rules.specs.declared.Setting.{Setting}
-use Rattle.rules.specs.declared.Setting.the-variants.{Ctrl, ClrRegwen, Clr, AccumCnt, AccumThresh, TimeoutCyc, PhaseCyc, EscCnt}
 
 -- what v stored at q makes of class k
 abbrev pub classStored : Register → ℕ → ℕ → Class → Class
@@ -26,23 +27,20 @@ classStored (Alert f i) v k c = c
 classStored (Block s j) v k c = cond (eqb k j) (withSetting s v c) c
 classStored Unassigned v k c = c
 
--- a register of the block is locked: its REGWEN, or CLR_REGWEN for itself and CLR, is 0
+-- a register of the block is locked while what guards it is 0
+abbrev pub shutBy : Guard → Class → Bool
+shutBy Free c = false
+shutBy ByRegwen c = eqb (c .regwen) 0
+shutBy ByClrRegwen c = eqb (c .clrwen) 0
+
 abbrev pub settingLocked : Setting → Class → Bool
-settingLocked Setting.Regwen c = eqb (c .regwen) 0
-settingLocked Ctrl c = eqb (c .regwen) 0
-settingLocked ClrRegwen c = eqb (c .clrwen) 0
-settingLocked Clr c = eqb (c .clrwen) 0
-settingLocked AccumCnt c = false
-settingLocked AccumThresh c = eqb (c .regwen) 0
-settingLocked TimeoutCyc c = eqb (c .regwen) 0
-settingLocked (PhaseCyc p) c = eqb (c .regwen) 0
-settingLocked EscCnt c = false
-settingLocked Setting.State c = false
+settingLocked s c = shutBy (settingRow s .guard) c
 
 -- a write of v at a register of the block is accepted: not read only, not too wide, not locked
 unfoldable pub blockAccepts : Setting → ℕ → Class → Bool
 blockAccepts s v c =
-    not (settingReadOnly s) && (fits (settingBits s) v && not (settingLocked s c && not (settingLocks s && eqb v 0)))
+    not (onlyRead (settingRow s .way))
+    && (fits (settingBits s) v && not (settingLocked s c && not (settingRow s .lock && eqb v 0)))
 
 -- the block after the access
 unfoldable pub blockWritten : Setting → ℕ → Class → Class

@@ -3,8 +3,8 @@
 use Prim.Native.Nat.{ℕ, _^_, _≤_, _<_}
 use mathlib.Core.Path.{_≡_}
 use mathlib.Core.Bool.{true}
-use Rattle.classes.specs.Class.{phaseCyc, stateOf, stateFits, countFits}
-use Rattle.classes.specs.declared.Class.{Class}
+use Rattle.class_rules.specs.Class.{phaseCyc, stateOf, stateFits, countFits}
+use Rattle.class_rules.specs.declared.Class.{Class}
 use Rattle.rules.specs.Map.{fieldBits}
 use Rattle.rules.specs.State.{most, localCount, classCount, local, alert, classAt}
 use Rattle.rules.specs.declared.Field.{Field}

@@ -1,4 +1,4 @@
-pub mod Assigned
+pub mod InMap
 pub mod Facts
 pub mod RegisterFile
 pub mod Refusals
@@ -8,4 +8,5 @@ pub mod ClearedBy
 pub mod Block
 pub mod Unchecked
 pub mod Batches
+pub mod Wires
 pub mod Columns

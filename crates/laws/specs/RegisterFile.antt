@@ -1,32 +1,30 @@
 -- The registers as one file: what a write makes of each ("Register map", and step 1 of "One tick").
 -- Assumes nothing.
 use Prim.Native.Nat.{ℕ}
-use mathlib.Core.Bool.{Bool, true, false, not, _&&_, _||_}
+use mathlib.Core.Bool.{Bool, true, false, cond, not, _&&_, _||_}
 use lib.Dec.{eqb}
 use Rattle.bits.specs.Bits.{bit, bitsOf}
 use Rattle.rules.specs.Access.{accepted, fieldStored}
-use Rattle.rules.specs.Map.{decode, numberOf}
+use Rattle.rules.specs.Map.{decode, numberOf, isRegister, settingRow, row}
 use Rattle.rules.specs.declared.Access.{Access}
 use Rattle.rules.specs.declared.Access.the-variants.{Nothing, Read, Write, Malformed}
-use Rattle.rules.specs.declared.Field.{Field}
 use Rattle.rules.specs.declared.Handler.{Handler}
 use Rattle.rules.specs.declared.Register.{Register}
 use Rattle.rules.specs.declared.Register.the-variants.{IntrState, IntrEnable, IntrTest, Local, Alert, Block, Unassigned}
 use Rattle.rules.specs.declared.Setting.{Setting}
-use Rattle.rules.specs.declared.Setting.the-variants.{Ctrl, ClrRegwen, Clr, AccumCnt, AccumThresh, TimeoutCyc, PhaseCyc, EscCnt}
+use Rattle.rules.specs.declared.Way.{Way}
+use Rattle.rules.specs.declared.Way.the-variants.{Both, OneClears, ReadOnly, WriteOnly}
+
+-- it takes what is written as it is
+abbrev pub asWritten : Way → Bool
+asWritten Both = true
+asWritten OneClears = false
+asWritten ReadOnly = false
+asWritten WriteOnly = false
 
 -- what a register of a block holds once v is stored: CLR holds nothing, and no write is accepted at a read-only one
 abbrev pub settingStored : Setting → ℕ → ℕ → ℕ
-settingStored Setting.Regwen old v = v
-settingStored Ctrl old v = v
-settingStored ClrRegwen old v = v
-settingStored Clr old v = old
-settingStored AccumCnt old v = old
-settingStored AccumThresh old v = v
-settingStored TimeoutCyc old v = v
-settingStored (PhaseCyc p) old v = v
-settingStored EscCnt old v = old
-settingStored Setting.State old v = old
+settingStored s old v = cond (asWritten (settingRow s .way)) v old
 
 -- the register that a write at q changes: INTR_TEST writes INTR_STATE, every other one itself
 abbrev pub target : Register → Register
@@ -67,29 +65,5 @@ committed h (Write r v) old = newValue (decode (h .n) r) old v
 committed h Malformed old = old
 
 -- a register that reads as what is written: not write only, not read only, and no 1 clears in it
-abbrev pub fieldPlain : Field → Bool
-fieldPlain Field.Regwen = true
-fieldPlain Field.En = true
-fieldPlain Field.Class = true
-fieldPlain Field.Cause = false
-
-abbrev pub settingPlain : Setting → Bool
-settingPlain Setting.Regwen = true
-settingPlain Ctrl = true
-settingPlain ClrRegwen = true
-settingPlain Clr = false
-settingPlain AccumCnt = false
-settingPlain AccumThresh = true
-settingPlain TimeoutCyc = true
-settingPlain (PhaseCyc p) = true
-settingPlain EscCnt = false
-settingPlain Setting.State = false
-
 abbrev pub plain : Register → Bool
-plain IntrState = false
-plain IntrEnable = true
-plain IntrTest = false
-plain (Local f j) = fieldPlain f
-plain (Alert f i) = fieldPlain f
-plain (Block s k) = settingPlain s
-plain Unassigned = false
+plain q = isRegister q && asWritten (row q .way)

@@ -1,5 +1,4 @@
-// "Register map": a register's number, direction, lock and width.
-pub mod direction;
-pub mod lock;
+// "Register map": a register's number, its row, and what the row says of an access.
+pub mod column;
 pub mod number;
-pub mod width;
+pub mod row;

@@ -3,18 +3,21 @@ use rules::Field;
 use rules::Register;
 use rules::Setting;
 
+// From one field of the alerts to the next.
+const STRIDE: usize = 64;
+
 // The first numbers of the alerts' four fields and of the classes, and what is past them.
-const REGWEN: usize = 64;
+const REGWEN: usize = STRIDE;
 
-const EN: usize = 128;
+const EN: usize = 2 * STRIDE;
 
-const CLASS: usize = 192;
+const CLASS: usize = 3 * STRIDE;
 
-const CAUSE: usize = 256;
+const CAUSE: usize = 4 * STRIDE;
 
-const BLOCKS: usize = 320;
+const BLOCKS: usize = 5 * STRIDE;
 
-const END: usize = 384;
+const END: usize = BLOCKS + 16 * 4;
 
 ghost use mathlib.Core.Path.{_≡_};
 ghost use Rattle.rules.specs.Map.{blockAt, alertAt, decode};

@@ -5,21 +5,24 @@ use mathlib.Core.Path.{_≡_, sym, ap, _∙_}
 use mathlib.Core.Bool.{Bool, false, cond, not, _&&_, _||_}
 use mathlib.Core.List.{List}
 use native.Mathlib.Omega.{arith}
-use native.Mathlib.Decide.{decLt}
+use native.Mathlib.Decide.{decLt, ℕ-discrete}
 use native.Mathlib.Nat.{mod-lt}
 use lib.Bits.{bitAnd, bitOr, and-le-r, or-lt}
 use lib.Dec.{eqb}
 use lib.ListN.{getD, length, set}
 use lib.Seq.{set-out}
-use borrow.Author.Tests.{ne-eqb}
+use borrow.Author.Tests.{eq-eqb, ne-eqb}
 use Rattle.bits.specs.Bits.{bit, bitsOf}
 use Rattle.bits.proofs.BitLaws.{bit-and, bit-or, bit-not, bit-mod, is-bitsOf}
-use Rattle.bits.proofs.IndexLaws.{set-each, is-each}
-use Rattle.classes.specs.declared.Class.{Class}
+use Rattle.bits.proofs.IndexLaws.{set-each, is-each, each-ext}
+use Rattle.class_rules.specs.Class.{phaseCyc}
+use Rattle.class_rules.specs.declared.Class.{Class}
+use Rattle.laws.proofs.Cases.{by-field}
 use Rattle.rules.specs.Access.{withSetting}
-use Rattle.rules.specs.Map.{fieldBits}
+use Rattle.rules.specs.Map.{fieldBits, offset}
 use Rattle.rules.specs.State.{put}
 use Rattle.rules.specs.declared.Field.{Field}
+use Rattle.rules.specs.declared.Setting.{Setting}
 use Rattle.rules.specs.declared.Setting.the-variants.{PhaseCyc}
 
 -- ── lists ──
@@ -51,18 +54,46 @@ raise-bits a v h =
 
 -- ── a class's block ──
 
--- a written phase length changes the lengths alone
-pub set-phase : (p v : ℕ) (c : Class)
-    → record { lengths = put 4 (c .lengths) 0 p v; timeout = c .timeout; count = c .count; ctrl = c .ctrl; accum = c .accum; thresh = c .thresh; regwen = c .regwen; clrwen = c .clrwen; state = c .state }
-    ≡ withSetting (PhaseCyc p) v c
-set-phase p v c = simp (other 6 (omega arith), other 1 (omega arith), other 5 (omega arith), other 0 (omega arith), other 2 (omega arith))
-  where
-    other : (m : ℕ) → m < 7 → eqb (7 + p) m ≡ false
-    other m h = ne-eqb (7 + p) m (λ e. omega arith)
+-- the class with other lengths
+abbrev withLengths : Class → List ℕ → Class
+withLengths c ls =
+    record {
+      lengths = ls;
+      timeout = c .timeout;
+      count = c .count;
+      ctrl = c .ctrl;
+      accum = c .accum;
+      thresh = c .thresh;
+      regwen = c .regwen;
+      clrwen = c .clrwen;
+      state = c .state;
+    }
+
+module _ (v : ℕ) (c : Class) where
+  -- a store at a register that is no length keeps the lengths
+  pub set-register : (s : Setting) → length (c .lengths) ≡ 4 → ((p : ℕ) → p < 4 → offset s ≡ 7 + p → ⊥)
+      → withLengths (withSetting s v c) (c .lengths) ≡ withSetting s v c
+  set-register s l d =
+      ap (withLengths (withSetting s v c))
+      (is-each 4 (c .lengths) _ 0 l (λ p h. sym (ap (λ (t : Bool). cond t v (phaseCyc c p)) (ne-eqb (offset s) (7 + p) (d p h)))))
+
+  -- a written phase length changes the lengths alone
+  pub set-phase : (p : ℕ) → withLengths c (put 4 (c .lengths) 0 p v) ≡ withSetting (PhaseCyc p) v c
+  unfolding put
+  set-phase p =
+      simp (other 6 (omega arith), other 1 (omega arith), other 5 (omega arith), other 0 (omega arith), other 2 (omega arith))
+      (ap (withLengths c) (each-ext 4 _ _ 0 (λ j h. ap (λ (t : Bool). cond t v (phaseCyc c j)) (shifted j))))
+    where
+      other : (m : ℕ) → m < 7 → eqb (7 + p) m ≡ false
+      other m h = ne-eqb (7 + p) m (λ e. omega arith)
+
+      shifted : (j : ℕ) → eqb j p ≡ eqb (7 + p) (7 + j)
+      shifted j = go (ℕ-discrete j p)
+        where
+          go : Dec (j ≡ p) → eqb j p ≡ eqb (7 + p) (7 + j)
+          go (yes e) = eq-eqb j p e ∙ sym (eq-eqb (7 + p) (7 + j) (omega arith))
+          go (no e) = ne-eqb j p e ∙ sym (ne-eqb (7 + p) (7 + j) (λ (d : 7 + p ≡ 7 + j). e (omega arith)))
 
 -- no register of an alert or a local alert has more than 2 bits
 pub field-small : (f : Field) (v : ℕ) → v < 2 ^ fieldBits f → v < 4
-field-small Field.Regwen v h = omega arith
-field-small Field.En v h = omega arith
-field-small Field.Class v h = omega arith
-field-small Field.Cause v h = omega arith
+field-small f v = by-field (λ f. v < 2 ^ fieldBits f → v < 4) (λ h. omega arith) (λ h. omega arith) (λ h. omega arith) (λ h. omega arith) f

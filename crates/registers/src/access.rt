@@ -3,9 +3,11 @@ use crate::read::value_of;
 use crate::verdict::verdict_of;
 use crate::write::stored;
 use map::number::register_at;
+use masks::class_bit;
 use rules::Access;
 use rules::Accessed;
 use rules::Answer;
+use rules::Effects;
 use rules::Handler;
 use rules::Register;
 use rules::Setting;
@@ -33,19 +35,6 @@ fn is_clr(s: Setting) -> bool
     }
 }
 
-// The bit of class k.
-fn class_bit(k: usize) -> u8
-    ensures { λ r. ⌜ r ≡ bitsOf 4 (λ j. eqb k j) ⌝ }
-{
-    match k {
-        0 => 1,
-        1 => 2,
-        2 => 4,
-        3 => 8,
-        _ => 0,
-    }
-}
-
 // A write of 1 to CLR is an accepted clear of its class; a 0 does nothing.
 fn clears_of(q: Register, v: u32) -> u8
     ensures { λ r. ⌜ r ≡ bitsOf 4 (λ k. isClrOf k q && eqb v 1) ⌝ }
@@ -56,13 +45,7 @@ fn clears_of(q: Register, v: u32) -> u8
         Register::IntrTest => 0,
         Register::Local(_, _) => 0,
         Register::Alert(_, _) => 0,
-        Register::Block(s, k) => {
-            if is_clr(s) & (v == 1) {
-                class_bit(k)
-            } else {
-                0
-            }
-        }
+        Register::Block(s, k) => class_bit(k, is_clr(s) & (v == 1)),
         Register::Unassigned => 0,
     }
 }
@@ -70,20 +53,20 @@ fn clears_of(q: Register, v: u32) -> u8
 // What an accepted access does: a read gives the value, anything else 0.
 fn act(h: Handler, x: Access) -> Accessed
     requires { ⌜ tooWide h x ≡ false ⌝ }
-    ensures { λ r. ⌜ r ≡ (record { handler = written h x; answer = given h x; clears = bitsOf 4 (writesClr h x) }) ⌝ }
+    ensures { λ r. ⌜ r ≡ (record { handler = written h x; answer = given h x; effects = record { clears = bitsOf 4 (writesClr h x) } }) ⌝ }
 {
     match x {
         Access::Nothing => Accessed {
             handler: h,
             answer: Answer::Done,
-            clears: 0,
+            effects: Effects { clears: 0 },
         },
         Access::Read(r) => {
             let q = register_at(h.n, r);
             Accessed {
                 handler: h,
                 answer: Answer::Value(value_of(h, q)),
-                clears: 0,
+                effects: Effects { clears: 0 },
             }
         }
         Access::Write(r, v) => {
@@ -91,18 +74,20 @@ fn act(h: Handler, x: Access) -> Accessed
             Accessed {
                 handler: stored(h, q, v),
                 answer: Answer::Done,
-                clears: clears_of(q, v),
+                effects: Effects {
+                    clears: clears_of(q, v),
+                },
             }
         }
         Access::Malformed => Accessed {
             handler: h,
             answer: Answer::Done,
-            clears: 0,
+            effects: Effects { clears: 0 },
         },
     }
 }
 
-// Step 1: the state after it, the answer, and the classes with an accepted clear. A refused access does nothing.
+// Step 1: the state after it, the answer, and its effects on the later steps. A refused access does nothing.
 pub fn access(h: Handler, x: Access) -> Accessed
     ensures { λ r. ⌜ r ≡ accessed h x ⌝ }
 {
@@ -111,7 +96,7 @@ pub fn access(h: Handler, x: Access) -> Accessed
         Verdict::Refused(m) => Accessed {
             handler: h,
             answer: Answer::Refused(m),
-            clears: 0,
+            effects: Effects { clears: 0 },
         },
     }
 }

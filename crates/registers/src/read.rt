@@ -1,5 +1,5 @@
 // "One tick", step 1: what a register holds, for every index.
-use classes::Class;
+use class_rules::Class;
 use rules::Alerts;
 use rules::Field;
 use rules::Handler;
@@ -8,7 +8,7 @@ use rules::Register;
 use rules::Setting;
 ghost use mathlib.Core.Path.{_≡_};
 ghost use lib.ListN.{getD};
-ghost use Rattle.classes.specs.Class.{noClass};
+ghost use Rattle.class_rules.specs.Class.{noClass};
 ghost use Rattle.rules.specs.State.{localColumn, alertColumn};
 ghost use Rattle.rules.specs.Access.{settingValue, value};
 

@@ -1,22 +1,23 @@
 // "One tick", step 1: the refusals of an access, in the order 5, 1, 2, 4, 3.
 use crate::read::value_of;
-use map::direction::is_register;
-use map::direction::read_only;
-use map::direction::write_only;
-use map::lock::guard_of;
-use map::lock::is_lock;
+use map::column::guard_of;
+use map::column::is_lock;
+use map::column::is_register;
+use map::column::limit;
+use map::column::read_only;
+use map::column::write_only;
 use map::number::register_at;
-use map::width::limit;
 use rules::Access;
 use rules::Handler;
 use rules::Refusal;
 use rules::Register;
 use rules::Verdict;
 ghost use mathlib.Core.Path.{_≡_};
-ghost use mathlib.Core.Bool.{cond, not};
+ghost use mathlib.Core.Bool.{false, not};
 ghost use Rattle.bits.specs.Bits.{fits};
 ghost use Rattle.rules.specs.Map.{isRegister, bits, writeOnly, readOnly};
-ghost use Rattle.rules.specs.Access.{locked, bars, verdict};
+ghost use Rattle.rules.specs.Answer.{firstOf};
+ghost use Rattle.rules.specs.Access.{locked, bars, inOrder, verdict};
 
 // A register is locked while the REGWEN that guards it is 0.
 pub fn is_locked(h: Handler, q: Register) -> bool
@@ -33,17 +34,19 @@ fn is_barred(h: Handler, q: Register, v: u32) -> bool
     is_locked(h, q) & !(is_lock(q) & (v == 0))
 }
 
-// The first refusal whose case holds, in the order 1, 2, 4, 3, or acceptance.
-fn first_refusal(none: bool, wrong: bool, wide: bool, barred: bool) -> Verdict
-    ensures { λ r. ⌜ r ≡ cond none (Verdict.Refused Refusal.NoRegister) (cond wrong (Verdict.Refused Refusal.WrongWay) (cond wide (Verdict.Refused Refusal.TooWide) (cond barred (Verdict.Refused Refusal.Locked) Verdict.Accepted))) ⌝ }
+// The first refusal whose case holds, in the order 5, 1, 2, 4, 3, or acceptance.
+fn first_refusal(bad: bool, none: bool, wrong: bool, wide: bool, shut: bool) -> Verdict
+    ensures { λ r. ⌜ r ≡ firstOf (inOrder bad none wrong wide shut) ⌝ }
 {
-    if none {
+    if bad {
+        Verdict::Refused(Refusal::BadRecord)
+    } else if none {
         Verdict::Refused(Refusal::NoRegister)
     } else if wrong {
         Verdict::Refused(Refusal::WrongWay)
     } else if wide {
         Verdict::Refused(Refusal::TooWide)
-    } else if barred {
+    } else if shut {
         Verdict::Refused(Refusal::Locked)
     } else {
         Verdict::Accepted
@@ -52,28 +55,28 @@ fn first_refusal(none: bool, wrong: bool, wide: bool, barred: bool) -> Verdict
 
 // The refusals of a read.
 fn read_verdict(q: Register) -> Verdict
-    ensures { λ r. ⌜ r ≡ cond (not (isRegister q)) (Verdict.Refused Refusal.NoRegister) (cond (writeOnly q) (Verdict.Refused Refusal.WrongWay) Verdict.Accepted) ⌝ }
+    ensures { λ r. ⌜ r ≡ firstOf (inOrder false (not (isRegister q)) (writeOnly q) false false) ⌝ }
 {
-    first_refusal(!is_register(q), write_only(q), false, false)
+    first_refusal(false, !is_register(q), write_only(q), false, false)
 }
 
 // The refusals of a write.
 fn write_verdict(h: Handler, q: Register, v: u32) -> Verdict
-    ensures { λ r. ⌜ r ≡ cond (not (isRegister q)) (Verdict.Refused Refusal.NoRegister) (cond (readOnly q) (Verdict.Refused Refusal.WrongWay) (cond (not (fits (bits q) v)) (Verdict.Refused Refusal.TooWide) (cond (bars h q v) (Verdict.Refused Refusal.Locked) Verdict.Accepted))) ⌝ }
+    ensures { λ r. ⌜ r ≡ firstOf (inOrder false (not (isRegister q)) (readOnly q) (not (fits (bits q) v)) (bars h q v)) ⌝ }
 {
     let wide = !((v as u64) < limit(q));
-    let barred = is_barred(h, q, v);
-    first_refusal(!is_register(q), read_only(q), wide, barred)
+    let shut = is_barred(h, q, v);
+    first_refusal(false, !is_register(q), read_only(q), wide, shut)
 }
 
-// The verdict on an access: a malformed one gets refusal 5.
+// The verdict on an access.
 pub fn verdict_of(h: Handler, x: Access) -> Verdict
     ensures { λ r. ⌜ r ≡ verdict h x ⌝ }
 {
     match x {
-        Access::Nothing => Verdict::Accepted,
+        Access::Nothing => first_refusal(false, false, false, false, false),
         Access::Read(r) => read_verdict(register_at(h.n, r)),
         Access::Write(r, v) => write_verdict(h, register_at(h.n, r), v),
-        Access::Malformed => Verdict::Refused(Refusal::BadRecord),
+        Access::Malformed => first_refusal(true, false, false, false, false),
     }
 }

@@ -1,7 +1,7 @@
 // "One tick", step 1: an accepted write.
 use crate::read::alert_value;
 use crate::read::local_value;
-use classes::Class;
+use class_rules::Class;
 use rules::Alerts;
 use rules::Field;
 use rules::Handler;
@@ -13,7 +13,7 @@ ghost use mathlib.Core.Bool.{not, _&&_, _||_};
 ghost use Prim.Native.Nat.{_^_, _<_};
 ghost use lib.ListN.{getD, set};
 ghost use Rattle.bits.specs.Bits.{bit, bitsOf};
-ghost use Rattle.classes.specs.Class.{noClass};
+ghost use Rattle.class_rules.specs.Class.{noClass};
 ghost use Rattle.rules.specs.Map.{settingBits, bits};
 ghost use Rattle.rules.specs.State.{most, localCount, classCount, localColumn, alertColumn, withInterrupts, withLocalColumn, withAlertColumn, put};
 ghost use Rattle.rules.specs.Access.{fieldStored, withSetting, store};

@@ -1,16 +1,19 @@
 -- The rest bytes: moved to the buffer's start, and completed by what comes next.
 -- Assumes nothing.
-use Prim.Native.Nat.{ℕ, suc, _+_, _-_, _*_, _%_, _≤_, _<_}
-use mathlib.Core.Path.{_≡_, sym, ap, _∙_}
+use Prim.Native.Nat.{ℕ, suc, _+_, _-_, _*_, _/_, _%_, _≤_, _<_}
+use mathlib.Core.Path.{_≡_, sym, ap, ap₂, subst, _∙_}
 use mathlib.Core.List.{List, _++_, append-assoc}
+use native.Mathlib.Nat.{div-add-mod', mod-lt}
 use native.Mathlib.Omega.{arith}
-use lib.ListN.{length, getD, set, take, drop, length-append, length-drop, take-append-drop}
+use lib.ListN.{length, getD, set, take, drop, length-drop, take-append-drop}
 use lib.Seq.{append-snoc, drop-append-add, drop-cons, getD-append-add, getD-drop, length-take-le, set-at, take-all, take-at, take-suc}
-use Rattle.rules.specs.Batch.{inputsOf, recordCount}
-use Rattle.rules.specs.Record.{recordBytes}
-use Rattle.laws.proofs.BatchLaws.{inputs-append}
+use Rattle.rules.specs.Edition.{recordBytes}
+use Rattle.rules.specs.declared.Edition.{Edition}
+use Rattle.rules.specs.Record.{inputsOf, recordCount}
+use Rattle.laws.proofs.BatchLaws.{count-append, inputs-append}
+use Rattle.laws.proofs.PartLaws.{some-bytes, place-add}
 use Rattle.replay.specs.Rest.{Kept, restOf}
-use Rattle.replay.proofs.Whole.{inputs-whole, length-whole, part-take, wholeOf}
+use Rattle.replay.proofs.Whole.{inputs-whole, part-take, whole-length, wholeOf}
 
 -- ── moved to the start ──
 
@@ -44,40 +47,41 @@ module _ (xs : List ℕ) (from n : ℕ) where
       ∙ ap (λ (ys : List ℕ). ys ++ drop (suc n) xs) (sym (take-suc (drop from xs) n 0 m))
 
 -- the rest of the first n entries
-pub kept-front : (n : ℕ) (xs : List ℕ) → n ≤ length xs → Kept (take n xs) (n % recordBytes) (fronted (n - n % recordBytes) (n % recordBytes) xs)
-kept-front n xs h =
-    let r = n % recordBytes in
-    let k = n - n % recordBytes in
+pub kept-front : (e : Edition) (n : ℕ) (xs : List ℕ) (d : ℕ) → d ≡ recordBytes e → n ≤ length xs → Kept e (take n xs) (n % d) (fronted (n - n % d) (n % d) xs)
+kept-front e n xs d z h =
+    let r = n % d in
+    let k = n - n % d in
     let l = length-take-le n xs h in
-    let e : k ≡ recordCount (take n xs) * recordBytes = omega arith in
+    let s : n / d * d + n % d ≡ n = div-add-mod' n d in
+    let c : n / d * d ≡ recordCount e (take n xs) * recordBytes e = ap₂ (λ (m i : ℕ). m / i * i) (sym l) z in
+    let k-is : k ≡ recordCount e (take n xs) * recordBytes e = omega arith in
+    let small : r < recordBytes e = subst (λ (i : ℕ). n % d < i) z (mod-lt n (subst (λ (i : ℕ). 0 < i) (sym z) (some-bytes e))) in
     record {
       rest =
           take-at (take r (drop k xs)) (drop r xs) r (length-part xs k r (omega arith))
           ∙ sym (part-take r k n xs (omega arith))
           ∙ take-all r (drop k (take n xs)) (simp length-drop (omega arith))
-          ∙ ap (λ (j : ℕ). drop j (take n xs)) e;
-      short = omega arith;
+          ∙ ap (λ (j : ℕ). drop j (take n xs)) k-is;
+      short = small;
     }
 
 -- ── completed ──
 
-module _ (a b : List ℕ) where
-  whole-length : length (wholeOf a) % recordBytes ≡ 0
-  whole-length = let e = length-whole a in omega arith
-
+module _ (e : Edition) (a b : List ℕ) where
   -- the whole records of a, and then its rest with b
-  cut-whole : a ++ b ≡ wholeOf a ++ (restOf a ++ b)
-  cut-whole = ap (λ (xs : List ℕ). xs ++ b) (sym (take-append-drop (recordCount a * recordBytes) a)) ∙ append-assoc (wholeOf a) (restOf a) b
+  cut-whole : a ++ b ≡ wholeOf e a ++ (restOf e a ++ b)
+  cut-whole = ap (λ (xs : List ℕ). xs ++ b) (sym (take-append-drop (recordCount e a * recordBytes e) a)) ∙ append-assoc (wholeOf e a) (restOf e a) b
 
-  pub inputs-behind : inputsOf (a ++ b) ≡ inputsOf a ++ inputsOf (restOf a ++ b)
+  pub inputs-behind : inputsOf e (a ++ b) ≡ inputsOf e a ++ inputsOf e (restOf e a ++ b)
   inputs-behind =
-      ap inputsOf cut-whole ∙ inputs-append (wholeOf a) (restOf a ++ b) whole-length
-      ∙ ap (λ xs. xs ++ inputsOf (restOf a ++ b)) (inputs-whole a)
+      ap (inputsOf e) cut-whole ∙ inputs-append e (wholeOf e a) (restOf e a ++ b) (whole-length e a)
+      ∙ ap (λ xs. xs ++ inputsOf e (restOf e a ++ b)) (inputs-whole e a)
 
-  pub rest-behind : restOf (a ++ b) ≡ restOf (restOf a ++ b)
+  pub rest-behind : restOf e (a ++ b) ≡ restOf e (restOf e a ++ b)
   rest-behind =
-      let c = restOf a ++ b in
-      let w = whole-length in
-      let l = length-append (wholeOf a) c in
-      let e : recordCount (wholeOf a ++ c) * recordBytes ≡ length (wholeOf a) + recordCount c * recordBytes = omega arith in
-      ap restOf cut-whole ∙ ap (λ (k : ℕ). drop k (wholeOf a ++ c)) e ∙ drop-append-add (wholeOf a) c (recordCount c * recordBytes)
+      let c = restOf e a ++ b in
+      let w = whole-length e a in
+      ap (restOf e) cut-whole
+      ∙ ap (λ (k : ℕ). drop k (wholeOf e a ++ c))
+      (ap (λ (k : ℕ). k * recordBytes e) (count-append e (wholeOf e a) c w) ∙ place-add (recordBytes e) (some-bytes e) (length (wholeOf e a)) (recordCount e c) w)
+      ∙ drop-append-add (wholeOf e a) c (recordCount e c * recordBytes e)

@@ -12,6 +12,7 @@ use records::BYTES;
 use records::TEXT;
 use records::replay;
 use rest::keep_rest;
+use rules::Edition;
 use rules::Handler;
 use rules::Made;
 use state::new::new;
@@ -19,9 +20,9 @@ ghost use mathlib.Core.Path.{_≡_};
 ghost use mathlib.Core.Bool.{true};
 ghost use Prim.Native.Nat.{_*_, _≤_, _<_};
 ghost use lib.ListN.{length, take};
-ghost use Rattle.rules.specs.Record.{recordBytes};
+ghost use Rattle.rules.specs.Batch.{admits};
+ghost use Rattle.rules.specs.Edition.{recordBytes};
 ghost use Rattle.rules.specs.State.{made};
-ghost use Rattle.rules.specs.Valid.{valid};
 ghost use Rattle.replay.specs.Rest.{Ran, Turned};
 
 // The state after a turn, how many bytes wait at the start of the buffer, and whether another turn follows.
@@ -51,13 +52,13 @@ fn finish(rest: usize, failed: bool) {
 }
 
 // Runs the whole records of count bytes, keeps the rest for the next turn and prints the words.
-fn run_whole(h: Handler, bytes: &mut [u8], count: usize) -> Turn
-    requires { ⌜ (valid h ≡ true) × (length (now bytes) ≡ 2048 * recordBytes) × (count ≤ length (now bytes)) ⌝ }
-    ensures { λ r. ⌜ Ran h (take count (now (bytes .entry))) (r .handler) (r .rest) (now (bytes .exit)) ⌝ }
+fn run_whole(edition: Edition, h: Handler, bytes: &mut [u8], count: usize) -> Turn
+    requires { ⌜ (admits edition h ≡ true) × (length (now bytes) ≡ 2048 * recordBytes edition) × (count ≤ length (now bytes)) ⌝ }
+    ensures { λ r. ⌜ Ran edition h (take count (now (bytes .entry))) (r .handler) (r .rest) (now (bytes .exit)) ⌝ }
 {
     let mut text = [0u8; TEXT];
-    let done = replay(h, &bytes[..count], &mut text);
-    let rest = keep_rest(bytes, count);
+    let done = replay(edition, h, &bytes[..count], &mut text);
+    let rest = keep_rest(edition, bytes, count);
     let written = done.written;
     let handler = done.handler;
     Turn {
@@ -68,9 +69,9 @@ fn run_whole(h: Handler, bytes: &mut [u8], count: usize) -> Turn
 }
 
 // Reads once behind the bytes that wait, and runs what is whole now. A read that gives nothing makes the turn the last.
-fn take_turn(h: Handler, bytes: &mut [u8], rest: usize) -> Turn
-    requires { ⌜ (valid h ≡ true) × (length (now bytes) ≡ 2048 * recordBytes) × (rest < recordBytes) ⌝ }
-    ensures { λ r. ⌜ Turned h (take rest (now (bytes .entry))) (r .handler) (r .rest) (now (bytes .exit)) ⌝ }
+fn take_turn(edition: Edition, h: Handler, bytes: &mut [u8], rest: usize) -> Turn
+    requires { ⌜ (admits edition h ≡ true) × (length (now bytes) ≡ 2048 * recordBytes edition) × (rest < recordBytes edition) ⌝ }
+    ensures { λ r. ⌜ Turned edition h (take rest (now (bytes .entry))) (r .handler) (r .rest) (now (bytes .exit)) ⌝ }
 {
     let got = read_behind(STDIN_FILENO, bytes, rest);
     if got.count == 0 {
@@ -81,19 +82,19 @@ fn take_turn(h: Handler, bytes: &mut [u8], rest: usize) -> Turn
             goes_on: false,
         };
     }
-    run_whole(h, bytes, rest + got.count)
+    run_whole(edition, h, bytes, rest + got.count)
 }
 
 // A proved loop has to end, and nothing says that the input does: so it counts its turns down, from a number that no run uses up.
-fn run(h: Handler)
-    requires { ⌜ valid h ≡ true ⌝ }
+fn run(edition: Edition, h: Handler)
+    requires { ⌜ admits edition h ≡ true ⌝ }
 {
     let mut bytes = [0u8; BYTES];
     let mut handler = h;
     let mut rest = 0;
     let mut turns = u64::MAX;
     while turns > 0 {
-        let next = take_turn(handler, &mut bytes, rest);
+        let next = take_turn(edition, handler, &mut bytes, rest);
         if !next.goes_on {
             return;
         }
@@ -128,5 +129,5 @@ fn main() {
         refuse();
         return;
     }
-    run(start.handler);
+    run(Edition::Bytes24, start.handler);
 }

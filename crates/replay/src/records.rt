@@ -1,24 +1,24 @@
 // The text that a part of the input gives: a line for the word of each record.
 use batch::batch;
+use rules::Edition;
 use rules::Handler;
 use text::hex_lines;
+use trace::edition::BYTES_24;
+use trace::edition::record_bytes;
 ghost use mathlib.Core.Path.{_≡_};
 ghost use mathlib.Core.Bool.{true};
 ghost use Prim.Native.Nat.{_*_, _≤_};
 ghost use lib.ListN.{length};
-ghost use Rattle.rules.specs.Batch.{recordCount};
-ghost use Rattle.rules.specs.Valid.{valid};
-ghost use Rattle.replay.specs.Given.{Given};
+ghost use Rattle.rules.specs.Batch.{admits};
+ghost use Rattle.rules.specs.Record.{recordCount};
+ghost use Rattle.replay.specs.ReplayedBy.{ReplayedBy};
 
-// The bytes of a record.
-pub const RECORD: usize = 24;
+// The records of a turn, and the bytes of that many records and of their lines.
+const TURN: usize = 2048;
 
-// The most records of a part, and the bytes of that many records and of their lines.
-const MOST: usize = 2048;
+pub const BYTES: usize = TURN * BYTES_24;
 
-pub const BYTES: usize = MOST * RECORD;
-
-pub const TEXT: usize = MOST * 17;
+pub const TEXT: usize = TURN * 17;
 
 // The state after a part's records, and how many bytes of text they gave.
 pub struct Replayed {
@@ -27,14 +27,15 @@ pub struct Replayed {
 }
 
 // Runs the records that the bytes hold whole, and writes the lines of their words to the start of text.
-pub fn replay(h: Handler, bytes: &[u8], text: &mut [u8]) -> Replayed
-    requires { ⌜ (valid h ≡ true) × (recordCount (now bytes) ≤ 2048) × (17 * recordCount (now bytes) ≤ length (now text)) ⌝ }
-    ensures { λ r. ⌜ Given h (now (bytes .entry)) (now (text .entry)) r (now (text .exit)) ⌝ }
+pub fn replay(edition: Edition, h: Handler, bytes: &[u8], text: &mut [u8]) -> Replayed
+    requires { ⌜ (admits edition h ≡ true) × (recordCount edition (now bytes) ≤ 2048) × (17 * recordCount edition (now bytes) ≤ length (now text)) ⌝ }
+    ensures { λ r. ⌜ ReplayedBy edition h (now (bytes .entry)) (now (text .entry)) r (now (text .exit)) ⌝ }
 {
-    let mut words = [0u64; MOST];
-    let count = bytes.len() / RECORD;
-    let whole = count * RECORD;
-    let done = batch(h, &bytes[..whole], &mut words);
+    let mut words = [0u64; TURN];
+    let size = record_bytes(edition);
+    let count = bytes.len() / size;
+    let whole = count * size;
+    let done = batch(edition, h, &bytes[..whole], &mut words);
     let written = hex_lines(&words[..count], text);
     let handler = done.handler;
     Replayed { handler, written }

@@ -1,5 +1,6 @@
 // The bytes of a record that has not come whole. They wait at the start of the buffer for the next read.
-use crate::records::RECORD;
+use rules::Edition;
+use trace::edition::record_bytes;
 ghost use mathlib.Core.Path.{_≡_};
 ghost use mathlib.Core.List.{_++_};
 ghost use Prim.Native.Nat.{_+_, _≤_};
@@ -19,11 +20,11 @@ fn move_front(buf: &mut [u8], from: usize, n: usize)
 }
 
 // Moves the bytes after the last whole record, of count bytes, to the start of buf, and answers how many they are.
-pub fn keep_rest(buf: &mut [u8], count: usize) -> usize
+pub fn keep_rest(edition: Edition, buf: &mut [u8], count: usize) -> usize
     requires { ⌜ count ≤ length (now buf) ⌝ }
-    ensures { λ r. ⌜ Kept (take count (now (buf .entry))) r (now (buf .exit)) ⌝ }
+    ensures { λ r. ⌜ Kept edition (take count (now (buf .entry))) r (now (buf .exit)) ⌝ }
 {
-    let rest = count % RECORD;
+    let rest = count % record_bytes(edition);
     move_front(buf, count - rest, rest);
     rest
 }

@@ -15,7 +15,8 @@ use Rattle.rules.specs.declared.Handler.{Handler}
 use Rattle.rules.specs.declared.Register.the-variants.{IntrEnable, Local, Alert, Block}
 use Rattle.rules.specs.declared.Setting.{Setting}
 use Rattle.rules.specs.declared.Setting.the-variants.{Ctrl, ClrRegwen, AccumThresh, TimeoutCyc, PhaseCyc}
-use Rattle.rules.proofs.Scenes.{rules, raise, write, gives, refused, ready}
+use Rattle.rules.specs.Scenes.{raise, write, gives, refused}
+use Rattle.rules.proofs.Scenes.{rules, ready}
 
 -- the state after these accesses, and the number that an access answers
 abbrev acts : Handler → List Access → Handler
@@ -112,8 +113,8 @@ clr : (map (clears full (Access.Write 339 1)) (0 ∷ 1 ∷ 2 ∷ 3 ∷ []) ≡ f
     × (answers full (Access.Write 371 1) ≡ refused 3)
     × (answers full (Access.Write 371 0) ≡ refused 3)
     × (answers full (Access.Write 375 7) ≡ pos 0)
-    × (accessed full (Access.Write 339 1) .clears ≡ 2)
-    × (accessed full (Access.Write 371 1) .clears ≡ 0)
+    × (accessed full (Access.Write 339 1) .effects .clears ≡ 2)
+    × (accessed full (Access.Write 371 1) .effects .clears ≡ 0)
 unfolding rules
 clr = (refl, refl, refl, refl, refl, refl, refl, refl)
 

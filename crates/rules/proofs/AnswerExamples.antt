@@ -11,7 +11,8 @@ use Rattle.rules.specs.declared.Access.{Access}
 use Rattle.rules.specs.declared.Answer.{Answer}
 use Rattle.rules.specs.declared.Handler.{Handler}
 use Rattle.rules.specs.declared.Refusal.the-variants.{NoRegister, WrongWay, Locked, TooWide, BadRecord, BadCount, BadState, BadLength, ShortList, NoRecord, ShortBuffer}
-use Rattle.rules.proofs.Scenes.{rules, rest, then, gives, refused}
+use Rattle.rules.specs.Scenes.{rest, gives, refused}
+use Rattle.rules.proofs.Scenes.{rules, then}
 
 -- "a read gives 0 to 4,294,967,295, anything else accepted gives 0, and a refusal gives the negated refusal number"
 numbers : (number (Answer.Value 4294967295) ≡ pos 4294967295)

@@ -4,12 +4,13 @@ use Prim.Native.Nat.{ℕ, _+_, _*_}
 use mathlib.Core.Path.{_≡_, refl}
 use mathlib.Core.Bool.{true, false}
 use mathlib.Core.List.{List, [], _∷_, map}
-use Rattle.rules.specs.Map.{decode, numberOf, bits, readOnly, writeOnly, guard, isLock, isRegister}
+use Rattle.rules.specs.Map.{decode, numberOf, row, bits, readOnly, writeOnly, guard, isLock, isRegister}
 use Rattle.rules.specs.declared.Field.{Field}
 use Rattle.rules.specs.declared.Register.{Register}
 use Rattle.rules.specs.declared.Register.the-variants.{IntrState, IntrEnable, IntrTest, Local, Alert, Block, Unassigned}
 use Rattle.rules.specs.declared.Setting.{Setting}
 use Rattle.rules.specs.declared.Setting.the-variants.{Ctrl, ClrRegwen, Clr, AccumCnt, AccumThresh, TimeoutCyc, PhaseCyc, EscCnt}
+use Rattle.rules.specs.declared.Way.the-variants.{Both, OneClears, ReadOnly, WriteOnly}
 use Rattle.rules.proofs.Scenes.{rules}
 
 -- the table's first column, at the ends of each range
@@ -81,6 +82,24 @@ ways : (map writeOnly (IntrState ∷ IntrEnable ∷ IntrTest ∷ Local Field.Cau
     × (map readOnly (IntrState ∷ IntrTest ∷ Local Field.Cause 0 ∷ Alert Field.Cause 0 ∷ []) ≡ false ∷ false ∷ false ∷ false ∷ [])
 unfolding rules
 ways = (refl, refl, refl, refl)
+
+-- "a 1 clears": INTR_STATE, CAUSE
+way-column : (map (λ q. row q .way) (IntrState ∷ IntrEnable ∷ IntrTest ∷ []) ≡ OneClears ∷ Both ∷ WriteOnly ∷ [])
+    × (map (λ r. row (decode 64 r) .way) (18 ∷ 26 ∷ 34 ∷ 42 ∷ 69 ∷ 133 ∷ 197 ∷ 261 ∷ [])
+    ≡ Both ∷ Both ∷ Both ∷ OneClears ∷ Both ∷ Both ∷ Both ∷ OneClears ∷ [])
+    × (map (λ q. row q .way) (blockOf 0)
+    ≡ Both ∷ Both ∷ Both ∷ WriteOnly ∷ ReadOnly ∷ Both ∷ Both ∷ Both ∷ Both ∷ Both ∷ Both ∷ ReadOnly ∷ ReadOnly ∷ Both ∷ Both ∷ [])
+unfolding rules
+way-column = (refl, refl, refl)
+
+-- steps 2 to 4 set causes and interrupt bits, count, move states and lock CLR
+moved : (map (λ q. row q .moves) (IntrState ∷ IntrEnable ∷ IntrTest ∷ []) ≡ true ∷ false ∷ false ∷ [])
+    × (map (λ r. row (decode 64 r) .moves) (18 ∷ 26 ∷ 34 ∷ 42 ∷ 69 ∷ 133 ∷ 197 ∷ 261 ∷ [])
+    ≡ false ∷ false ∷ false ∷ true ∷ false ∷ false ∷ false ∷ true ∷ [])
+    × (map (λ q. row q .moves) (blockOf 0)
+    ≡ false ∷ false ∷ true ∷ false ∷ true ∷ false ∷ false ∷ false ∷ false ∷ false ∷ false ∷ true ∷ true ∷ false ∷ false ∷ [])
+unfolding rules
+moved = (refl, refl, refl)
 
 -- "Alert and local REGWEN guard their EN and CLASS; class REGWEN guards CTRL, ACCUM_THRESH, TIMEOUT_CYC and the phase lengths; CLR_REGWEN
 -- guards CLR", by number: 3 where nothing guards

@@ -16,7 +16,8 @@ use Rattle.rules.specs.declared.Input.{Input}
 use Rattle.rules.specs.declared.Register.{Register}
 use Rattle.rules.specs.declared.Register.the-variants.{IntrState, Local, Alert, Block}
 use Rattle.rules.specs.declared.Setting.the-variants.{AccumCnt}
-use Rattle.rules.proofs.Scenes.{rules, ones, wired, wire, rest, raise, bothHigh, bothLow, none, write, gives, settings, zeros, station, ready}
+use Rattle.rules.specs.Scenes.{ones, wired, wire, rest, raise, bothHigh, bothLow, none, write, gives}
+use Rattle.rules.proofs.Scenes.{rules, settings, zeros, station, ready}
 
 abbrev holds : Handler → List Input → Register → ℕ
 holds h xs q = value (run h xs) q

@@ -1,79 +1,35 @@
--- States and inputs that the examples share.
+-- States that the examples share.
 -- Assumes nothing.
-use Prim.Native.Nat.{ℕ, _-_, _^_}
+use Prim.Native.Nat.{ℕ}
 use mathlib.Core.List.{List, [], _∷_}
-use lib.IntN.{ℤ, pos, negℤ}
 use lib.ListN.{set, replicate}
 use Rattle.bits.specs.Bits.{bit, bitsOf, wordOf}
 use Rattle.bits.specs.Index.{eachFrom, anyTo, allTo}
 use Rattle.bits.specs.Fields.{pack, unpack}
-use Rattle.classes.specs.declared.Class.{Class}
-use Rattle.classes.specs.Class.{stateOf, drives, classFits}
-use Rattle.classes.specs.Step.{counted, startsFrom, movedFrom, classStep}
+use Rattle.class_rules.specs.declared.Class.{Class}
+use Rattle.class_rules.specs.Class.{stateOf, drives, classFits}
+use Rattle.class_rules.specs.Step.{counted, startsFrom, movedFrom, classStep}
 use Rattle.rules.specs.Answer.{number, firstOf}
 use Rattle.rules.specs.State.{put, newHandler, made, resetClass, withAlerts, withClasses}
 use Rattle.rules.specs.Map.{blockAt, decode, numberOf, bits, writeOnly, readOnly, guard, isLock}
+use Rattle.rules.specs.Scenes.{rest}
 use Rattle.rules.specs.Valid.{valid}
-use Rattle.rules.specs.Access.{value, locked, verdict, store, acted, answerTo, clears, accessed}
+use Rattle.rules.specs.Access.{value, locked, verdict, store, acted, answerTo, effects, clears, accessed}
 use Rattle.rules.specs.Samples.{alertEvent, alertBroken, rearmed, raised, occurs, sampled, assigned}
 use Rattle.rules.specs.Tick.{event, interruptNow, signals, stepped, interrupts, lines, outputOf, after, tick, ticked}
 use Rattle.rules.specs.Run.{run, ticks}
-use Rattle.rules.specs.Record.{accessOf, inputOf, recordOf, recordable}
-use Rattle.rules.specs.Record
-use Rattle.rules.specs.Batch.{inputsOf, batchVerdict, batchOf, batch}
+use Rattle.rules.specs.Record.{accessOf, heldIn, inputOf, recordOf, recordable, inputsOf}
+use Rattle.rules.specs.Word
+use Rattle.rules.specs.Batch.{admits, batchVerdict, batchOf, batch}
 use Rattle.rules.specs.Writer.{recordsOf, anyUnrecordable, writeVerdict, writeOf}
 use Rattle.rules.specs.Writer
 use Rattle.rules.specs.declared.Access.{Access}
 use Rattle.rules.specs.declared.Handler.{Handler}
-use Rattle.rules.specs.declared.Input.{Input}
-use Rattle.rules.specs.declared.Register.{Register}
 
 -- names every definition that an example computes with: `unfolding rules` opens them all
 unfoldable pub rules : ℕ → ℕ
-unfolding bit bitsOf wordOf eachFrom anyTo allTo pack unpack stateOf drives classFits counted startsFrom movedFrom classStep number firstOf put newHandler made blockAt decode numberOf bits writeOnly readOnly guard isLock valid value locked verdict store acted answerTo clears accessed alertEvent alertBroken rearmed raised occurs sampled assigned event interruptNow signals stepped interrupts lines outputOf after tick ticked run ticks accessOf inputOf Record.wordOf recordOf recordable inputsOf batchVerdict batchOf batch recordsOf anyUnrecordable writeVerdict writeOf Writer.write
+unfolding bit bitsOf wordOf eachFrom anyTo allTo pack unpack stateOf drives classFits counted startsFrom movedFrom classStep number firstOf put newHandler made blockAt decode numberOf bits writeOnly readOnly guard isLock valid value locked verdict store acted answerTo effects clears accessed alertEvent alertBroken rearmed raised occurs sampled assigned event interruptNow signals stepped interrupts lines outputOf after tick ticked run ticks accessOf heldIn inputOf Word.wordOf recordOf recordable inputsOf admits batchVerdict batchOf batch recordsOf anyUnrecordable writeVerdict writeOf Writer.write
 rules n = n
-
--- ── inputs ──
-
-abbrev pub ones : ℕ
-ones = 2 ^ 64 - 1
-
--- an access with these positive and negative wires
-abbrev pub wired : ℕ → ℕ → Access → Input
-wired p m x = record { access = x; sample = record { alerts = record { pos = p ∷ []; neg = m ∷ [] } } }
-
--- alert i's place in a word of wires
-abbrev pub wire : ℕ → ℕ
-wire i = 2 ^ (63 - i)
-
--- all wires at (0,1)
-abbrev pub rest : Access → Input
-rest x = wired 0 ones x
-
--- alert i at (1,0), the others at (0,1)
-abbrev pub raise : ℕ → Access → Input
-raise i x = wired (wire i) (ones - wire i) x
-
--- alert i at (1,1) or at (0,0), the others at (0,1)
-abbrev pub bothHigh : ℕ → Access → Input
-bothHigh i x = wired (wire i) ones x
-
-abbrev pub bothLow : ℕ → Access → Input
-bothLow i x = wired 0 (ones - wire i) x
-
-abbrev pub none : Access
-none = Access.Nothing
-
-abbrev pub write : Register → ℕ → Access
-write q v = Access.Write (numberOf q) v
-
--- ── what is seen ──
-
-abbrev pub gives : Handler → Input → ℤ
-gives h x = number (ticked h x .answer)
-
-abbrev pub refused : ℕ → ℤ
-refused m = negℤ (pos m)
 
 -- the state after an access with all wires at (0,1)
 abbrev pub then : Handler → Access → Handler

@@ -17,7 +17,8 @@ use Rattle.rules.specs.declared.Register.the-variants.{IntrState, IntrEn
 use Rattle.rules.specs.declared.Setting.{Setting}
 use Rattle.rules.specs.declared.Setting.the-variants.{Ctrl, ClrRegwen, Clr, AccumCnt, TimeoutCyc, PhaseCyc, EscCnt}
 use Rattle.rules.specs.declared.Ticked.{Ticked}
-use Rattle.rules.proofs.Scenes.{rules, rest, raise, none, write, gives, refused, settings, zeros, station, pair, ready}
+use Rattle.rules.specs.Scenes.{rest, raise, none, write, gives, refused}
+use Rattle.rules.proofs.Scenes.{rules, settings, zeros, station, pair, ready}
 
 abbrev holds : Handler → List Input → Register → ℕ
 holds h xs q = value (run h xs) q

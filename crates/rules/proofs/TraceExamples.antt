@@ -7,12 +7,15 @@ use lib.IntN.{ℤ, pos}
 use lib.ListN.{replicate}
 use Rattle.bits.specs.Fields.{toBytes}
 use Rattle.rules.specs.Batch.{Batched, batch}
-use Rattle.rules.specs.Record.{inputOf, wordOf}
+use Rattle.rules.specs.Record.{inputOf}
 use Rattle.rules.specs.State.{newHandler}
 use Rattle.rules.specs.declared.Access.{Access}
 use Rattle.rules.specs.declared.Answer.{Answer}
+use Rattle.rules.specs.declared.Edition.the-variants.{Bytes24}
 use Rattle.rules.specs.declared.Refusal.the-variants.{NoRegister, BadRecord}
-use Rattle.rules.proofs.Scenes.{rules, refused}
+use Rattle.rules.specs.Scenes.{refused}
+use Rattle.rules.specs.Word.{wordOf}
+use Rattle.rules.proofs.Scenes.{rules}
 
 -- ── records ──
 
@@ -21,7 +24,7 @@ abbrev bytes : ℕ → ℕ → ℕ → ℕ → List ℕ
 bytes a b p m = toBytes 24 (((a * 2 ^ 32 + b) * 2 ^ 64 + p) * 2 ^ 64 + m)
 
 abbrev accessIn : ℕ → ℕ → Access
-accessIn a b = inputOf (bytes a b 0 0) .access
+accessIn a b = inputOf Bytes24 (bytes a b 0 0) .access
 
 -- "2 bits kind (0 none, 1 read, 2 write), 10 bits register, 20 zero bits, 32 bits value"
 kinds : (accessIn 0 0 ≡ Access.Nothing)
@@ -47,7 +50,7 @@ unfolding rules
 malformed-values = (refl, refl, refl, refl)
 
 -- "64 positive wires with alert 0 first, 64 negative wires"
-wires : (inputOf (bytes 0 0 5 9) .sample .alerts .pos ≡ 5 ∷ []) × (inputOf (bytes 0 0 5 9) .sample .alerts .neg ≡ 9 ∷ [])
+wires : (inputOf Bytes24 (bytes 0 0 5 9) .sample .alerts .pos ≡ 5 ∷ []) × (inputOf Bytes24 (bytes 0 0 5 9) .sample .alerts .neg ≡ 9 ∷ [])
 unfolding rules
 wires = (refl, refl)
 
@@ -79,9 +82,9 @@ abbrev writes1023 : List ℕ
 writes1023 = toBytes 24 0xbff000000000000000000000000000008000000000000000
 
 -- "prints exactly 000000000000393c and 0010000000000000"; later words stay; a refused record and the next still runs
-two-records : (batch (newHandler 1) (reads321 ++ writes1023) (7 ∷ 8 ∷ 9 ∷ 10 ∷ []) .out ≡ 0x393C ∷ 0x0010000000000000 ∷ 9 ∷ 10 ∷ [])
-    × (batch (newHandler 1) (reads321 ++ writes1023) (7 ∷ 8 ∷ 9 ∷ 10 ∷ []) .answer ≡ pos 0)
-    × (batch (newHandler 1) (writes1023 ++ reads321) (7 ∷ 8 ∷ []) .out ≡ 0x0010000000000000 ∷ 0x393C ∷ [])
+two-records : (batch Bytes24 (newHandler 1) (reads321 ++ writes1023) (7 ∷ 8 ∷ 9 ∷ 10 ∷ []) .out ≡ 0x393C ∷ 0x0010000000000000 ∷ 9 ∷ 10 ∷ [])
+    × (batch Bytes24 (newHandler 1) (reads321 ++ writes1023) (7 ∷ 8 ∷ 9 ∷ 10 ∷ []) .answer ≡ pos 0)
+    × (batch Bytes24 (newHandler 1) (writes1023 ++ reads321) (7 ∷ 8 ∷ []) .out ≡ 0x0010000000000000 ∷ 0x393C ∷ [])
 unfolding rules
 two-records = (refl, refl, refl)
 
@@ -89,7 +92,7 @@ two-records = (refl, refl, refl)
 abbrev rises : List ℕ
 rises = bytes 0x88000000 1 0 (2 ^ 63) ++ bytes 0x94100000 5 0 (2 ^ 63) ++ bytes 0x54C00000 0 (2 ^ 63) 0 ++ bytes 0x54C00000 0 (2 ^ 63) 0
 
-run-on : batch (newHandler 1) rises (0 ∷ 0 ∷ 0 ∷ 0 ∷ []) .out ≡ 0 ∷ 0 ∷ 0x0800000000000000 ∷ 4 ∷ []
+run-on : batch Bytes24 (newHandler 1) rises (0 ∷ 0 ∷ 0 ∷ 0 ∷ []) .out ≡ 0 ∷ 0 ∷ 0x0800000000000000 ∷ 4 ∷ []
 unfolding rules
 run-on = refl
 
@@ -97,12 +100,12 @@ run-on = refl
 abbrev given : Batched → ℤ
 given b = b .answer
 
-refusals : (batch (newHandler 1) [] (7 ∷ []) ≡ record { handler = newHandler 1; answer = pos 0; out = 7 ∷ [] })
-    × (batch (newHandler 65) [] [] ≡ record { handler = newHandler 65; answer = refused 7; out = [] })
-    × (given (batch (newHandler 65) (replicate 25 0) []) ≡ refused 7)
-    × (batch (newHandler 1) (replicate 25 0) [] ≡ record { handler = newHandler 1; answer = refused 8; out = [] })
-    × (batch (newHandler 1) (replicate 23 0) (7 ∷ []) ≡ record { handler = newHandler 1; answer = refused 8; out = 7 ∷ [] })
-    × (batch (newHandler 1) (replicate 24 0) [] ≡ record { handler = newHandler 1; answer = refused 9; out = [] })
-    × (batch (newHandler 1) (replicate 48 0) (7 ∷ []) ≡ record { handler = newHandler 1; answer = refused 9; out = 7 ∷ [] })
+refusals : (batch Bytes24 (newHandler 1) [] (7 ∷ []) ≡ record { handler = newHandler 1; answer = pos 0; out = 7 ∷ [] })
+    × (batch Bytes24 (newHandler 65) [] [] ≡ record { handler = newHandler 65; answer = refused 7; out = [] })
+    × (given (batch Bytes24 (newHandler 65) (replicate 25 0) []) ≡ refused 7)
+    × (batch Bytes24 (newHandler 1) (replicate 25 0) [] ≡ record { handler = newHandler 1; answer = refused 8; out = [] })
+    × (batch Bytes24 (newHandler 1) (replicate 23 0) (7 ∷ []) ≡ record { handler = newHandler 1; answer = refused 8; out = 7 ∷ [] })
+    × (batch Bytes24 (newHandler 1) (replicate 24 0) [] ≡ record { handler = newHandler 1; answer = refused 9; out = [] })
+    × (batch Bytes24 (newHandler 1) (replicate 48 0) (7 ∷ []) ≡ record { handler = newHandler 1; answer = refused 9; out = 7 ∷ [] })
 unfolding rules
 refusals = (refl, refl, refl, refl, refl, refl, refl)

@@ -4,7 +4,7 @@ use Prim.Native.Nat.{ℕ}
 use mathlib.Core.Path.{_≡_, refl}
 use mathlib.Core.Bool.{true, false}
 use lib.ListN.{set, replicate}
-use Rattle.classes.specs.declared.Class.{Class}
+use Rattle.class_rules.specs.declared.Class.{Class}
 use Rattle.rules.specs.State.{newHandler, resetClass, withInterrupts, withLocals, withAlerts, withClasses, withLocalColumn, withAlertColumn}
 use Rattle.rules.specs.Tick.{ticked, noOutput}
 use Rattle.rules.specs.Valid.{valid}
@@ -13,7 +13,8 @@ use Rattle.rules.specs.declared.Answer.{Answer}
 use Rattle.rules.specs.declared.Field.{Field}
 use Rattle.rules.specs.declared.Handler.{Handler}
 use Rattle.rules.specs.declared.Refusal.the-variants.{BadState}
-use Rattle.rules.proofs.Scenes.{rules, raise}
+use Rattle.rules.specs.Scenes.{raise}
+use Rattle.rules.proofs.Scenes.{rules}
 
 abbrev interrupt : ℕ → ℕ → Handler
 interrupt s e = withInterrupts (record { state = s; enable = e }) (newHandler 5)

@@ -5,8 +5,9 @@ use mathlib.Core.Bool.{Bool, true, false, cond, not, _&&_, _||_}
 use mathlib.Core.List.{List, [], _∷_}
 use lib.Dec.{eqb}
 use Rattle.bits.specs.Bits.{bit, bitsOf, fits}
-use Rattle.classes.specs.Class.{noClass, phaseCyc}
-use Rattle.classes.specs.declared.Class.{Class}
+use Rattle.bits.specs.Index.{each}
+use Rattle.class_rules.specs.Class.{noClass, phaseCyc}
+use Rattle.class_rules.specs.declared.Class.{Class}
 use Rattle.rules.specs.Answer.{Case, firstOf}
 use Rattle.rules.specs.Map.{offset, decode, isRegister, bits, writeOnly, readOnly, guard, isLock}
 use Rattle.rules.specs.State.{most, localCount, classCount, local, alert, classAt, localColumn, alertColumn, withInterrupts, withLocals, withAlerts, withClasses, withLocalColumn, withAlertColumn, put}
@@ -14,6 +15,7 @@ use Rattle.rules.specs.declared.Access.{Access}
 use Rattle.rules.specs.declared.Access.the-variants.{Nothing, Read, Write, Malformed}
 use Rattle.rules.specs.declared.Accessed.{Accessed}
 use Rattle.rules.specs.declared.Answer.{Answer}
+use Rattle.rules.specs.declared.Effects.{Effects}
 use Rattle.rules.specs.declared.Field.{Field}
 use Rattle.rules.specs.declared.Handler.{Handler}
 use Rattle.rules.specs.declared.Refusal.the-variants.{NoRegister, WrongWay, Locked, TooWide, BadRecord}
@@ -90,15 +92,18 @@ barred h (Read r) = false
 barred h (Write r v) = bars h (decode (h .n) r) v
 barred h Malformed = false
 
--- for an access the order is 5, 1, 2, 4, 3, after 7
-abbrev pub accessCases : Handler → Access → List Case
-accessCases h x =
-    record { refusal = BadRecord; holds = malformed x }
-    ∷ record { refusal = NoRegister; holds = noRegister h x }
-    ∷ record { refusal = WrongWay; holds = wrongWay h x }
-    ∷ record { refusal = TooWide; holds = tooWide h x }
-    ∷ record { refusal = Locked; holds = barred h x }
+-- for an access the order is 5, 1, 2, 4, 3, after 7; each with whether its case holds
+abbrev pub inOrder : Bool → Bool → Bool → Bool → Bool → List Case
+inOrder bad none wrong wide shut =
+    record { refusal = BadRecord; holds = bad }
+    ∷ record { refusal = NoRegister; holds = none }
+    ∷ record { refusal = WrongWay; holds = wrong }
+    ∷ record { refusal = TooWide; holds = wide }
+    ∷ record { refusal = Locked; holds = shut }
     ∷ []
+
+abbrev pub accessCases : Handler → Access → List Case
+accessCases h x = inOrder (malformed x) (noRegister h x) (wrongWay h x) (tooWide h x) (barred h x)
 
 unfoldable pub verdict : Handler → Access → Verdict
 verdict h x = firstOf (accessCases h x)
@@ -112,24 +117,11 @@ fieldStored Field.En old v = v
 fieldStored Field.Class old v = v
 fieldStored Field.Cause old v = cond (eqb v 1) 0 old
 
--- the lengths, with v at p where PHASEp_CYC is written
-abbrev pub lengthsStored : Setting → ℕ → List ℕ → List ℕ
-lengthsStored Setting.Regwen v ls = ls
-lengthsStored Ctrl v ls = ls
-lengthsStored ClrRegwen v ls = ls
-lengthsStored Clr v ls = ls
-lengthsStored AccumCnt v ls = ls
-lengthsStored AccumThresh v ls = ls
-lengthsStored TimeoutCyc v ls = ls
-lengthsStored (PhaseCyc p) v ls = put 4 ls 0 p v
-lengthsStored EscCnt v ls = ls
-lengthsStored Setting.State v ls = ls
-
--- a class's block with v written at one register
+-- a class's block with v written at one register, which its offset tells
 abbrev pub withSetting : Setting → ℕ → Class → Class
 withSetting s v c =
     record {
-      lengths = lengthsStored s v (c .lengths);
+      lengths = each 4 (λ p. cond (eqb (offset s) (offset (PhaseCyc p))) v (phaseCyc c p));
       timeout = cond (eqb (offset s) (offset TimeoutCyc)) v (c .timeout);
       count = c .count;
       ctrl = cond (eqb (offset s) (offset Ctrl)) v (c .ctrl);
@@ -169,10 +161,6 @@ written h (Read r) = h
 written h (Write r v) = store h (decode (h .n) r) v
 written h Malformed = h
 
--- the state after step 1: a refused access does nothing
-unfoldable pub acted : Handler → Access → Handler
-acted h x = cond (accepted h x) (written h x) h
-
 -- a read gives the value, anything else accepted 0
 abbrev pub given : Handler → Access → Answer
 given h Nothing = Answer.Done
@@ -180,25 +168,9 @@ given h (Read r) = Answer.Value (value h (decode (h .n) r))
 given h (Write r v) = Answer.Done
 given h Malformed = Answer.Done
 
-abbrev pub answerBy : Verdict → Answer → Answer
-answerBy Verdict.Accepted a = a
-answerBy (Verdict.Refused m) a = Answer.Refused m
-
-unfoldable pub answerTo : Handler → Access → Answer
-answerTo h x = answerBy (verdict h x) (given h x)
-
 -- is it the CLR of class k?
 abbrev pub settingIsClr : Setting → Bool
-settingIsClr Setting.Regwen = false
-settingIsClr Ctrl = false
-settingIsClr ClrRegwen = false
-settingIsClr Clr = true
-settingIsClr AccumCnt = false
-settingIsClr AccumThresh = false
-settingIsClr TimeoutCyc = false
-settingIsClr (PhaseCyc p) = false
-settingIsClr EscCnt = false
-settingIsClr Setting.State = false
+settingIsClr s = eqb (offset s) (offset Clr)
 
 abbrev pub isClrOf : ℕ → Register → Bool
 isClrOf k IntrState = false
@@ -209,15 +181,34 @@ isClrOf k (Alert f i) = false
 isClrOf k (Block s j) = settingIsClr s && eqb j k
 isClrOf k Unassigned = false
 
+-- a write of 1 to CLR is an accepted clear; a 0 does nothing
 abbrev pub writesClr : Handler → Access → ℕ → Bool
 writesClr h Nothing k = false
 writesClr h (Read r) k = false
 writesClr h (Write r v) k = isClrOf k (decode (h .n) r) && eqb v 1
 writesClr h Malformed k = false
 
--- a write of 1 to CLR is an accepted clear; a 0 does nothing
-unfoldable pub clears : Handler → Access → ℕ → Bool
-clears h x k = accepted h x && writesClr h x k
+-- what an access leaves, answers and hands to the later steps goes by its verdict: a refused one does nothing
+abbrev pub noEffects : Effects
+noEffects = record { clears = 0 }
+
+abbrev pub accessedBy : Verdict → Handler → Access → Accessed
+accessedBy Verdict.Accepted h x =
+    record { handler = written h x; answer = given h x; effects = record { clears = bitsOf 4 (writesClr h x) } }
+accessedBy (Verdict.Refused m) h x = record { handler = h; answer = Answer.Refused m; effects = noEffects }
 
 unfoldable pub accessed : Handler → Access → Accessed
-accessed h x = record { handler = acted h x; answer = answerTo h x; clears = bitsOf 4 (clears h x) }
+accessed h x = accessedBy (verdict h x) h x
+
+-- the state after step 1, the answer, the effects, and whether class k has an accepted clear
+unfoldable pub acted : Handler → Access → Handler
+acted h x = accessed h x .handler
+
+unfoldable pub answerTo : Handler → Access → Answer
+answerTo h x = accessed h x .answer
+
+unfoldable pub effects : Handler → Access → Effects
+effects h x = accessed h x .effects
+
+unfoldable pub clears : Handler → Access → ℕ → Bool
+clears h x k = bit (effects h x .clears) k

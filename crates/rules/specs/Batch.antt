@@ -1,47 +1,43 @@
 -- "Traces": a batch fills a lent list of 64-bit words, one per record. Its refusals are of "Numbers that come back".
 -- Assumes nothing.
-use Prim.Native.Nat.{ℕ, _*_, _/_, _%_}
-use mathlib.Core.Bool.{not}
+use Prim.Native.Nat.{ℕ, _%_}
+use mathlib.Core.Bool.{Bool, not, _&&_}
 use mathlib.Core.List.{List, [], _∷_, _++_, map}
-use lib.Dec.{eqb, ltb}
+use lib.Dec.{eqb, leb, ltb}
 use lib.IntN.{ℤ}
-use lib.ListN.{length, take, drop}
-use Rattle.bits.specs.Index.{each}
+use lib.ListN.{length, drop}
 use Rattle.rules.specs.Answer.{Case, firstOf, number}
-use Rattle.rules.specs.Record.{recordBytes, inputOf, wordOf}
+use Rattle.rules.specs.Edition.{recordBytes, alerts}
+use Rattle.rules.specs.Record.{recordCount, inputsOf}
 use Rattle.rules.specs.Run.{run, ticks}
 use Rattle.rules.specs.Valid.{valid}
+use Rattle.rules.specs.Word.{wordOf}
 use Rattle.rules.specs.declared.Answer.{Answer}
+use Rattle.rules.specs.declared.Edition.{Edition}
 use Rattle.rules.specs.declared.Handler.{Handler}
 use Rattle.rules.specs.declared.Input.{Input}
 use Rattle.rules.specs.declared.Refusal.the-variants.{BadState, BadLength, ShortList}
 use Rattle.rules.specs.declared.Verdict.{Verdict}
 
--- how many records the bytes hold, record i's bytes, and the inputs of them all
-abbrev pub recordCount : List ℕ → ℕ
-recordCount bytes = length bytes / recordBytes
-
-abbrev pub recordAt : List ℕ → ℕ → List ℕ
-recordAt bytes i = take recordBytes (drop (i * recordBytes) bytes)
-
-unfoldable pub inputsOf : List ℕ → List Input
-inputsOf bytes = each (recordCount bytes) (λ i. inputOf (recordAt bytes i))
+-- a state that the ticks of an edition's batch may start from
+unfoldable pub admits : Edition → Handler → Bool
+admits e h = valid h && leb (h .n) (alerts e)
 
 -- for a batch the order is 7, 8, 9
-abbrev pub batchCases : Handler → List ℕ → List ℕ → List Case
-batchCases h bytes out =
-    record { refusal = BadState; holds = not (valid h) }
-    ∷ record { refusal = BadLength; holds = not (eqb (length bytes % recordBytes) 0) }
-    ∷ record { refusal = ShortList; holds = ltb (length out) (recordCount bytes) }
+abbrev pub batchCases : Edition → Handler → List ℕ → List ℕ → List Case
+batchCases e h bytes out =
+    record { refusal = BadState; holds = not (admits e h) }
+    ∷ record { refusal = BadLength; holds = not (eqb (length bytes % recordBytes e) 0) }
+    ∷ record { refusal = ShortList; holds = ltb (length out) (recordCount e bytes) }
     ∷ []
 
-unfoldable pub batchVerdict : Handler → List ℕ → List ℕ → Verdict
-batchVerdict h bytes out = firstOf (batchCases h bytes out)
+unfoldable pub batchVerdict : Edition → Handler → List ℕ → List ℕ → Verdict
+batchVerdict e h bytes out = firstOf (batchCases e h bytes out)
 
 -- the ticks of a batch: those of its records, and none if it is refused
-abbrev pub batchInputs : Verdict → List ℕ → List Input
-batchInputs Verdict.Accepted bytes = inputsOf bytes
-batchInputs (Verdict.Refused m) bytes = []
+abbrev pub batchInputs : Edition → Verdict → List ℕ → List Input
+batchInputs e Verdict.Accepted bytes = inputsOf e bytes
+batchInputs e (Verdict.Refused m) bytes = []
 
 -- a batch that isn't refused answers 0
 abbrev pub batchAnswer : Verdict → ℤ
@@ -54,14 +50,14 @@ pub record Batched : Type 0 where
   pub answer : ℤ
   pub out : List ℕ
 
-unfoldable pub batchOf : Verdict → Handler → List ℕ → List ℕ → Batched
-batchOf v h bytes out =
-    let xs = batchInputs v bytes in
+unfoldable pub batchOf : Edition → Verdict → Handler → List ℕ → List ℕ → Batched
+batchOf e v h bytes out =
+    let xs = batchInputs e v bytes in
     record {
       handler = run h xs;
       answer = batchAnswer v;
       out = map wordOf (ticks h xs) ++ drop (length xs) out;
     }
 
-unfoldable pub batch : Handler → List ℕ → List ℕ → Batched
-batch h bytes out = batchOf (batchVerdict h bytes out) h bytes out
+unfoldable pub batch : Edition → Handler → List ℕ → List ℕ → Batched
+batch e h bytes out = batchOf e (batchVerdict e h bytes out) h bytes out

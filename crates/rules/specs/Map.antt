@@ -1,14 +1,19 @@
--- "Register map": numbers, bits, locks and directions.
+-- "Register map": numbers, and a row for each register.
 -- Assumes nothing.
 use Prim.Native.Nat.{ℕ, _+_, _-_, _*_, _/_, _%_}
 use mathlib.Core.Bool.{Bool, true, false, cond, _&&_}
 use lib.Dec.{eqb, leb, ltb}
 use Rattle.rules.specs.State.{fieldIndex}
 use Rattle.rules.specs.declared.Field.{Field}
+use Rattle.rules.specs.declared.Guard.{Guard}
+use Rattle.rules.specs.declared.Guard.the-variants.{Free, ByRegwen, ByClrRegwen}
 use Rattle.rules.specs.declared.Register.{Register}
 use Rattle.rules.specs.declared.Register.the-variants.{IntrState, IntrEnable, IntrTest, Local, Alert, Block, Unassigned}
+use Rattle.rules.specs.declared.Row.{Row}
 use Rattle.rules.specs.declared.Setting.{Setting}
 use Rattle.rules.specs.declared.Setting.the-variants.{Ctrl, ClrRegwen, Clr, AccumCnt, AccumThresh, TimeoutCyc, PhaseCyc, EscCnt}
+use Rattle.rules.specs.declared.Way.{Way}
+use Rattle.rules.specs.declared.Way.the-variants.{Both, OneClears, ReadOnly, WriteOnly}
 
 -- ── numbers ──
 
@@ -68,7 +73,7 @@ offset (PhaseCyc p) = 7 + p
 offset EscCnt = 11
 offset Setting.State = 12
 
--- a register's number: 16+j, 24+j, 32+j, 40+j and 64+i, 128+i, 192+i, 256+i; 3 stands for those that are unassigned
+-- a register's number; 3 stands for those that are unassigned
 unfoldable pub numberOf : Register → ℕ
 numberOf IntrState = 0
 numberOf IntrEnable = 1
@@ -87,135 +92,89 @@ isRegister (Alert f i) = true
 isRegister (Block s k) = true
 isRegister Unassigned = false
 
--- ── bits ──
+-- ── what is known of each register: the map's table, a row for each ──
+
+-- a row: bits, way, guard, whether it is a lock, whether steps 2 to 4 of a tick move it
+abbrev line : ℕ → Way → Guard → Bool → Bool → Row
+line b w g l m = record { bits = b; way = w; guard = g; lock = l; moves = m }
+
+-- of an alert or a local alert
+abbrev pub fieldRow : Field → Row
+fieldRow Field.Regwen = line 1 Both ByRegwen true false
+fieldRow Field.En = line 1 Both ByRegwen false false
+fieldRow Field.Class = line 2 Both ByRegwen false false
+fieldRow Field.Cause = line 1 OneClears Free false true
+
+-- of a class's block
+abbrev pub settingRow : Setting → Row
+settingRow Setting.Regwen = line 1 Both ByRegwen true false
+settingRow Ctrl = line 14 Both ByRegwen false false
+settingRow ClrRegwen = line 1 Both ByClrRegwen true true
+settingRow Clr = line 1 WriteOnly ByClrRegwen false false
+settingRow AccumCnt = line 16 ReadOnly Free false true
+settingRow AccumThresh = line 16 Both ByRegwen false false
+settingRow TimeoutCyc = line 32 Both ByRegwen false false
+settingRow (PhaseCyc p) = line 32 Both ByRegwen false false
+settingRow EscCnt = line 32 ReadOnly Free false true
+settingRow Setting.State = line 3 ReadOnly Free false true
+
+abbrev pub row : Register → Row
+row IntrState = line 4 OneClears Free false true
+row IntrEnable = line 4 Both Free false false
+row IntrTest = line 4 WriteOnly Free false false
+row (Local f j) = fieldRow f
+row (Alert f i) = fieldRow f
+row (Block s k) = settingRow s
+row Unassigned = line 0 Both Free false false
+
+-- ── its columns ──
 
 abbrev pub fieldBits : Field → ℕ
-fieldBits Field.Regwen = 1
-fieldBits Field.En = 1
-fieldBits Field.Class = 2
-fieldBits Field.Cause = 1
+fieldBits f = fieldRow f .bits
 
 abbrev pub settingBits : Setting → ℕ
-settingBits Setting.Regwen = 1
-settingBits Ctrl = 14
-settingBits ClrRegwen = 1
-settingBits Clr = 1
-settingBits AccumCnt = 16
-settingBits AccumThresh = 16
-settingBits TimeoutCyc = 32
-settingBits (PhaseCyc p) = 32
-settingBits EscCnt = 32
-settingBits Setting.State = 3
+settingBits s = settingRow s .bits
 
 unfoldable pub bits : Register → ℕ
-bits IntrState = 4
-bits IntrEnable = 4
-bits IntrTest = 4
-bits (Local f j) = fieldBits f
-bits (Alert f i) = fieldBits f
-bits (Block s k) = settingBits s
-bits Unassigned = 0
+bits q = row q .bits
 
--- ── write only: INTR_TEST and CLR; read only: ACCUM_CNT, ESC_CNT and STATE ──
-
-abbrev pub settingWriteOnly : Setting → Bool
-settingWriteOnly Setting.Regwen = false
-settingWriteOnly Ctrl = false
-settingWriteOnly ClrRegwen = false
-settingWriteOnly Clr = true
-settingWriteOnly AccumCnt = false
-settingWriteOnly AccumThresh = false
-settingWriteOnly TimeoutCyc = false
-settingWriteOnly (PhaseCyc p) = false
-settingWriteOnly EscCnt = false
-settingWriteOnly Setting.State = false
-
-abbrev pub settingReadOnly : Setting → Bool
-settingReadOnly Setting.Regwen = false
-settingReadOnly Ctrl = false
-settingReadOnly ClrRegwen = false
-settingReadOnly Clr = false
-settingReadOnly AccumCnt = true
-settingReadOnly AccumThresh = false
-settingReadOnly TimeoutCyc = false
-settingReadOnly (PhaseCyc p) = false
-settingReadOnly EscCnt = true
-settingReadOnly Setting.State = true
+abbrev pub onlyWritten : Way → Bool
+onlyWritten Both = false
+onlyWritten OneClears = false
+onlyWritten ReadOnly = false
+onlyWritten WriteOnly = true
 
 unfoldable pub writeOnly : Register → Bool
-writeOnly IntrState = false
-writeOnly IntrEnable = false
-writeOnly IntrTest = true
-writeOnly (Local f j) = false
-writeOnly (Alert f i) = false
-writeOnly (Block s k) = settingWriteOnly s
-writeOnly Unassigned = false
+writeOnly q = onlyWritten (row q .way)
+
+abbrev pub onlyRead : Way → Bool
+onlyRead Both = false
+onlyRead OneClears = false
+onlyRead ReadOnly = true
+onlyRead WriteOnly = false
 
 unfoldable pub readOnly : Register → Bool
-readOnly IntrState = false
-readOnly IntrEnable = false
-readOnly IntrTest = false
-readOnly (Local f j) = false
-readOnly (Alert f i) = false
-readOnly (Block s k) = settingReadOnly s
-readOnly Unassigned = false
-
--- ── locks ──
-
--- alert and local REGWEN guard their EN and CLASS; that REGWEN is then locked too
-abbrev pub fieldGuarded : Field → Bool
-fieldGuarded Field.Regwen = true
-fieldGuarded Field.En = true
-fieldGuarded Field.Class = true
-fieldGuarded Field.Cause = false
-
--- class REGWEN guards CTRL, ACCUM_THRESH, TIMEOUT_CYC and the phase lengths; CLR_REGWEN guards CLR; each is locked while it is 0
-abbrev pub settingGuard : Setting → ℕ → Register
-settingGuard Setting.Regwen k = Block Setting.Regwen k
-settingGuard Ctrl k = Block Setting.Regwen k
-settingGuard ClrRegwen k = Block ClrRegwen k
-settingGuard Clr k = Block ClrRegwen k
-settingGuard AccumCnt k = Unassigned
-settingGuard AccumThresh k = Block Setting.Regwen k
-settingGuard TimeoutCyc k = Block Setting.Regwen k
-settingGuard (PhaseCyc p) k = Block Setting.Regwen k
-settingGuard EscCnt k = Unassigned
-settingGuard Setting.State k = Unassigned
-
--- the REGWEN or CLR_REGWEN that guards a register, and `Unassigned` where none does
-unfoldable pub guard : Register → Register
-guard IntrState = Unassigned
-guard IntrEnable = Unassigned
-guard IntrTest = Unassigned
-guard (Local f j) = cond (fieldGuarded f) (Local Field.Regwen j) Unassigned
-guard (Alert f i) = cond (fieldGuarded f) (Alert Field.Regwen i) Unassigned
-guard (Block s k) = settingGuard s k
-guard Unassigned = Unassigned
-
-abbrev pub fieldLocks : Field → Bool
-fieldLocks Field.Regwen = true
-fieldLocks Field.En = false
-fieldLocks Field.Class = false
-fieldLocks Field.Cause = false
-
-abbrev pub settingLocks : Setting → Bool
-settingLocks Setting.Regwen = true
-settingLocks Ctrl = false
-settingLocks ClrRegwen = true
-settingLocks Clr = false
-settingLocks AccumCnt = false
-settingLocks AccumThresh = false
-settingLocks TimeoutCyc = false
-settingLocks (PhaseCyc p) = false
-settingLocks EscCnt = false
-settingLocks Setting.State = false
+readOnly q = onlyRead (row q .way)
 
 -- is it a REGWEN or CLR_REGWEN?
 unfoldable pub isLock : Register → Bool
-isLock IntrState = false
-isLock IntrEnable = false
-isLock IntrTest = false
-isLock (Local f j) = fieldLocks f
-isLock (Alert f i) = fieldLocks f
-isLock (Block s k) = settingLocks s
-isLock Unassigned = false
+isLock q = row q .lock
+
+-- the lock of the alert or local alert that q belongs to, and lock s of its class
+abbrev pub lockOf : Setting → Register → Register
+lockOf s IntrState = Unassigned
+lockOf s IntrEnable = Unassigned
+lockOf s IntrTest = Unassigned
+lockOf s (Local f j) = Local Field.Regwen j
+lockOf s (Alert f i) = Alert Field.Regwen i
+lockOf s (Block t k) = Block s k
+lockOf s Unassigned = Unassigned
+
+abbrev pub guardBy : Guard → Register → Register
+guardBy Free q = Unassigned
+guardBy ByRegwen q = lockOf Setting.Regwen q
+guardBy ByClrRegwen q = lockOf ClrRegwen q
+
+-- the REGWEN or CLR_REGWEN that guards a register, and `Unassigned` where none does
+unfoldable pub guard : Register → Register
+guard q = guardBy (row q .guard) q

@@ -1,58 +1,67 @@
--- "Traces": a record's access and sample, the record of an access and sample, and the word of a tick.
+-- "Traces": a record's access and sample, and the record of an access and sample.
 -- Assumes nothing.
-use Prim.Native.Nat.{ℕ}
-use mathlib.Core.Bool.{Bool, true, false, cond, not, _&&_, _||_}
+use Prim.Native.Nat.{ℕ, _-_, _*_, _/_, _^_}
+use mathlib.Core.Bool.{Bool, true, false, cond, _&&_}
 use mathlib.Core.List.{List, [], _∷_}
 use lib.Dec.{eqb}
-use lib.ListN.{getD}
-use Rattle.bits.specs.Bits.{bit, fits, num}
+use lib.ListN.{getD, length, take, drop, replicate}
+use Rattle.bits.specs.Bits.{fits}
 use Rattle.bits.specs.Fields.{pack, unpack, ofBytes, toBytes}
-use Rattle.rules.specs.Answer.{refusalNumber}
+use Rattle.bits.specs.Index.{each}
+use Rattle.rules.specs.Edition.{recordBytes, registerBits, zeroBits, alerts, carry}
+use Rattle.rules.specs.State.{words}
 use Rattle.rules.specs.declared.Access.{Access}
 use Rattle.rules.specs.declared.Access.the-variants.{Nothing, Read, Write, Malformed}
-use Rattle.rules.specs.declared.Answer.{Answer}
+use Rattle.rules.specs.declared.Edition.{Edition}
 use Rattle.rules.specs.declared.Input.{Input}
-use Rattle.rules.specs.declared.Output.{Output}
-use Rattle.rules.specs.declared.Ticked.{Ticked}
 
--- ── a record: 24 bytes, most significant bit first ──
-
-abbrev pub recordBytes : ℕ
-recordBytes = 24
-
-abbrev pub registerBits : ℕ
-registerBits = 10
+-- ── a record, most significant bit first ──
 
 abbrev pub valueBits : ℕ
 valueBits = 32
 
--- 2 bits kind, 10 bits register, 20 zero bits, 32 bits value, 64 positive wires with alert 0 first, 64 negative wires
-abbrev pub recordLayout : List ℕ
-recordLayout = 2 ∷ registerBits ∷ 20 ∷ valueBits ∷ 64 ∷ 64 ∷ []
+-- 2 bits kind, the register, zero bits, 32 bits value, the positive wires with alert 0 first, the negative wires
+abbrev pub layout : Edition → List ℕ
+layout e = 2 ∷ registerBits e ∷ zeroBits e ∷ valueBits ∷ alerts e ∷ alerts e ∷ []
 
--- malformed: kind 3, a nonzero bit among the 20, a read with a value, kind 0 with a register or value
-abbrev pub badRecord : ℕ → ℕ → ℕ → ℕ → Bool
-badRecord kind register zeros value =
-    eqb kind 3
-    || (not (eqb zeros 0)
-    || ((eqb kind 1 && not (eqb value 0)) || (eqb kind 0 && (not (eqb register 0) || not (eqb value 0)))))
+-- kind: 0 none, 1 read, 2 write; malformed: kind 3, a read with a value, kind 0 with a register or value
+unfoldable pub accessOf : ℕ → ℕ → ℕ → Access
+accessOf kind register value =
+    cond (eqb kind 0) (cond (eqb register 0 && eqb value 0) Access.Nothing Access.Malformed)
+    (cond (eqb kind 1) (cond (eqb value 0) (Access.Read register) Access.Malformed)
+    (cond (eqb kind 2) (Access.Write register value) Access.Malformed))
 
--- kind: 0 none, 1 read, 2 write
-unfoldable pub accessOf : ℕ → ℕ → ℕ → ℕ → Access
-accessOf kind register zeros value =
-    cond (badRecord kind register zeros value) Access.Malformed
-    (cond (eqb kind 0) Access.Nothing (cond (eqb kind 1) (Access.Read register) (Access.Write register value)))
+-- malformed too: a nonzero bit among the zero bits
+abbrev pub accessIn : ℕ → ℕ → ℕ → ℕ → Access
+accessIn kind register zeros value = cond (eqb zeros 0) (accessOf kind register value) Access.Malformed
 
-abbrev pub inputOfFields : List ℕ → Input
-inputOfFields fs =
+-- n wires as words of 64, the first wire at the highest bit of the first word, and back
+abbrev pub wireWords : ℕ → ℕ → List ℕ
+wireWords n wires = unpack (replicate words 64) (wires * 2 ^ (64 * words - n))
+
+abbrev pub wiresOf : ℕ → List ℕ → ℕ
+wiresOf n ws = pack (replicate words 64) ws / 2 ^ (64 * words - n)
+
+abbrev pub inputOfFields : Edition → List ℕ → Input
+inputOfFields e fs =
     record {
-      access = accessOf (getD fs 0 0) (getD fs 1 0) (getD fs 2 0) (getD fs 3 0);
-      sample = record { alerts = record { pos = getD fs 4 0 ∷ []; neg = getD fs 5 0 ∷ [] } };
+      access = accessIn (getD fs 0 0) (getD fs 1 0) (getD fs 2 0) (getD fs 3 0);
+      sample = record { alerts = record { pos = wireWords (alerts e) (getD fs 4 0); neg = wireWords (alerts e) (getD fs 5 0) } };
     }
 
+-- what a record's bytes hold, with the edition's own register number
+unfoldable pub heldIn : Edition → List ℕ → Input
+heldIn e bytes = inputOfFields e (unpack (layout e) (ofBytes bytes))
+
+abbrev pub carried : Edition → Access → Access
+carried e Nothing = Access.Nothing
+carried e (Read r) = Access.Read (carry e r)
+carried e (Write r v) = Access.Write (carry e r) v
+carried e Malformed = Access.Malformed
+
 -- the access and sample of a record's bytes
-unfoldable pub inputOf : List ℕ → Input
-inputOf bytes = inputOfFields (unpack recordLayout (ofBytes bytes))
+unfoldable pub inputOf : Edition → List ℕ → Input
+inputOf e bytes = record { access = carried e (heldIn e bytes .access); sample = heldIn e bytes .sample }
 
 -- ── the record of an access and sample (request (ii)) ──
 
@@ -74,56 +83,35 @@ valueOf (Read r) = 0
 valueOf (Write r v) = v
 valueOf Malformed = 0
 
-abbrev pub fieldsOfInput : Input → List ℕ
-fieldsOfInput x =
+abbrev pub fieldsOfInput : Edition → Input → List ℕ
+fieldsOfInput e x =
     kindOf (x .access)
     ∷ registerOf (x .access)
     ∷ 0
     ∷ valueOf (x .access)
-    ∷ getD (x .sample .alerts .pos) 0 0
-    ∷ getD (x .sample .alerts .neg) 0 0
+    ∷ wiresOf (alerts e) (x .sample .alerts .pos)
+    ∷ wiresOf (alerts e) (x .sample .alerts .neg)
     ∷ []
 
 -- the bytes of the record
-unfoldable pub recordOf : Input → List ℕ
-recordOf x = toBytes recordBytes (pack recordLayout (fieldsOfInput x))
+unfoldable pub recordOf : Edition → Input → List ℕ
+recordOf e x = toBytes (recordBytes e) (pack (layout e) (fieldsOfInput e x))
 
 -- whether a well-formed record holds the access
-unfoldable pub recordable : Access → Bool
-recordable Nothing = true
-recordable (Read r) = fits registerBits r
-recordable (Write r v) = fits registerBits r && fits valueBits v
-recordable Malformed = false
+unfoldable pub recordable : Edition → Access → Bool
+recordable e Nothing = true
+recordable e (Read r) = fits (registerBits e) r
+recordable e (Write r v) = fits (registerBits e) r && fits valueBits v
+recordable e Malformed = false
 
--- ── a word: interrupts (4 bits, class 0 first), lines (4, line 0 first), refusal number (4), 20 zeros, read value or 0 ──
+-- ── records one after another ──
 
-abbrev pub wordLayout : List ℕ
-wordLayout = 1 ∷ 1 ∷ 1 ∷ 1 ∷ 1 ∷ 1 ∷ 1 ∷ 1 ∷ 4 ∷ 20 ∷ 32 ∷ []
+-- how many records the bytes hold, record i's bytes, and the inputs of them all
+abbrev pub recordCount : Edition → List ℕ → ℕ
+recordCount e bytes = length bytes / recordBytes e
 
-abbrev pub refusalOf : Answer → ℕ
-refusalOf Answer.Done = 0
-refusalOf (Answer.Value v) = 0
-refusalOf (Answer.Refused m) = refusalNumber m
+abbrev pub recordAt : Edition → List ℕ → ℕ → List ℕ
+recordAt e bytes i = take (recordBytes e) (drop (i * recordBytes e) bytes)
 
-abbrev pub readOf : Answer → ℕ
-readOf Answer.Done = 0
-readOf (Answer.Value v) = v
-readOf (Answer.Refused m) = 0
-
-abbrev pub wordFields : Output → Answer → List ℕ
-wordFields o a =
-    num (bit (o .interrupts) 0)
-    ∷ num (bit (o .interrupts) 1)
-    ∷ num (bit (o .interrupts) 2)
-    ∷ num (bit (o .interrupts) 3)
-    ∷ num (bit (o .lines) 0)
-    ∷ num (bit (o .lines) 1)
-    ∷ num (bit (o .lines) 2)
-    ∷ num (bit (o .lines) 3)
-    ∷ refusalOf a
-    ∷ 0
-    ∷ readOf a
-    ∷ []
-
-unfoldable pub wordOf : Ticked → ℕ
-wordOf t = pack wordLayout (wordFields (t .output) (t .answer))
+unfoldable pub inputsOf : Edition → List ℕ → List Input
+inputsOf e bytes = each (recordCount e bytes) (λ i. inputOf e (recordAt e bytes i))

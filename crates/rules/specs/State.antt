@@ -6,8 +6,8 @@ use mathlib.Core.List.{List}
 use lib.Dec.{eqb, ltb}
 use lib.ListN.{getD, replicate}
 use Rattle.bits.specs.Index.{each, placeIn}
-use Rattle.classes.specs.Class.{noClass}
-use Rattle.classes.specs.declared.Class.{Class}
+use Rattle.class_rules.specs.Class.{noClass}
+use Rattle.class_rules.specs.declared.Class.{Class}
 use Rattle.rules.specs.Answer.{number}
 use Rattle.rules.specs.declared.Alerts.{Alerts}
 use Rattle.rules.specs.declared.Answer.{Answer}

@@ -4,14 +4,15 @@ use Prim.Native.Nat.{ℕ}
 use mathlib.Core.Bool.{Bool, cond, _&&_, _||_}
 use Rattle.bits.specs.Bits.{bit, bitsOf}
 use Rattle.bits.specs.Index.{each, anyTo}
-use Rattle.classes.specs.Class.{drives}
-use Rattle.classes.specs.Step.{classEvent, classStep}
-use Rattle.classes.specs.declared.Signals.{Signals}
-use Rattle.rules.specs.Access.{acted, answerTo, clears}
+use Rattle.class_rules.specs.Class.{drives}
+use Rattle.class_rules.specs.Step.{classEvent, classStep}
+use Rattle.class_rules.specs.declared.Signals.{Signals}
+use Rattle.rules.specs.Access.{acted, answerTo, effects}
 use Rattle.rules.specs.Samples.{assigned, sampled}
 use Rattle.rules.specs.State.{classCount, classAt, withInterrupts, withClasses}
 use Rattle.rules.specs.Valid.{valid}
 use Rattle.rules.specs.declared.Answer.{Answer}
+use Rattle.rules.specs.declared.Effects.{Effects}
 use Rattle.rules.specs.declared.Handler.{Handler}
 use Rattle.rules.specs.declared.Input.{Input}
 use Rattle.rules.specs.declared.Output.{Output}
@@ -19,7 +20,7 @@ use Rattle.rules.specs.declared.Refusal.the-variants.{BadState}
 use Rattle.rules.specs.declared.Ticked.{Ticked}
 use Rattle.rules.specs.declared.Wires.{Wires}
 
--- ── steps 3 and 4, of the handler g after step 1, the wires w and the classes with an accepted clear ──
+-- ── steps 3 and 4, of the handler g after step 1, the wires w and the effects of step 1 ──
 
 -- class k has an event
 unfoldable pub event : Handler → Wires → ℕ → Bool
@@ -30,13 +31,13 @@ unfoldable pub interruptNow : Handler → Wires → ℕ → Bool
 interruptNow g w k = bit (g .interrupts .state) k || event g w k
 
 -- what class k meets
-unfoldable pub signals : Handler → Wires → (ℕ → Bool) → ℕ → Signals
-signals g w clear k = record { event = event g w k; interrupt = interruptNow g w k; clear = clear k }
+unfoldable pub signals : Handler → Wires → Effects → ℕ → Signals
+signals g w e k = record { event = event g w k; interrupt = interruptNow g w k; clear = bit (e .clears) k }
 
 -- the state after steps 2 to 4
-unfoldable pub stepped : Handler → Wires → (ℕ → Bool) → Handler
-stepped g w clear =
-    withClasses (each classCount (λ k. classStep (signals g w clear k) (classAt g k)))
+unfoldable pub stepped : Handler → Wires → Effects → Handler
+stepped g w e =
+    withClasses (each classCount (λ k. classStep (signals g w e k) (classAt g k)))
     (withInterrupts (record { state = bitsOf 4 (interruptNow g w); enable = g .interrupts .enable }) (sampled g w))
 
 -- ── step 5: outputs from the state now reached ──
@@ -60,7 +61,7 @@ noOutput = record { interrupts = 0; lines = 0 }
 
 -- the state after steps 1 to 4
 unfoldable pub after : Handler → Input → Handler
-after h x = stepped (acted h (x .access)) (x .sample .alerts) (clears h (x .access))
+after h x = stepped (acted h (x .access)) (x .sample .alerts) (effects h (x .access))
 
 -- steps 1 to 5
 unfoldable pub tick : Handler → Input → Ticked

@@ -7,7 +7,7 @@ use lib.Dec.{leb}
 use lib.ListN.{getD}
 use Rattle.bits.specs.Bits.{fits}
 use Rattle.bits.specs.Index.{allTo}
-use Rattle.classes.specs.Class.{classFits}
+use Rattle.class_rules.specs.Class.{classFits}
 use Rattle.rules.specs.Map.{fieldBits}
 use Rattle.rules.specs.State.{most, localCount, classCount, localColumn, alertColumn, classAt}
 use Rattle.rules.specs.declared.Field.{Field}

@@ -6,36 +6,39 @@ use mathlib.Core.Bool.{Bool, false, not, _||_}
 use mathlib.Core.List.{List, [], _∷_, _++_}
 use lib.Dec.{ltb}
 use lib.IntN.{ℤ, pos}
-use lib.ListN.{getD, length, drop}
+use lib.ListN.{getD, length, drop, replicate}
+use Rattle.bits.specs.Fields.{Fit}
 use Rattle.rules.specs.Answer.{Case, firstOf, number}
 use Rattle.rules.specs.Access.{malformed}
-use Rattle.rules.specs.Batch.{recordCount, recordAt}
-use Rattle.rules.specs.Record.{recordBytes, inputOf, recordOf, recordable}
+use Rattle.rules.specs.Edition.{recordBytes}
+use Rattle.rules.specs.Record.{heldIn, recordOf, recordable, recordCount, recordAt}
+use Rattle.rules.specs.State.{words}
 use Rattle.rules.specs.declared.Access.{Access}
 use Rattle.rules.specs.declared.Answer.{Answer}
+use Rattle.rules.specs.declared.Edition.{Edition}
 use Rattle.rules.specs.declared.Input.{Input}
 use Rattle.rules.specs.declared.Refusal.the-variants.{NoRecord, ShortBuffer}
 use Rattle.rules.specs.declared.Verdict.{Verdict}
 
 -- a record for each
-unfoldable pub recordsOf : List Input → List ℕ
-recordsOf [] = []
-recordsOf (x ∷ xs) = recordOf x ++ recordsOf xs
+unfoldable pub recordsOf : Edition → List Input → List ℕ
+recordsOf e [] = []
+recordsOf e (x ∷ xs) = recordOf e x ++ recordsOf e xs
 
 -- one of them has an access that no well-formed record holds
-unfoldable pub anyUnrecordable : List Input → Bool
-anyUnrecordable [] = false
-anyUnrecordable (x ∷ xs) = not (recordable (x .access)) || anyUnrecordable xs
+unfoldable pub anyUnrecordable : Edition → List Input → Bool
+anyUnrecordable e [] = false
+anyUnrecordable e (x ∷ xs) = not (recordable e (x .access)) || anyUnrecordable e xs
 
 -- 10 for such an access, 11 for a buffer too short; 10 comes first
-abbrev pub writeCases : List Input → List ℕ → List Case
-writeCases xs buffer =
-    record { refusal = NoRecord; holds = anyUnrecordable xs }
-    ∷ record { refusal = ShortBuffer; holds = ltb (length buffer) (length xs * recordBytes) }
+abbrev pub writeCases : Edition → List Input → List ℕ → List Case
+writeCases e xs buffer =
+    record { refusal = NoRecord; holds = anyUnrecordable e xs }
+    ∷ record { refusal = ShortBuffer; holds = ltb (length buffer) (length xs * recordBytes e) }
     ∷ []
 
-unfoldable pub writeVerdict : List Input → List ℕ → Verdict
-writeVerdict xs buffer = firstOf (writeCases xs buffer)
+unfoldable pub writeVerdict : Edition → List Input → List ℕ → Verdict
+writeVerdict e xs buffer = firstOf (writeCases e xs buffer)
 
 -- what writing gives: the answer, and the lent buffer
 pub record Written : Type 0 where
@@ -43,33 +46,33 @@ pub record Written : Type 0 where
   pub buffer : List ℕ
 
 -- success answers the bytes written, and later bytes stay; refused, the lent buffer keeps its bytes
-unfoldable pub writeOf : Verdict → List Input → List ℕ → Written
-writeOf Verdict.Accepted xs buffer =
+unfoldable pub writeOf : Edition → Verdict → List Input → List ℕ → Written
+writeOf e Verdict.Accepted xs buffer =
     record {
-      answer = pos (length xs * recordBytes);
-      buffer = recordsOf xs ++ drop (length xs * recordBytes) buffer;
+      answer = pos (length xs * recordBytes e);
+      buffer = recordsOf e xs ++ drop (length xs * recordBytes e) buffer;
     }
-writeOf (Verdict.Refused m) xs buffer = record { answer = number (Answer.Refused m); buffer = buffer }
+writeOf e (Verdict.Refused m) xs buffer = record { answer = number (Answer.Refused m); buffer = buffer }
 
-unfoldable pub write : List Input → List ℕ → Written
-write xs buffer = writeOf (writeVerdict xs buffer) xs buffer
+unfoldable pub write : Edition → List Input → List ℕ → Written
+write e xs buffer = writeOf e (writeVerdict e xs buffer) xs buffer
 
 -- ── what the theorems on reading and writing speak of ──
 
 -- bytes that are whole records, none of them malformed
-pub record WellFormed (bytes : List ℕ) : Type 0 where
-  pub whole : length bytes % recordBytes ≡ 0
+pub record WellFormed (e : Edition) (bytes : List ℕ) : Type 0 where
+  pub whole : length bytes % recordBytes e ≡ 0
   pub byte : (i : ℕ) → getD bytes i 0 < 2 ^ 8
-  pub formed : (i : ℕ) → i < recordCount bytes → malformed (inputOf (recordAt bytes i) .access) ≡ false
+  pub formed : (i : ℕ) → i < recordCount e bytes → malformed (heldIn e (recordAt e bytes i) .access) ≡ false
 
 -- some well-formed record holds the access
-abbrev pub HeldBy : Access → Type 0
-HeldBy a = (bytes : List ℕ) × (length bytes ≡ recordBytes) × WellFormed bytes × (inputOf bytes .access ≡ a)
+abbrev pub HeldBy : Edition → Access → Type 0
+HeldBy e a = (bytes : List ℕ) × (length bytes ≡ recordBytes e) × WellFormed e bytes × (heldIn e bytes .access ≡ a)
 
--- a sample as the handler's type has it: one word of 64 for the positive and one for the negative wires
+-- a sample as the handler's type has it: words of 64 for the positive and for the negative wires
 pub record Wired (x : Input) : Type 0 where
-  pub positive : (p : ℕ) × (p < 2 ^ 64) × (x .sample .alerts .pos ≡ p ∷ [])
-  pub negative : (p : ℕ) × (p < 2 ^ 64) × (x .sample .alerts .neg ≡ p ∷ [])
+  pub positive : Fit (replicate words 64) (x .sample .alerts .pos)
+  pub negative : Fit (replicate words 64) (x .sample .alerts .neg)
 
 pub data AllWired : List Input → Type 0 where
   none : AllWired []

@@ -1,5 +1,5 @@
 // The types of the handler. Its rules, document 01 section by section, are the definitions in specs/.
-use classes::Class;
+use class_rules::Class;
 
 // The most alerts that a handler is made for, and the words of 64 that hold a bit of each.
 pub const MOST: usize = 64;
@@ -81,7 +81,38 @@ pub enum Register {
     Unassigned,
 }
 
+// What can be done with a register: read and written, the same where a written 1 clears, only read, only written.
+pub enum Way {
+    Both,
+    OneClears,
+    ReadOnly,
+    WriteOnly,
+}
+
+// What locks a register: nothing, the REGWEN or the CLR_REGWEN of its alert or class.
+pub enum Guard {
+    Free,
+    ByRegwen,
+    ByClrRegwen,
+}
+
+// What is known of a register, a row of the register map.
+pub struct Row {
+    pub bits: u8,
+    pub way: Way,
+    pub guard: Guard,
+    // it is a REGWEN or CLR_REGWEN
+    pub lock: bool,
+    // steps 2 to 4 of a tick change it by themselves
+    pub moves: bool,
+}
+
 // ---- What goes in. ----
+
+// The form of a trace, named by the bytes of its record.
+pub enum Edition {
+    Bytes24,
+}
 
 pub enum Access {
     Nothing,
@@ -150,11 +181,17 @@ pub struct Made {
     pub answer: i64,
 }
 
-// The state after step 1, the answer, and the classes with an accepted clear, class 0 at the lowest bit.
+// What step 1 hands to the later steps.
+pub struct Effects {
+    // the classes with an accepted clear, class 0 at the lowest bit
+    pub clears: u8,
+}
+
+// The state after step 1, the answer, and the effects.
 pub struct Accessed {
     pub handler: Handler,
     pub answer: Answer,
-    pub clears: u8,
+    pub effects: Effects,
 }
 
 pub struct Ticked {

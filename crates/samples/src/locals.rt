@@ -1,23 +1,16 @@
 // Step 2, the local alerts: those that are raised and enabled occur.
 use crate::note;
-ghost use Prim.Native.Nat.{_≤_};
+use masks::num;
 ghost use mathlib.Core.Path.{_≡_};
-ghost use Rattle.bits.specs.Bits.{bitsOf, num};
+ghost use Rattle.bits.specs.Bits.{bitsOf};
 ghost use Rattle.rules.specs.State.{localCount};
 ghost use Rattle.samples.specs.Occurred.{OccurredAll, raisedBy};
-
-// A bit as a number.
-fn bit(b: bool) -> u8
-    ensures { λ r. ⌜ (r ≡ num b) × (r ≤ 1) ⌝ }
-{
-    if b { 1 } else { 0 }
-}
 
 // The local alerts that are raised, local 0 at the lowest bit: local 2, alert integrity, by equal wires.
 pub fn raise(broken: bool) -> u8
     ensures { λ r. ⌜ r ≡ bitsOf localCount (raisedBy broken) ⌝ }
 {
-    4 * bit(broken)
+    4 * num(broken)
 }
 
 // The local alerts' causes, and the classes that those that occur are assigned to.

@@ -11,17 +11,7 @@ ghost use Rattle.rules.specs.Samples.{marked};
 pub fn class_bit(c: u8, on: bool) -> u8
     ensures { λ r. ⌜ r ≡ bitsOf 4 (λ k. on && eqb c k) ⌝ }
 {
-    if on {
-        match c {
-            0 => 1,
-            1 => 2,
-            2 => 4,
-            3 => 8,
-            _ => 0,
-        }
-    } else {
-        0
-    }
+    masks::class_bit(c as usize, on)
 }
 
 // The cause at i is set if on. A place that is not on is not written.

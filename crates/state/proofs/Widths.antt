@@ -10,8 +10,8 @@ use lib.ListN.{getD}
 use lib.Pow.{pow-pos}
 use borrow.Author.Tests.{lt-ltb, le-ltb}
 use Rattle.bits.specs.Bits.{fits}
-use Rattle.classes.specs.Class.{stateOf, stateFits, countFits, classFits}
-use Rattle.classes.specs.declared.Class.{Class}
+use Rattle.class_rules.specs.Class.{stateOf, stateFits, countFits, classFits}
+use Rattle.class_rules.specs.declared.Class.{Class}
 
 -- the union of two numbers fits a width exactly if both do
 pub fits-or : (b x y : ℕ) → fits b (bitOr x y) ≡ (fits b x && fits b y)

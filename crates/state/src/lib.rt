@@ -1,4 +1,3 @@
-// Answers as signed numbers, a new handler, and the test of refusal 7.
-pub mod answer;
+// A new handler, and the test of refusal 7.
 pub mod new;
 pub mod valid;

@@ -1,6 +1,6 @@
 // "What the stations need": a new handler.
-use crate::answer::signed;
-use classes::Class;
+use answers::signed;
+use class_rules::Class;
 use rules::Alerts;
 use rules::Answer;
 use rules::Handler;

@@ -1,5 +1,5 @@
 // "Numbers that come back": the test of refusal 7, that a state keeps its rule.
-use classes::Class;
+use class_rules::Class;
 use rules::Alerts;
 use rules::Handler;
 use rules::Locals;
@@ -9,7 +9,7 @@ ghost use Prim.Native.Nat.{ℕ, _≤_};
 ghost use lib.ListN.{getD};
 ghost use Rattle.bits.specs.Bits.{fits};
 ghost use Rattle.bits.specs.Index.{allTo};
-ghost use Rattle.classes.specs.Class.{stateOf, countFits, classFits, noClass};
+ghost use Rattle.class_rules.specs.Class.{stateOf, countFits, classFits, noClass};
 ghost use Rattle.rules.specs.State.{most, localCount, classCount, localColumn, alertColumn};
 ghost use Rattle.rules.specs.Valid.{columnFits, columnsFit, valid};
 

@@ -1,23 +1,28 @@
 -- The bytes of a record as numbers, part by part.
 -- Assumes nothing.
-use Prim.Native.Nat.{ℕ, _+_, _*_, _^_, _≤_, _<_}
-use mathlib.Core.Path.{_≡_, sym, ap, ap₂, _∙_}
-use mathlib.Core.Bool.{Bool, false, cond}
+use Prim.Native.Nat.{ℕ, zero, suc, _+_, _*_, _/_, _^_, _≤_, _<_}
+use mathlib.Core.Path.{_≡_, refl, sym, ap, ap₂, subst, _∙_}
 use mathlib.Core.List.{List, [], _∷_, _++_}
 use native.Mathlib.Nat.{add-zero}
 use native.Mathlib.Omega.{arith}
-use lib.Dec.{eqb}
 use lib.ListN.{getD, length, take, drop, length-drop}
+use lib.Pow.{pow-pos}
 use lib.Seq.{getD-take, getD-drop, length-take-le, take-add, drop-drop}
-use Rattle.bits.specs.Fields.{pack, unpack, ofBytes, none, one}
+use Rattle.bits.specs.Fields.{total, pack, unpack, ofBytes, none, one}
 use Rattle.bits.specs.Index.{each, eachFrom}
+use Rattle.bits.proofs.ByteLaws.{bytes-lt}
 use Rattle.bits.proofs.IndexLaws.{is-each}
 use Rattle.bits.proofs.PackLaws.{pack-two, unpack-append, bytes-append}
-use Rattle.rules.specs.Record.{recordBytes, recordLayout, badRecord, accessOf, inputOfFields, inputOf}
+use Rattle.rules.specs.Edition.{recordBytes, alerts}
+use Rattle.rules.specs.Record.{layout, wireWords, inputOfFields, heldIn, carried, inputOf}
 use Rattle.rules.specs.declared.Access.{Access}
+use Rattle.rules.specs.declared.Edition.{Edition}
+use Rattle.rules.specs.declared.Edition.the-variants.{Bytes24}
+use Rattle.rules.specs.declared.Input.{Input}
+use Rattle.trace.specs.Parts.{wireBytes, accessOfWord}
 
 -- the n entries of a list that begin at a place
-part-length : (n at : ℕ) (xs : List ℕ) → at + n ≤ length xs → length (take n (drop at xs)) ≡ n
+pub part-length : (n at : ℕ) (xs : List ℕ) → at + n ≤ length xs → length (take n (drop at xs)) ≡ n
 part-length n at xs h = length-take-le n (drop at xs) (rw length-drop (omega arith))
 
 part-each : (n at : ℕ) (xs : List ℕ) → at + n ≤ length xs → take n (drop at xs) ≡ each n (λ i. getD xs (at + i) 0)
@@ -36,27 +41,71 @@ part-bytes m n at xs h =
     ap ofBytes (take-add m n (drop at xs) ∙ ap (λ (l : List ℕ). take m (drop at xs) ++ take n l) (drop-drop m at xs))
     ∙ bytes-append (take m (drop at xs)) (take n (drop (at + m) xs)) n (part-length n (at + m) xs (omega arith))
 
--- kind, register, zero bits and value
-abbrev firstLayout : List ℕ
-firstLayout = take 4 recordLayout
+-- ── by editions ──
 
--- a record by its three words a, b and c
-pub record-input : (at : ℕ) (xs : List ℕ) (a b c : ℕ) → at + recordBytes ≤ length xs
-    → a ≡ ofBytes (take 8 (drop at xs)) → b ≡ ofBytes (take 8 (drop (at + 8) xs)) → c ≡ ofBytes (take 8 (drop (at + 16) xs))
-    → a < 2 ^ 64 → b < 2 ^ 64 → c < 2 ^ 64
-    → inputOf (take recordBytes (drop at xs)) ≡ inputOfFields (unpack firstLayout a ++ (b ∷ c ∷ []))
-unfolding inputOf
-record-input at xs a b c h d e f p q r =
-    let i : at + 8 + 8 ≡ at + 16 = omega arith in
-    let low : ofBytes (take 16 (drop (at + 8) xs)) ≡ pack (64 ∷ 64 ∷ []) (b ∷ c ∷ []) =
-    rw i at (part-bytes 8 8 (at + 8) xs (omega arith)) ∙ ap₂ (λ (m n : ℕ). m * 2 ^ 64 + n) (sym e) (sym f) ∙ sym (pack-two 64 64 b c) in
-    ap (λ (n : ℕ). inputOfFields (unpack recordLayout n))
-    (part-bytes 8 16 at xs h ∙ ap₂ (λ (m n : ℕ). m * 2 ^ 128 + n) (sym d) low)
-    ∙ ap inputOfFields (unpack-append firstLayout (64 ∷ 64 ∷ []) a (b ∷ c ∷ []) p (one q (one r none)))
+-- there is one edition
+pub only : (e : Edition) → e ≡ Edition.Bytes24
+only Bytes24 = refl
 
--- the access of a record that is not malformed
-pub well-formed : (kind register zeros value : ℕ) → badRecord kind register zeros value ≡ false
-    → accessOf kind register zeros value ≡ cond (eqb kind 0) Access.Nothing (cond (eqb kind 1) (Access.Read register) (Access.Write register value))
-unfolding accessOf
-well-formed kind register zeros value e =
-    ap (λ (b : Bool). cond b Access.Malformed (cond (eqb kind 0) Access.Nothing (cond (eqb kind 1) (Access.Read register) (Access.Write register value)))) e
+-- a record is its first eight bytes, its positive wires and its negative wires
+pub record-parts : (e : Edition) → recordBytes e ≡ 8 + (wireBytes e + wireBytes e)
+record-parts Bytes24 = refl
+
+wire-bits : (e : Edition) → alerts e ≡ 8 * wireBytes e
+wire-bits Bytes24 = refl
+
+first-bits : (e : Edition) → total (take 4 (layout e)) ≡ 64
+first-bits Bytes24 = refl
+
+-- the first n of some bytes are bytes
+byte-taken : (n : ℕ) (xs : List ℕ) → ((i : ℕ) → getD xs i 0 < 2 ^ 8) → (i : ℕ) → getD (take n xs) i 0 < 2 ^ 8
+byte-taken zero xs b i = pow-pos 8
+byte-taken (suc n) [] b i = pow-pos 8
+byte-taken (suc n) (x ∷ xs) b zero = b 0
+byte-taken (suc n) (x ∷ xs) b (suc i) = byte-taken n xs (λ j. b (suc j)) i
+
+-- the n bytes that begin at a place fit 8 * n bits
+pub part-lt : (n at : ℕ) (xs : List ℕ) → at + n ≤ length xs → ((i : ℕ) → getD xs i 0 < 2 ^ 8) → ofBytes (take n (drop at xs)) < 2 ^ (8 * n)
+part-lt n at xs h b =
+    subst (λ (k : ℕ). ofBytes (take n (drop at xs)) < 2 ^ (8 * k)) (part-length n at xs h)
+    (bytes-lt (take n (drop at xs)) (byte-taken n (drop at xs) (λ i. subst (λ (x : ℕ). x < 2 ^ 8) (sym (getD-drop at xs i 0)) (b (at + i)))))
+
+module _ (e : Edition) (at : ℕ) (xs : List ℕ) (b : (i : ℕ) → getD xs i 0 < 2 ^ 8) (h : at + recordBytes e ≤ length xs) where
+  abbrev first : ℕ
+  first = ofBytes (take 8 (drop at xs))
+
+  abbrev pos : ℕ
+  pos = ofBytes (take (wireBytes e) (drop (at + 8) xs))
+
+  abbrev neg : ℕ
+  neg = ofBytes (take (wireBytes e) (drop (at + 8 + wireBytes e) xs))
+
+  record-number : ofBytes (take (recordBytes e) (drop at xs)) ≡ first * 2 ^ total (alerts e ∷ alerts e ∷ []) + pack (alerts e ∷ alerts e ∷ []) (pos ∷ neg ∷ [])
+  record-number =
+      let k : at + (8 + (wireBytes e + wireBytes e)) ≤ length xs = omega (arith, record-parts e) in
+      let t : 8 * (wireBytes e + wireBytes e) ≡ total (alerts e ∷ alerts e ∷ []) = omega (arith, wire-bits e) in
+      let u : 8 * wireBytes e ≡ alerts e = sym (wire-bits e) in
+      ap (λ (n : ℕ). ofBytes (take n (drop at xs))) (record-parts e) ∙ part-bytes 8 (wireBytes e + wireBytes e) at xs k
+      ∙ ap₂ (λ (m n : ℕ). first * 2 ^ m + n) t
+      (part-bytes (wireBytes e) (wireBytes e) (at + 8) xs (omega arith) ∙ ap (λ (n : ℕ). pos * 2 ^ n + neg) u ∙ sym (pack-two (alerts e) (alerts e) pos neg))
+
+  -- what a record holds, by its three parts
+  pub record-held : heldIn e (take (recordBytes e) (drop at xs)) ≡ record { access = accessOfWord e first; sample = record { alerts = record { pos = wireWords (alerts e) pos; neg = wireWords (alerts e) neg } } }
+  unfolding heldIn unpack
+  record-held =
+      let l : at + recordBytes e ≡ at + 8 + wireBytes e + wireBytes e = omega (arith, record-parts e) in
+      let f : first < 2 ^ total (take 4 (layout e)) = subst (λ (n : ℕ). first < 2 ^ n) (sym (first-bits e)) (part-lt 8 at xs (omega arith) b) in
+      let p : pos < 2 ^ alerts e = subst (λ (n : ℕ). pos < 2 ^ n) (sym (wire-bits e)) (part-lt (wireBytes e) (at + 8) xs (omega arith) b) in
+      let q : neg < 2 ^ alerts e = subst (λ (n : ℕ). neg < 2 ^ n) (sym (wire-bits e)) (part-lt (wireBytes e) (at + 8 + wireBytes e) xs (omega arith) b) in
+      ap (λ (n : ℕ). inputOfFields e (unpack (layout e) n)) record-number
+      ∙ ap (inputOfFields e) (unpack-append (take 4 (layout e)) (alerts e ∷ alerts e ∷ []) first (pos ∷ neg ∷ []) f (one p (one q none)))
+
+  -- and its access and sample, as the code reads them one after another
+  pub record-input : (f n : ℕ) (a r : Access) (p q : List ℕ) → f ≡ first → a ≡ accessOfWord e f → r ≡ carried e a → n ≡ alerts e → p ≡ wireWords (alerts e) pos
+      → q ≡ wireWords (alerts e) (ofBytes (take (wireBytes e) (drop (at + 8 + n / 8) xs)))
+      → record { access = r; sample = record { alerts = record { pos = p; neg = q } } } ≡ inputOf e (take (recordBytes e) (drop at xs))
+  unfolding inputOf
+  record-input f n a r p q u v w m x y =
+      let z : r ≡ carried e (accessOfWord e first) = w ∙ ap (carried e) (v ∙ ap (accessOfWord e) u) in
+      let k : q ≡ wireWords (alerts e) neg = y ∙ ap (λ (i : ℕ). wireWords (alerts e) (ofBytes (take (wireBytes e) (drop (at + 8 + i / 8) xs)))) m in
+      rw (z, x, k) (sym (ap (λ (i : Input). record { access = carried e (i .access); sample = i .sample }) record-held))

@@ -14,12 +14,12 @@ use Rattle.bits.proofs.BitLaws.{num-lt}
 use Rattle.bits.proofs.FieldLaws.{unpack-pack}
 use Rattle.bits.proofs.PackLaws.{fit-append}
 use Rattle.rules.specs.Answer.{refusalNumber}
-use Rattle.rules.specs.Record.{wordLayout, refusalOf, readOf, wordFields, wordOf}
 use Rattle.rules.specs.declared.Answer.{Answer}
 use Rattle.rules.specs.declared.Output.{Output}
 use Rattle.rules.specs.declared.Refusal.{Refusal}
 use Rattle.rules.specs.declared.Refusal.the-variants.{NoRegister, WrongWay, Locked, TooWide, BadRecord, BadCount, BadState, BadLength, ShortList, NoRecord, ShortBuffer}
 use Rattle.rules.specs.declared.Ticked.{Ticked}
+use Rattle.rules.specs.Word.{wordLayout, refusalOf, readOf, wordFields, wordOf}
 use Rattle.trace.proofs.Digits.{num-one}
 
 -- a refusal number is below 16, so that 4 bits hold it

@@ -1,16 +1,26 @@
 // "Traces": the access and sample of a record. Most significant bit first.
+use crate::edition;
+use crate::edition::BYTES_24;
+use crate::edition::REGISTER_AT_24;
+use crate::edition::REGISTERS_24;
+use crate::edition::carry;
 use rules::Access;
+use rules::Edition;
 use rules::Input;
 use rules::Sample;
+use rules::WORDS;
 use rules::Wires;
 ghost use mathlib.Core.Path.{_≡_};
-ghost use Prim.Native.Nat.{_+_, _≤_};
-ghost use lib.ListN.{length, take, drop};
-ghost use Rattle.bits.specs.Bits.{field};
-ghost use Rattle.bits.specs.Fields.{ofBytes};
+ghost use Prim.Native.Nat.{_+_, _*_, _≤_};
+ghost use lib.ListN.{length, take, drop, replicate};
+ghost use Rattle.bits.specs.Fields.{unpack, ofBytes};
 ghost use mathlib.Core.Bool.{false};
 ghost use Rattle.rules.specs.Access.{malformed};
-ghost use Rattle.rules.specs.Record.{recordBytes, badRecord, accessOf, inputOf, recordOf};
+ghost use Rattle.rules.specs.Edition.{newest, recordBytes, alerts};
+ghost use Rattle.rules.specs.Record as rules;
+ghost use Rattle.rules.specs.Record.{accessOf, accessIn, wireWords, inputOf, recordOf};
+ghost use Rattle.rules.specs.State.{words};
+ghost use Rattle.trace.specs.Parts.{wireBytes, accessOfWord};
 
 // Four bytes as one number.
 fn half_at(bytes: &[u8], at: usize) -> u32
@@ -34,64 +44,110 @@ fn word_at(bytes: &[u8], at: usize) -> u64
     (high << 32) + low
 }
 
-// Malformed: kind 3, a nonzero bit among the 20, a read with a value, kind 0 with a register or value.
-fn is_bad(kind: u8, register: u16, zeros: u32, value: u32) -> bool
-    ensures { λ r. ⌜ r ≡ badRecord kind register zeros value ⌝ }
+// Kind: 0 none, 1 read, 2 write. Malformed: kind 3, a read with a value, kind 0 with a register or value.
+pub fn access_of(kind: u8, register: u16, value: u32) -> Access
+    ensures { λ r. ⌜ r ≡ accessOf kind register value ⌝ }
 {
-    let read = (kind == 1) & (value != 0);
-    let none = (kind == 0) & ((register != 0) | (value != 0));
-    (kind == 3) | ((zeros != 0) | (read | none))
-}
-
-// Kind: 0 none, 1 read, 2 write.
-fn access_of(kind: u8, register: u16, zeros: u32, value: u32) -> Access
-    ensures { λ r. ⌜ r ≡ accessOf kind register zeros value ⌝ }
-{
-    if is_bad(kind, register, zeros, value) {
-        Access::Malformed
-    } else if kind == 0 {
-        Access::Nothing
-    } else if kind == 1 {
-        Access::Read(register)
-    } else {
-        Access::Write(register, value)
+    match kind {
+        0 => {
+            if (register == 0) & (value == 0) {
+                Access::Nothing
+            } else {
+                Access::Malformed
+            }
+        }
+        1 => {
+            if value == 0 {
+                Access::Read(register)
+            } else {
+                Access::Malformed
+            }
+        }
+        2 => Access::Write(register, value),
+        _ => Access::Malformed,
     }
 }
 
-// 2 bits kind, 10 bits register, 20 zero bits, 32 bits value.
-fn access_in(first: u64) -> Access
-    ensures { λ r. ⌜ r ≡ accessOf (field 62 2 first) (field 52 10 first) (field 32 20 first) (field 0 32 first) ⌝ }
+// Malformed too: a nonzero bit among the zero bits.
+fn access_in(kind: u8, register: u16, zeros: u32, value: u32) -> Access
+    ensures { λ r. ⌜ r ≡ accessIn kind register zeros value ⌝ }
 {
-    let kind = (first >> 62) as u8;
-    let register = ((first >> 52) % 1024) as u16;
-    let zeros = ((first >> 32) % 1048576) as u32;
-    let value = (first % 4294967296) as u32;
-    access_of(kind, register, zeros, value)
+    if zeros == 0 {
+        access_of(kind, register, value)
+    } else {
+        Access::Malformed
+    }
 }
 
-// The record whose first byte is at a place: the access, 64 positive wires with alert 0 first, 64 negative wires.
-pub fn input_at(bytes: &[u8], at: usize) -> Input
-    requires { ⌜ at + recordBytes ≤ length (now bytes) ⌝ }
-    ensures { λ r. ⌜ r ≡ inputOf (take recordBytes (drop at (now (bytes .entry)))) ⌝ }
+// The first 64 bits of a record: 2 bits kind, the register, zero bits, 32 bits value.
+fn first_access(edition: Edition, first: u64) -> Access
+    ensures { λ r. ⌜ r ≡ accessOfWord edition first ⌝ }
 {
-    let access = access_in(word_at(bytes, at));
-    let pos = word_at(bytes, at + 8);
-    let neg = word_at(bytes, at + 16);
+    let kind = (first >> 62) as u8;
+    let value = (first % 4294967296) as u32;
+    match edition {
+        Edition::Bytes24 => {
+            let register = ((first >> REGISTER_AT_24) % REGISTERS_24 as u64) as u16;
+            let zeros = ((first >> 32) % 1048576) as u32;
+            access_in(kind, register, zeros, value)
+        }
+    }
+}
+
+// The access with the map's register number.
+fn carried(edition: Edition, access: Access) -> Access
+    ensures { λ r. ⌜ r ≡ rules.carried edition access ⌝ }
+{
+    match access {
+        Access::Nothing => Access::Nothing,
+        Access::Read(register) => Access::Read(carry(edition, register)),
+        Access::Write(register, value) => Access::Write(carry(edition, register), value),
+        Access::Malformed => Access::Malformed,
+    }
+}
+
+// Words of eight bytes each, one after another.
+fn words_at(bytes: &[u8], at: usize) -> [u64; WORDS]
+    requires { ⌜ at + 8 * words ≤ length (now bytes) ⌝ }
+    ensures { λ r. ⌜ r ≡ unpack (replicate words 64) (ofBytes (take (8 * words) (drop at (now (bytes .entry))))) ⌝ }
+{
+    let mut found: [u64; WORDS] = [0; WORDS];
+    for v in 0..WORDS {
+        found[v] = word_at(bytes, at + 8 * v);
+    }
+    found
+}
+
+// The wires of a record that begin at a place, the first one at the highest bit of the first word.
+fn wires_at(edition: Edition, bytes: &[u8], at: usize) -> [u64; WORDS]
+    requires { ⌜ at + wireBytes edition ≤ length (now bytes) ⌝ }
+    ensures { λ r. ⌜ r ≡ wireWords (alerts edition) (ofBytes (take (wireBytes edition) (drop at (now (bytes .entry))))) ⌝ }
+{
+    match edition {
+        Edition::Bytes24 => words_at(bytes, at),
+    }
+}
+
+// The record whose first byte is at a place: the access, the positive wires with alert 0 first, the negative wires.
+pub fn input_at(edition: Edition, bytes: &[u8], at: usize) -> Input
+    requires { ⌜ at + recordBytes edition ≤ length (now bytes) ⌝ }
+    ensures { λ r. ⌜ r ≡ inputOf edition (take (recordBytes edition) (drop at (now (bytes .entry)))) ⌝ }
+{
+    let access = carried(edition, first_access(edition, word_at(bytes, at)));
+    let pos = wires_at(edition, bytes, at + 8);
+    let neg = wires_at(edition, bytes, at + 8 + edition::alerts(edition) / 8);
     Input {
         access,
         sample: Sample {
-            alerts: Wires {
-                pos: [pos],
-                neg: [neg],
-            },
+            alerts: Wires { pos, neg },
         },
     }
 }
 
 // The record of 24 bytes. Writing what was read gives the same bytes, if it is well-formed.
-pub fn input_of(bytes: [u8; 24]) -> Input
-    ensures { λ r. ⌜ r ≡ inputOf bytes ⌝ }
-    ensures written { λ r. ⌜ (malformed (r .access) ≡ false → recordOf r ≡ bytes) ⌝ }
+pub fn input_of(bytes: [u8; BYTES_24]) -> Input
+    ensures { λ r. ⌜ r ≡ inputOf newest bytes ⌝ }
+    ensures written { λ r. ⌜ (malformed (r .access) ≡ false → recordOf newest r ≡ bytes) ⌝ }
 {
-    input_at(&bytes, 0)
+    input_at(Edition::Bytes24, &bytes, 0)
 }

@@ -1,13 +1,13 @@
 // "Traces": the word of a tick.
+use answers::refusal_number;
 use rules::Answer;
 use rules::Output;
-use state::answer::refusal_number;
 ghost use mathlib.Core.Path.{_≡_};
 ghost use mathlib.Core.List.{[], _∷_};
 ghost use Prim.Native.Nat.{_<_};
 ghost use Rattle.bits.specs.Bits.{bit, num};
 ghost use Rattle.bits.specs.Fields.{pack};
-ghost use Rattle.rules.specs.Record.{wordLayout, refusalOf, readOf, wordFields};
+ghost use Rattle.rules.specs.Word.{wordLayout, refusalOf, readOf, wordFields};
 
 // Bit k as a number.
 fn digit(x: u8, k: u32) -> u64

@@ -11,7 +11,8 @@ use lib.ListN.{getD, length, take, drop}
 use lib.Seq.{sets, sets-eq, take-suc, take-all, length-take-le}
 use Rattle.bits.specs.Index.{eachFrom, anyTo}
 use Rattle.bits.proofs.IndexLaws.{length-each, at-each, any-ext, any-first}
-use Rattle.rules.specs.Record.{recordBytes, recordOf, recordable}
+use Rattle.rules.specs.Edition.{newest, recordBytes}
+use Rattle.rules.specs.Record.{recordOf, recordable}
 use Rattle.rules.specs.Writer.{recordsOf, anyUnrecordable}
 use Rattle.rules.specs.declared.Input.{Input}
 use Rattle.laws.proofs.WriterLaws.{records-length, records-append}
@@ -21,17 +22,17 @@ use Rattle.writer.proofs.StoreLaws.{sets-append}
 
 -- ── the test of all entries ──
 
-any-from : (b n : ℕ) (f : ℕ → Input) → anyUnrecordable (eachFrom b n f) ≡ anyTo (λ i. not (recordable (f (b + i) .access))) n
+any-from : (b n : ℕ) (f : ℕ → Input) → anyUnrecordable newest (eachFrom b n f) ≡ anyTo (λ i. not (recordable newest (f (b + i) .access))) n
 unfolding anyUnrecordable eachFrom anyTo
 any-from b zero f = refl
 any-from b (suc n) f =
-    let g : ℕ → Bool = λ i. not (recordable (f i .access)) in
+    let g : ℕ → Bool = λ i. not (recordable newest (f i .access)) in
     ap₂ _||_ (ap g (sym (add-zero b)))
     (any-from (suc b) n f ∙ any-ext (λ i. g (suc b + i)) (λ i. g (b + suc i)) n (λ i h. ap g (suc-add b i ∙ sym (add-suc b i))))
     ∙ sym (any-first (λ i. g (b + i)) n)
 
 module _ (l : Lent) where
-  pub any-in-list : anyUnrecordable (listOf l) ≡ anyTo (unrecordableAt (l .kinds) (l .registers) (l .values)) (length (l .kinds))
+  pub any-in-list : anyUnrecordable newest (listOf l) ≡ anyTo (unrecordableAt (l .kinds) (l .registers) (l .values)) (length (l .kinds))
   unfolding listOf
   any-in-list =
       let n = length (l .kinds) in
@@ -48,34 +49,34 @@ module _ (l : Lent) where
   at-list i d h = at-each (length (l .kinds)) (inputAt l) i d h
 
   -- the records of the first entries and one more
-  records-next : (i : ℕ) → i < length (l .kinds) → recordsOf (take (suc i) (listOf l)) ≡ recordsOf (take i (listOf l)) ++ recordOf (inputAt l i)
+  records-next : (i : ℕ) → i < length (l .kinds) → recordsOf newest (take (suc i) (listOf l)) ≡ recordsOf newest (take i (listOf l)) ++ recordOf newest (inputAt l i)
   unfolding recordsOf
   records-next i h =
       let d = inputAt l i in
       let xs = listOf l in
-      ap recordsOf (take-suc xs i d (omega (arith, length-list)) ∙ ap (λ (x : Input). take i xs ++ (x ∷ [])) (at-list i d h))
-      ∙ records-append (take i xs) (d ∷ [])
-      ∙ ap (λ (bs : List ℕ). recordsOf (take i xs) ++ bs) (append-nil (recordOf d))
+      ap (recordsOf newest) (take-suc xs i d (omega (arith, length-list)) ∙ ap (λ (x : Input). take i xs ++ (x ∷ [])) (at-list i d h))
+      ∙ records-append newest (take i xs) (d ∷ [])
+      ∙ ap (λ (bs : List ℕ). recordsOf newest (take i xs) ++ bs) (append-nil (recordOf newest d))
 
-  length-records : (i : ℕ) → i ≤ length (l .kinds) → length (recordsOf (take i (listOf l))) ≡ i * recordBytes
-  length-records i h = records-length (take i (listOf l)) ∙ ap (λ (n : ℕ). n * recordBytes) (length-take-le i (listOf l) (omega (arith, length-list)))
+  length-records : (i : ℕ) → i ≤ length (l .kinds) → length (recordsOf newest (take i (listOf l))) ≡ i * recordBytes newest
+  length-records i h = records-length newest (take i (listOf l)) ∙ ap (λ (n : ℕ). n * recordBytes newest) (length-take-le i (listOf l) (omega (arith, length-list)))
 
   -- the record of entry i behind those before it
-  pub put-next : (old out next : List ℕ) (i : ℕ) → i < length (l .kinds) → out ≡ sets old 0 (recordsOf (take i (listOf l)))
-      → next ≡ sets out (i * recordBytes) (recordOf (inputAt l i)) → next ≡ sets old 0 (recordsOf (take (i + 1) (listOf l)))
+  pub put-next : (old out next : List ℕ) (i : ℕ) → i < length (l .kinds) → out ≡ sets old 0 (recordsOf newest (take i (listOf l)))
+      → next ≡ sets out (i * recordBytes newest) (recordOf newest (inputAt l i)) → next ≡ sets old 0 (recordsOf newest (take (i + 1) (listOf l)))
   put-next old out next i h p q =
-      let bs = recordsOf (take i (listOf l)) in
-      let b = recordOf (inputAt l i) in
-      let e : i * recordBytes ≡ 0 + length bs = omega (arith, length-records i (omega arith)) in
+      let bs = recordsOf newest (take i (listOf l)) in
+      let b = recordOf newest (inputAt l i) in
+      let e : i * recordBytes newest ≡ 0 + length bs = omega (arith, length-records i (omega arith)) in
       q ∙ ap₂ (λ (o : List ℕ) (n : ℕ). sets o n b) p e ∙ sets-append old 0 bs b
       ∙ rw add-one (ap (sets old 0) (sym (records-next i h)))
 
   -- all of them
-  pub put-end : (old out : List ℕ) (i : ℕ) → i ≡ length (l .kinds) → length (l .kinds) * recordBytes ≤ length old
-      → out ≡ sets old 0 (recordsOf (take i (listOf l))) → out ≡ recordsOf (listOf l) ++ drop (length (l .kinds) * recordBytes) old
+  pub put-end : (old out : List ℕ) (i : ℕ) → i ≡ length (l .kinds) → length (l .kinds) * recordBytes newest ≤ length old
+      → out ≡ sets old 0 (recordsOf newest (take i (listOf l))) → out ≡ recordsOf newest (listOf l) ++ drop (length (l .kinds) * recordBytes newest) old
   put-end old out i e r p =
       let xs = listOf l in
-      let n : 0 + length (recordsOf xs) ≡ length (l .kinds) * recordBytes = omega (arith, records-length xs, length-list) in
-      p ∙ ap (λ (ys : List Input). sets old 0 (recordsOf ys)) (take-all i xs (omega (arith, length-list)))
-      ∙ sets-eq (recordsOf xs) old 0 (omega arith)
-      ∙ ap (λ (k : ℕ). recordsOf xs ++ drop k old) n
+      let n : 0 + length (recordsOf newest xs) ≡ length (l .kinds) * recordBytes newest = omega (arith, records-length newest xs, length-list) in
+      p ∙ ap (λ (ys : List Input). sets old 0 (recordsOf newest ys)) (take-all i xs (omega (arith, length-list)))
+      ∙ sets-eq (recordsOf newest xs) old 0 (omega arith)
+      ∙ ap (λ (k : ℕ). recordsOf newest xs ++ drop k old) n

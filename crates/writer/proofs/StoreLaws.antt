@@ -1,18 +1,23 @@
--- Runs of stores: the bytes of a number, of its halves, and of a record's three words.
+-- Runs of stores: the bytes of a number, of its halves, of words, and of a record.
 -- Assumes nothing.
-use Prim.Native.Nat.{ℕ, suc, _+_, _*_, _/_, _%_, _^_, _<_}
-use mathlib.Core.Path.{_≡_, refl, sym, ap, _∙_}
+use Prim.Native.Nat.{ℕ, zero, suc, _+_, _*_, _/_, _%_, _^_, _<_}
+use mathlib.Core.Path.{_≡_, refl, sym, ap, ap₂, subst, _∙_}
 use mathlib.Core.List.{List, [], _∷_, _++_}
-use native.Mathlib.Nat.{add-zero, add-suc, suc-add}
+use native.Mathlib.Nat.{add-zero, add-suc, suc-add, zero-add, div-one}
 use native.Mathlib.Omega.{arith}
-use lib.ListN.{length, replicate, set}
+use lib.ListN.{length, replicate, set, length-replicate, replicate-append-replicate}
 use lib.Seq.{sets}
-use Rattle.bits.specs.Fields.{pack, unpack, toBytes, none, one}
+use Rattle.bits.specs.Fields.{total, pack, unpack, toBytes, Fit, none, one}
+use Rattle.bits.specs.Index.{each, eachFrom}
+use Rattle.bits.proofs.ByteLaws.{length-bytes}
 use Rattle.bits.proofs.FieldLaws.{pack-lt}
-use Rattle.bits.proofs.PackLaws.{pack-append, pack-two, unpack-parts}
-use Rattle.rules.specs.Record.{kindOf, registerOf, valueOf, recordOf}
-use Rattle.writer.specs.Lent.{accessIn}
-use Rattle.writer.specs.Parts.{inputIn, accessLayout, accessWord}
+use Rattle.bits.proofs.IndexLaws.{length-each}
+use Rattle.bits.proofs.PackLaws.{pack-append, pack-two, unpack-parts, total-bytes}
+use Rattle.rules.specs.Edition.{newest}
+use Rattle.rules.specs.Record.{layout, accessOf, kindOf, registerOf, valueOf, recordOf}
+use Rattle.rules.specs.State.{words}
+use Rattle.rules.specs.declared.Input.{Input}
+use Rattle.writer.specs.Parts.{inputIn, accessLayout, accessWord, wordBytes}
 
 -- one run of stores behind another
 pub sets-append : (l : List ℕ) (i : ℕ) (xs ys : List ℕ) → sets (sets l i xs) (i + length xs) ys ≡ sets l i (xs ++ ys)
@@ -46,27 +51,93 @@ put-halves l m n i w h p q =
     let b = toBytes 4 (w % 2 ^ 32) in
     q ∙ ap (λ (k : List ℕ). sets k (i + 4) b) p ∙ sets-append l i a b ∙ ap (sets l i) (sym (word-halves w h))
 
--- ── three words ──
+-- ── words one after another ──
 
-record-words : (k r v p n : ℕ) → accessWord (accessIn k r v) < 2 ^ 64 → p < 2 ^ 64 → n < 2 ^ 64
-    → recordOf (inputIn k r v p n) ≡ toBytes 8 (accessWord (accessIn k r v)) ++ (toBytes 8 p ++ toBytes 8 n)
-unfolding recordOf accessWord
-record-words k r v p n a b c =
-    let x = accessIn k r v in
-    let f : List ℕ = kindOf x ∷ registerOf x ∷ 0 ∷ valueOf x ∷ [] in
-    let ws : ℕ = pack (64 ∷ 64 ∷ []) (p ∷ n ∷ []) in
-    ap (toBytes 24) (pack-append accessLayout (64 ∷ 64 ∷ []) f (p ∷ n ∷ []) refl)
-    ∙ unpack-parts (replicate 8 8) (replicate 16 8) (accessWord x) ws a (pack-lt (one b (one c none)))
-    ∙ ap (λ (l : List ℕ). toBytes 8 (accessWord x) ++ l) (ap (toBytes 16) (pack-two 64 64 p n) ∙ unpack-parts (replicate 8 8) (replicate 8 8) p n b c)
+each-last : (b n : ℕ) (f : ℕ → ℕ) → eachFrom b (suc n) f ≡ eachFrom b n f ++ (f (b + n) ∷ [])
+unfolding eachFrom
+each-last b zero f = ap (λ (i : ℕ). f i ∷ []) (sym (add-zero b))
+each-last b (suc n) f =
+    ap (λ (ws : List ℕ). f b ∷ ws) (each-last (suc b) n f ∙ ap (λ (i : ℕ). eachFrom (suc b) n f ++ (f i ∷ [])) (suc-add b n ∙ sym (add-suc b n)))
 
-words-set : (l : List ℕ) (i x y z : ℕ) → sets (sets (sets l i (toBytes 8 x)) (i + 8) (toBytes 8 y)) (i + 16) (toBytes 8 z) ≡ sets l i (toBytes 8 x ++ (toBytes 8 y ++ toBytes 8 z))
-unfolding unpack
-words-set l i x y z =
-    let e : i + 8 + 8 ≡ i + 16 = omega arith in
-    rw (← e) (sets-append (sets l i (toBytes 8 x)) (i + 8) (toBytes 8 y) (toBytes 8 z)) ∙ sets-append l i (toBytes 8 x) (toBytes 8 y ++ toBytes 8 z)
+each-fits : (b n : ℕ) (f : ℕ → ℕ) → ((i : ℕ) → f i < 2 ^ 64) → Fit (replicate n 64) (eachFrom b n f)
+unfolding eachFrom
+each-fits b zero f h = none
+each-fits b (suc n) f h = one (h b) (each-fits (suc b) n f h)
 
-pub put-words : (l m n o : List ℕ) (i k r v a p q : ℕ) → a < 2 ^ 64 → p < 2 ^ 64 → q < 2 ^ 64 → a ≡ accessWord (accessIn k r v)
-    → m ≡ sets l i (toBytes 8 a) → n ≡ sets m (i + 8) (toBytes 8 p) → o ≡ sets n (i + 16) (toBytes 8 q) → o ≡ sets l i (recordOf (inputIn k r v p q))
-put-words l m n o i k r v a p q f g h e d x y =
-    let b : accessWord (accessIn k r v) < 2 ^ 64 = omega arith in
-    y ∙ rw (x, d, e) (words-set l i (accessWord (accessIn k r v)) p q) ∙ ap (sets l i) (sym (record-words k r v p q b g h))
+-- words of 64
+pub words-fit : (n : ℕ) (f : ℕ → ℕ) → ((i : ℕ) → f i < 2 ^ 64) → Fit (replicate n 64) (each n f)
+words-fit n f h = each-fits 0 n f h
+
+module _ (f : ℕ → ℕ) (h : (i : ℕ) → f i < 2 ^ 64) where
+  -- the number of the first n words
+  abbrev packed : ℕ → ℕ
+  packed n = pack (replicate n 64) (each n f)
+
+  total-words : (n : ℕ) → total (replicate n 64) ≡ 8 * (8 * n)
+  total-words zero = refl
+  total-words (suc n) = omega (arith, total-words n)
+
+  pub packed-lt : (n : ℕ) → packed n < 2 ^ (8 * (8 * n))
+  packed-lt n = subst (λ (k : ℕ). packed n < 2 ^ k) (total-words n) (pack-lt (words-fit n f h))
+
+  packed-next : (n : ℕ) → packed (suc n) ≡ packed n * 2 ^ 64 + f n
+  unfolding pack
+  packed-next n =
+      let r : replicate {A = ℕ} (suc n) 64 ≡ replicate n 64 ++ (64 ∷ []) = ap (λ (k : ℕ). replicate k 64) (let z : suc n ≡ n + 1 = omega arith in z) ∙ sym (replicate-append-replicate n 1 64) in
+      let e : each (suc n) f ≡ each n f ++ (f n ∷ []) = each-last 0 n f ∙ ap (λ (i : ℕ). each n f ++ (f i ∷ [])) (zero-add n) in
+      ap₂ pack r e ∙ pack-append (replicate n 64) (64 ∷ []) (each n f) (f n ∷ []) (length-each n f ∙ sym (length-replicate n 64)) ∙ omega arith
+
+  pub words-bytes : (n : ℕ) → wordBytes n f ≡ toBytes (8 * n) (packed n)
+  unfolding wordBytes unpack
+  words-bytes zero = refl
+  words-bytes (suc n) =
+      let z : 8 * n + 8 ≡ 8 * suc n = omega arith in
+      ap (λ (bs : List ℕ). bs ++ toBytes 8 (f n)) (words-bytes n)
+      ∙ sym (unpack-parts (replicate (8 * n) 8) (replicate 8 8) (packed n) (f n) (subst (λ (k : ℕ). packed n < 2 ^ k) (sym (total-bytes (8 * n))) (packed-lt n)) (h n))
+      ∙ ap₂ unpack (replicate-append-replicate (8 * n) 8 8 ∙ ap (λ (k : ℕ). replicate k 8) z) (sym (packed-next n))
+
+  pub length-words : (n : ℕ) → length (wordBytes n f) ≡ 8 * n
+  length-words n = ap length (words-bytes n) ∙ length-bytes (8 * n) (packed n)
+
+-- one more word behind those that stand
+pub put-word-next : (l out next : List ℕ) (at v : ℕ) (f : ℕ → ℕ) → ((i : ℕ) → f i < 2 ^ 64) → out ≡ sets l at (wordBytes v f)
+    → next ≡ sets out (at + 8 * v) (toBytes 8 (f v)) → next ≡ sets l at (wordBytes (suc v) f)
+unfolding wordBytes
+put-word-next l out next at v f h p q =
+    q ∙ ap₂ (λ (o : List ℕ) (n : ℕ). sets o (at + n) (toBytes 8 (f v))) p (sym (length-words f h v)) ∙ sets-append l at (wordBytes v f) (toBytes 8 (f v))
+
+-- ── a record: the access and two wire sets ──
+
+module _ (k r v : ℕ) (f g : ℕ → ℕ) (p : (i : ℕ) → f i < 2 ^ 64) (q : (i : ℕ) → g i < 2 ^ 64) where
+  abbrev word : ℕ
+  word = accessWord (accessOf k r v)
+
+  abbrev entry : Input
+  entry = inputIn k r v (each words f) (each words g)
+
+  record-parts : word < 2 ^ 64 → recordOf newest entry ≡ toBytes 8 word ++ (wordBytes words f ++ wordBytes words g)
+  unfolding recordOf accessWord
+  record-parts h =
+      let x = accessOf k r v in
+      let fs : List ℕ = kindOf x ∷ registerOf x ∷ 0 ∷ valueOf x ∷ [] in
+      let a : ℕ = pack (replicate words 64) (each words f) in
+      let b : ℕ = pack (replicate words 64) (each words g) in
+      let al : a < 2 ^ 64 = packed-lt f p words in
+      let bl : b < 2 ^ 64 = packed-lt g q words in
+      ap₂ (λ (m n : ℕ). toBytes 24 (pack (layout newest) (kindOf x ∷ registerOf x ∷ 0 ∷ valueOf x ∷ m ∷ n ∷ []))) (div-one a) (div-one b)
+      ∙ ap (toBytes 24) (pack-append accessLayout (64 ∷ 64 ∷ []) fs (a ∷ b ∷ []) refl)
+      ∙ unpack-parts (replicate 8 8) (replicate 16 8) word (pack (64 ∷ 64 ∷ []) (a ∷ b ∷ [])) h (pack-lt (one al (one bl none)))
+      ∙ ap (λ (l : List ℕ). toBytes 8 word ++ l)
+      (ap (toBytes 16) (pack-two 64 64 a b) ∙ unpack-parts (replicate 8 8) (replicate 8 8) a b al bl ∙ ap₂ (λ (l m : List ℕ). l ++ m) (sym (words-bytes f p words)) (sym (words-bytes g q words)))
+
+  pub put-parts : (l m n o : List ℕ) (i a : ℕ) → a < 2 ^ 64 → a ≡ word → m ≡ sets l i (toBytes 8 a) → n ≡ sets m (i + 8) (wordBytes words f)
+      → o ≡ sets n (i + 8 + 8 * words) (wordBytes words g) → o ≡ sets l i (recordOf newest entry)
+  unfolding unpack
+  put-parts l m n o i a h e x y z =
+      let b : word < 2 ^ 64 = omega arith in
+      let w : List ℕ = toBytes 8 word in
+      z ∙ ap (λ (k : List ℕ). sets k (i + 8 + 8 * words) (wordBytes words g)) (y ∙ ap (λ (k : List ℕ). sets k (i + 8) (wordBytes words f)) (x ∙ ap (λ (k : ℕ). sets l i (toBytes 8 k)) e))
+      ∙ ap (λ (k : ℕ). sets (sets (sets l i w) (i + 8) (wordBytes words f)) (i + 8 + k) (wordBytes words g)) (sym (length-words f p words))
+      ∙ sets-append (sets l i w) (i + 8) (wordBytes words f) (wordBytes words g)
+      ∙ sets-append l i w (wordBytes words f ++ wordBytes words g)
+      ∙ ap (sets l i) (sym (record-parts b))

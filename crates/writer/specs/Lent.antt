@@ -1,18 +1,17 @@
 -- How a list of accesses and samples is lent: five lists of numbers, of which entry i is tick i's.
 -- Assumes nothing.
-use Prim.Native.Nat.{ℕ, _*_, _≤_, _<_}
+use Prim.Native.Nat.{ℕ, _+_, _*_, _≤_, _<_}
 use mathlib.Core.Path.{_≡_}
 use mathlib.Core.Bool.{Bool, true, cond, _&&_}
-use mathlib.Core.List.{List, [], _∷_, _++_}
+use mathlib.Core.List.{List, [], _++_}
 use lib.Dec.{eqb}
 use lib.IntN.{ℤ}
 use lib.ListN.{getD, length, take, drop}
-use Rattle.bits.specs.Bits.{fits}
 use Rattle.bits.specs.Index.{each}
-use Rattle.rules.specs.Batch.{inputsOf}
-use Rattle.rules.specs.Record.{recordBytes, accessOf, kindOf, registerOf, valueOf}
+use Rattle.rules.specs.Edition.{newest, recordBytes}
+use Rattle.rules.specs.Record.{accessOf, kindOf, registerOf, valueOf, inputsOf}
+use Rattle.rules.specs.State.{words}
 use Rattle.rules.specs.Writer.{Written, WellFormed, writeVerdict, writeOf, write}
-use Rattle.rules.specs.declared.Access.{Access}
 use Rattle.rules.specs.declared.Input.{Input}
 use Rattle.rules.specs.declared.Refusal.the-variants.{NoRecord}
 use Rattle.rules.specs.declared.Verdict.{Verdict}
@@ -21,7 +20,7 @@ pub record Lent : Type 0 where
   pub kinds : List ℕ
   pub registers : List ℕ
   pub values : List ℕ
-  -- a word for each: alert 0 is the highest bit
+  -- the words of 64 of each: alert 0 is the highest bit of the first
   pub positive : List ℕ
   pub negative : List ℕ
 
@@ -29,15 +28,18 @@ abbrev pub lent : List ℕ → List ℕ → List ℕ → List ℕ → List ℕ �
 lent kinds registers values positive negative =
     record { kinds = kinds; registers = registers; values = values; positive = positive; negative = negative }
 
--- the access that a record of these fields holds; a kind over its 2 bits is no access
-abbrev pub accessIn : ℕ → ℕ → ℕ → Access
-accessIn kind register value = cond (fits 2 kind) (accessOf kind register 0 value) Access.Malformed
+-- word v of entry i, and the entry's words
+abbrev pub wordAt : List ℕ → ℕ → ℕ → ℕ
+wordAt list i v = getD list (i * words + v) 0
+
+abbrev pub wordsAt : List ℕ → ℕ → List ℕ
+wordsAt list i = each words (wordAt list i)
 
 abbrev pub inputAt : Lent → ℕ → Input
 inputAt l i =
     record {
-      access = accessIn (getD (l .kinds) i 0) (getD (l .registers) i 0) (getD (l .values) i 0);
-      sample = record { alerts = record { pos = getD (l .positive) i 0 ∷ []; neg = getD (l .negative) i 0 ∷ [] } };
+      access = accessOf (getD (l .kinds) i 0) (getD (l .registers) i 0) (getD (l .values) i 0);
+      sample = record { alerts = record { pos = wordsAt (l .positive) i; neg = wordsAt (l .negative) i } };
     }
 
 unfoldable pub listOf : Lent → List Input
@@ -47,11 +49,11 @@ abbrev pub even : Lent → Bool
 even l =
     eqb (length (l .registers)) (length (l .kinds))
     && (eqb (length (l .values)) (length (l .kinds))
-    && (eqb (length (l .positive)) (length (l .kinds)) && eqb (length (l .negative)) (length (l .kinds))))
+    && (eqb (length (l .positive)) (length (l .kinds) * words) && eqb (length (l .negative)) (length (l .kinds) * words)))
 
 -- lists of unequal lengths name a tick that lacks a part, which no record holds: 10
 unfoldable pub writeLent : Lent → List ℕ → Written
-writeLent l buffer = cond (even l) (write (listOf l) buffer) (writeOf (Verdict.Refused NoRecord) [] buffer)
+writeLent l buffer = cond (even l) (write newest (listOf l) buffer) (writeOf newest (Verdict.Refused NoRecord) [] buffer)
 
 -- what a call gives: the answer r and the buffer that it leaves
 pub record Wrote (l : Lent) (buffer : List ℕ) (r : ℤ) (left : List ℕ) : Type 0 where
@@ -69,10 +71,10 @@ Numbers l =
 -- reading what was written gives the same accesses and samples, for every list that is not refused
 abbrev pub ReadBack : Lent → List ℕ → List ℕ → Type 0
 ReadBack l buffer left =
-    even l ≡ true → writeVerdict (listOf l) buffer ≡ Verdict.Accepted
-    → (inputsOf (take (length (l .kinds) * recordBytes) left) ≡ listOf l) × Numbers l
+    even l ≡ true → writeVerdict newest (listOf l) buffer ≡ Verdict.Accepted
+    → (inputsOf newest (take (length (l .kinds) * recordBytes newest) left) ≡ listOf l) × Numbers l
 
 -- writing what was read gives the same bytes, for all well-formed records
 abbrev pub WrittenBack : Lent → List ℕ → List ℕ → Type 0
 WrittenBack l buffer left =
-    (bytes : List ℕ) → WellFormed bytes → even l ≡ true → listOf l ≡ inputsOf bytes → length bytes ≤ length buffer → left ≡ bytes ++ drop (length bytes) buffer
+    (bytes : List ℕ) → WellFormed newest bytes → even l ≡ true → listOf l ≡ inputsOf newest bytes → length bytes ≤ length buffer → left ≡ bytes ++ drop (length bytes) buffer

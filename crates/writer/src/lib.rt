@@ -1,16 +1,17 @@
-// Request (ii): a trace writer for a list of accesses and samples, lent as five lists of numbers of which entry i is tick i's.
+// Request (ii): a trace writer for a list of accesses and samples, lent as five lists of numbers: entry i is tick i's, and has WORDS words of
+// positive and of negative wires.
 mod bytes;
 mod recordable;
 mod records;
 
 use crate::recordable::any_unrecordable;
 use crate::recordable::are_uneven;
-use crate::records::RECORD;
 use crate::records::put_all;
+use answers::signed;
 use rules::Answer;
 use rules::Refusal;
 use rules::Verdict;
-use state::answer::signed;
+use trace::edition::BYTES_24;
 ghost use mathlib.Core.Path.{_≡_};
 ghost use Rattle.writer.specs.Lent.{lent, Wrote, ReadBack, WrittenBack};
 ghost use Rattle.writer.specs.Parts.{inOrder};
@@ -46,11 +47,11 @@ pub fn write(
         signed(Answer::Refused(Refusal::NoRecord))
     } else {
         let count = kinds.len();
-        let short = out.len() / RECORD < count;
+        let short = out.len() / BYTES_24 < count;
         match verdict_of(any_unrecordable(kinds, registers, values), short) {
             Verdict::Accepted => {
                 put_all(kinds, registers, values, positive, negative, out);
-                (count * RECORD) as i64
+                (count * BYTES_24) as i64
             }
             Verdict::Refused(m) => signed(Answer::Refused(m)),
         }

@@ -1,12 +1,24 @@
 // Refusal 10: what no well-formed record holds.
+use rules::WORDS;
+use trace::edition::REGISTERS_24;
 ghost use mathlib.Core.Path.{_≡_};
 ghost use mathlib.Core.Bool.{not};
-ghost use Prim.Native.Nat.{_≤_};
+ghost use Prim.Native.Nat.{_*_, _≤_};
+ghost use lib.Dec.{eqb};
 ghost use lib.ListN.{length};
 ghost use Rattle.bits.specs.Index.{anyTo};
-ghost use Rattle.rules.specs.Record.{recordable};
-ghost use Rattle.writer.specs.Lent.{lent, accessIn, even};
+ghost use Rattle.rules.specs.Edition.{newest};
+ghost use Rattle.rules.specs.Record.{accessOf, recordable};
+ghost use Rattle.rules.specs.State.{words};
+ghost use Rattle.writer.specs.Lent.{lent, even};
 ghost use Rattle.writer.specs.Parts.{unrecordableAt};
+
+// Whether a list has the words of as many entries: by a division, since a product may overflow.
+fn has_words(list: &[u64], count: usize) -> bool
+    ensures { λ r. ⌜ r ≡ eqb (length (now (list .entry))) (count * words) ⌝ }
+{
+    (list.len() / WORDS == count) & (list.len() % WORDS == 0)
+}
 
 // Whether some list is longer or shorter than another, so that a tick lacks a part.
 pub fn are_uneven(
@@ -20,18 +32,18 @@ pub fn are_uneven(
 {
     let count = kinds.len();
     let even = (registers.len() == count)
-        & ((values.len() == count) & ((positive.len() == count) & (negative.len() == count)));
+        & ((values.len() == count) & (has_words(positive, count) & has_words(negative, count)));
     !even
 }
 
-// Kind: 0 none, 1 read, 2 write. A register number has 10 bits; a read has no value, and kind 0 neither register nor value.
+// Kind: 0 none, 1 read, 2 write. A read has no value, and kind 0 neither register nor value.
 fn is_recordable(kind: u8, register: u16, value: u32) -> bool
-    ensures { λ r. ⌜ r ≡ recordable (accessIn kind register value) ⌝ }
+    ensures { λ r. ⌜ r ≡ recordable newest (accessOf kind register value) ⌝ }
 {
     match kind {
         0 => (register == 0) & (value == 0),
-        1 => (register < 1024) & (value == 0),
-        2 => register < 1024,
+        1 => (register < REGISTERS_24) & (value == 0),
+        2 => register < REGISTERS_24,
         _ => false,
     }
 }

@@ -1,45 +1,58 @@
 // Records in the lent buffer, of accesses and samples that well-formed records hold.
 use crate::bytes::put_word;
+use rules::WORDS;
+use trace::edition::BYTES_24;
+use trace::edition::REGISTER_AT_24;
 ghost use mathlib.Core.Path.{_≡_};
 ghost use mathlib.Core.Bool.{true};
 ghost use mathlib.Core.List.{_++_};
 ghost use Prim.Native.Nat.{_+_, _*_, _≤_};
 ghost use lib.ListN.{length, drop};
 ghost use lib.Seq.{sets};
-ghost use Rattle.rules.specs.Record.{recordBytes, recordOf, recordable};
+ghost use Rattle.rules.specs.Edition.{newest, recordBytes};
+ghost use Rattle.rules.specs.Record.{accessOf, recordOf, recordable};
+ghost use Rattle.rules.specs.State.{words};
 ghost use Rattle.rules.specs.Writer.{recordsOf};
-ghost use Rattle.writer.specs.Lent.{lent, accessIn, listOf};
-ghost use Rattle.writer.specs.Parts.{inputIn, accessWord, Ready};
-
-// The bytes of a record.
-pub const RECORD: usize = 24;
+ghost use Rattle.writer.specs.Lent.{lent, wordAt, wordsAt, listOf};
+ghost use Rattle.writer.specs.Parts.{inputIn, accessWord, wordBytes, Ready};
 
 // 2 bits kind, 10 bits register, 20 zero bits, 32 bits value.
 fn first_word(kind: u8, register: u16, value: u32) -> u64
-    requires { ⌜ recordable (accessIn kind register value) ≡ true ⌝ }
-    ensures { λ r. ⌜ r ≡ accessWord (accessIn kind register value) ⌝ }
+    requires { ⌜ recordable newest (accessOf kind register value) ≡ true ⌝ }
+    ensures { λ r. ⌜ r ≡ accessWord (accessOf kind register value) ⌝ }
 {
     let kind_bits = kind as u64;
     let register_bits = register as u64;
-    (kind_bits << 62) + (register_bits << 52) + value as u64
+    (kind_bits << 62) + (register_bits << REGISTER_AT_24) + value as u64
 }
 
-// A record: the access, 64 positive wires with alert 0 first, 64 negative wires.
+// The words of entry i of a list, eight bytes each.
+fn put_words(out: &mut [u8], at: usize, list: &[u64], i: usize)
+    requires { ⌜ (at + 8 * words ≤ length (now out)) × (i * words + words ≤ length (now list)) ⌝ }
+    ensures { λ _. ⌜ now (out .exit) ≡ sets (now (out .entry)) at (wordBytes words (wordAt (now (list .entry)) i)) ⌝ }
+{
+    for v in 0..WORDS {
+        put_word(out, at + 8 * v, list[i * WORDS + v]);
+    }
+}
+
+// The record of entry i: the access, the positive wires with alert 0 first, the negative wires.
 fn put_record(
     out: &mut [u8],
     at: usize,
     kind: u8,
     register: u16,
     value: u32,
-    positive: u64,
-    negative: u64,
+    positive: &[u64],
+    negative: &[u64],
+    i: usize,
 )
-    requires { ⌜ (at + recordBytes ≤ length (now out)) × (recordable (accessIn kind register value) ≡ true) ⌝ }
-    ensures { λ _. ⌜ now (out .exit) ≡ sets (now (out .entry)) at (recordOf (inputIn kind register value positive negative)) ⌝ }
+    requires { ⌜ (at + recordBytes newest ≤ length (now out)) × (recordable newest (accessOf kind register value) ≡ true) × (i * words + words ≤ length (now positive)) × (i * words + words ≤ length (now negative)) ⌝ }
+    ensures { λ _. ⌜ now (out .exit) ≡ sets (now (out .entry)) at (recordOf newest (inputIn kind register value (wordsAt (now (positive .entry)) i) (wordsAt (now (negative .entry)) i))) ⌝ }
 {
     put_word(out, at, first_word(kind, register, value));
-    put_word(out, at + 8, positive);
-    put_word(out, at + 16, negative);
+    put_words(out, at + 8, positive, i);
+    put_words(out, at + 8 + 8 * WORDS, negative, i);
 }
 
 // The records of all entries, from the start of the buffer.
@@ -52,18 +65,19 @@ pub fn put_all(
     out: &mut [u8],
 )
     requires { ⌜ Ready (lent (now kinds) (now registers) (now values) (now positive) (now negative)) (now out) ⌝ }
-    ensures { λ _. ⌜ now (out .exit) ≡ recordsOf (listOf (lent (now (kinds .entry)) (now (registers .entry)) (now (values .entry)) (now (positive .entry)) (now (negative .entry)))) ++ drop (length (now (kinds .entry)) * recordBytes) (now (out .entry)) ⌝ }
+    ensures { λ _. ⌜ now (out .exit) ≡ recordsOf newest (listOf (lent (now (kinds .entry)) (now (registers .entry)) (now (values .entry)) (now (positive .entry)) (now (negative .entry)))) ++ drop (length (now (kinds .entry)) * recordBytes newest) (now (out .entry)) ⌝ }
 {
     let mut i = 0;
     while i < kinds.len() {
         put_record(
             out,
-            i * RECORD,
+            i * BYTES_24,
             kinds[i],
             registers[i],
             values[i],
-            positive[i],
-            negative[i],
+            positive,
+            negative,
+            i,
         );
         i += 1;
     }

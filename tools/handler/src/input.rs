@@ -1,4 +1,5 @@
 //! What goes into a tick.
+use crate::state::WORDS;
 
 /// The access of a tick.
 #[derive(Clone, Copy, Debug, PartialEq, Eq)]
@@ -25,20 +26,21 @@ impl Access {
     }
 }
 
-/// The wires of a tick: alert 0 at the highest bit.
+/// The wires of a tick: those of alert i stand at bit 63 - i % 64 of words i / 64.
+#[repr(C)]
 #[derive(Clone, Copy, Debug, PartialEq, Eq)]
 pub struct Wires {
     /// The positive wires.
-    pub pos: u64,
+    pub pos: [u64; WORDS],
     /// The negative wires.
-    pub neg: u64,
+    pub neg: [u64; WORDS],
 }
 
 impl Wires {
     /// Every alert at (0,1).
     pub const REST: Wires = Wires {
-        pos: 0,
-        neg: u64::MAX,
+        pos: [0; WORDS],
+        neg: [u64::MAX; WORDS],
     };
 }
 

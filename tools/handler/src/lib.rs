@@ -16,6 +16,7 @@ pub use answer::{Answer, Refusal};
 pub use input::{Access, Input, Wires};
 pub use state::{
     Alerts, Class, Handler, Interrupts, Locals, Output, Receivers, ALERTS, CLASSES, LOCALS, PHASES,
+    WORDS,
 };
 pub use word::Word;
 pub use writer::{record, record_numbers};
@@ -44,7 +45,7 @@ impl Handler {
     /// One tick. Refusal 7: state unchanged, tick not run, no outputs. Refusals 1 to 5: the access does nothing, the tick runs.
     pub fn tick(self, access: Access, wires: Wires) -> Ticked {
         let (kind, register, value) = access.numbers();
-        let given = library::tick(self, kind, register, value, wires.pos, wires.neg);
+        let given = library::tick(self, kind, register, value, wires);
         Ticked {
             handler: given.handler,
             answer: Answer(given.answer),

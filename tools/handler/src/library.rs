@@ -1,4 +1,5 @@
 //! The functions of `libboundary.a`. The only unsafe lines of the tools.
+use crate::input::Wires;
 use crate::state::{Handler, Output};
 use crate::word::Word;
 
@@ -23,14 +24,7 @@ pub struct Batched {
 
 extern "C" {
     fn tarravane_new(n: usize) -> Made;
-    fn tarravane_tick(
-        h: Handler,
-        kind: u8,
-        register: u16,
-        value: u32,
-        pos: u64,
-        neg: u64,
-    ) -> Answered;
+    fn tarravane_tick(h: Handler, kind: u8, register: u16, value: u32, wires: Wires) -> Answered;
     fn tarravane_batch(
         h: Handler,
         bytes: *const u8,
@@ -59,9 +53,9 @@ pub fn new(n: usize) -> Made {
     unsafe { tarravane_new(n) }
 }
 
-pub fn tick(h: Handler, kind: u8, register: u16, value: u32, pos: u64, neg: u64) -> Answered {
+pub fn tick(h: Handler, kind: u8, register: u16, value: u32, wires: Wires) -> Answered {
     // Safe: integers in, integers out, no precondition.
-    unsafe { tarravane_tick(h, kind, register, value, pos, neg) }
+    unsafe { tarravane_tick(h, kind, register, value, wires) }
 }
 
 pub fn batch(h: Handler, bytes: &[u8], out: &mut [Word]) -> Batched {

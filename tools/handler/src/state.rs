@@ -3,6 +3,8 @@ use std::mem::{offset_of, size_of};
 
 /// The most alerts that a handler is made for.
 pub const ALERTS: usize = 64;
+/// The words of 64 that hold a bit of each alert.
+pub const WORDS: usize = 1;
 /// Local alerts.
 pub const LOCALS: usize = 7;
 /// Classes.
@@ -38,8 +40,8 @@ pub struct Class {
 #[repr(C)]
 #[derive(Clone, Copy, Debug, PartialEq, Eq)]
 pub struct Receivers {
-    /// Alert i is re-armed if bit 63 - i is 1.
-    pub armed: [u64; 1],
+    /// Alert i is re-armed if bit 63 - i % 64 of word i / 64 is 1.
+    pub armed: [u64; WORDS],
 }
 
 /// The registers of the alerts; entry i is alert i's. Entries at n and above are no registers, and no call changes them.

@@ -11,13 +11,13 @@ pub fn record(inputs: &[Input], out: &mut [u8]) -> Answer {
     let kinds: Vec<u8> = numbers().map(|(kind, _, _)| kind).collect();
     let registers: Vec<u16> = numbers().map(|(_, register, _)| register).collect();
     let values: Vec<u32> = numbers().map(|(_, _, value)| value).collect();
-    let positive: Vec<u64> = inputs.iter().map(|input| input.wires.pos).collect();
-    let negative: Vec<u64> = inputs.iter().map(|input| input.wires.neg).collect();
+    let positive: Vec<u64> = inputs.iter().flat_map(|input| input.wires.pos).collect();
+    let negative: Vec<u64> = inputs.iter().flat_map(|input| input.wires.neg).collect();
     record_numbers(&kinds, &registers, &values, &positive, &negative, out)
 }
 
-/// The same of five lists of numbers, of which entry i is tick i's: kind (0 none, 1 read, 2 write), register, value, positive
-/// and negative wires. Refusal 10 also for lists of unequal lengths, a kind over 2, a read with a value, and kind 0 with a
+/// The same of five lists of numbers, of which entry i is tick i's: kind (0 none, 1 read, 2 write), register, value, and the
+/// positive and negative wires, `WORDS` words for each entry. Refusal 10 also for lists of unequal lengths, a kind over 2, a read with a value, and kind 0 with a
 /// register or value.
 pub fn record_numbers(
     kinds: &[u8],

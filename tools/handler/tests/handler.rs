@@ -4,8 +4,8 @@ use harness::record::record;
 
 const REST: Wires = Wires::REST;
 const RAISE: Wires = Wires {
-    pos: 1 << 63,
-    neg: u64::MAX >> 1,
+    pos: [1 << 63],
+    neg: [u64::MAX >> 1],
 };
 
 fn made(n: usize) -> Handler {
@@ -78,7 +78,7 @@ fn a_batch_is_its_ticks() {
     let mut given = Vec::new();
     for (i, (kind, register, value)) in on.into_iter().enumerate() {
         let wires = if i == 3 { RAISE } else { REST };
-        bytes.extend(record(kind, register, value, (wires.pos, wires.neg)));
+        bytes.extend(record(kind, register, value, (wires.pos[0], wires.neg[0])));
         let access = match kind {
             0 => Access::Nothing,
             1 => Access::Read(register as u16),

@@ -5,7 +5,10 @@ use harness::record::record as packed;
 fn input(access: Access, pos: u64, neg: u64) -> Input {
     Input {
         access,
-        wires: Wires { pos, neg },
+        wires: Wires {
+            pos: [pos],
+            neg: [neg],
+        },
     }
 }
 

@@ -62,8 +62,8 @@ pub fn input(record: &[u8; RECORD]) -> Input {
         _ => Access::Malformed,
     };
     let wires = Wires {
-        pos: number(&record[8..16]),
-        neg: number(&record[16..]),
+        pos: [number(&record[8..16])],
+        neg: [number(&record[16..])],
     };
     Input { access, wires }
 }

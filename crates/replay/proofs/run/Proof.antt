@@ -2,31 +2,37 @@
 -- The measure is the number of turns that are left. Assumes nothing.
 use Prim.Native.Nat.{_*_}
 use mathlib.Core.List.{[]}
-use mathlib.Core.Path.{_≡_}
+use mathlib.Core.Path.{_≡_, sym, ap, _∙_}
 use borrow.Author.Needs.{needs}
 use lib.ListN.{length}
-use Rattle.rules.specs.Record.{recordBytes}
+use Rattle.rules.specs.Edition.{recordBytes}
+use Rattle.rules.specs.declared.Edition.{Edition}
+use Rattle.trace.proofs.Records.{only}
 use Rattle.replay.specs.Rest.{Turned}
-use Rattle.replay.proofs.TurnLaws.{turned-next, turned-start, turned-valid}
+use Rattle.replay.proofs.TurnLaws.{turned-next, turned-start, turned-admits}
 use Rattle.replay.proofs.run.Statement.{statement}
 use Rattle.replay.proofs.run.Tie as tie
 
 abbrev Inv-loop : tie.InvT-loop
-Inv-loop bytes₀ handler₀ rest₀ turns₀ bytes handler rest turns = (length bytes ≡ 2048 * recordBytes) × Turned handler₀ [] handler rest bytes
+Inv-loop edition bytes₀ handler₀ rest₀ turns₀ bytes handler rest turns = (length bytes ≡ 2048 * recordBytes edition) × Turned edition handler₀ [] handler rest bytes
 
 abbrev μ-loop : tie.MeasureT-loop
-μ-loop bytes₀ handler₀ rest₀ turns₀ bytes handler rest turns = turns
+μ-loop edition bytes₀ handler₀ rest₀ turns₀ bytes handler rest turns = turns
+
+-- the buffer has the bytes of 2048 records
+room : (e : Edition) → 2048 * recordBytes e ≡ 49152
+room e = ap (λ (f : Edition). 2048 * recordBytes f) (only e)
 
 loop-holds : tie.Need-loop-holds Inv-loop μ-loop
-loop-holds c = (search needs, turned-start _ _)
+loop-holds c = (sym (room (c .args .edition)), turned-start _ _ _)
 
 slice-aggregate-take-turn : tie.Need-slice-aggregate-take-turn Inv-loop μ-loop
-slice-aggregate-take-turn c = search needs
+slice-aggregate-take-turn c = sym (c .before .before .loop .inv .0 ∙ room (c .before .before .before .args .edition))
 
 take-turn-requires : tie.Need-take-turn-requires Inv-loop μ-loop
 take-turn-requires c κs =
     let s = c .before .before .loop .inv in
-    (turned-valid _ _ _ _ _ (c .before .before .before .pre) (s .1), s .0, s .1 .ran .kept .short)
+    (turned-admits _ _ _ _ _ _ (c .before .before .before .pre) (s .1), s .0, s .1 .ran .kept .short)
 
 returns : tie.Need-returns Inv-loop μ-loop
 returns c = tt
@@ -40,7 +46,7 @@ loop-less c = search needs
 loop-again : tie.Need-loop-again Inv-loop μ-loop
 loop-again c =
     let s = c .before .before .before .before .before .before .before .loop .inv in
-    (search needs, turned-next _ _ _ _ _ (s .1) _ _ _ (c .before .before .before .before .take-turn .ensures))
+    (search needs, turned-next _ _ _ _ _ _ (s .1) _ _ _ (c .before .before .before .before .take-turn .ensures))
 
 returns-2 : tie.Need-returns-2 Inv-loop μ-loop
 returns-2 c = tt

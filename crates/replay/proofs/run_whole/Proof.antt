@@ -1,14 +1,21 @@
 -- `replay::run_whole` meets its contract: the words of the whole records fit the text, and what is kept is their rest.
 -- Assumes nothing.
-use Prim.Native.Nat.{_*_, _≤_}
+use Prim.Native.Nat.{ℕ, _*_, _≤_}
 use mathlib.Core.Path.{_≡_}
+use mathlib.Core.List.{List}
 use native.Mathlib.Omega.{arith}
 use borrow.Author.Needs.{needs}
 use lib.ListN.{length, take, length-take}
-use Rattle.rules.specs.Batch.{recordCount}
-use Rattle.rules.specs.Record.{recordBytes}
+use Rattle.rules.specs.Edition.{recordBytes}
+use Rattle.rules.specs.declared.Edition.{Edition}
+use Rattle.rules.specs.Record.{recordCount}
+use Rattle.replay.proofs.Whole.{few-records}
 use Rattle.replay.proofs.run_whole.Statement.{statement}
 use Rattle.replay.proofs.run_whole.Tie as tie
+
+-- the buffer's bytes hold 2048 records at most
+few : (e : Edition) (bytes : List ℕ) (count : ℕ) → length bytes ≡ 2048 * recordBytes e → recordCount e (take count bytes) ≤ 2048
+few e bytes count l = few-records e (take count bytes) 2048 (simp length-take (omega arith))
 
 slice-reshare-prefix-replay : tie.Need-slice-reshare-prefix-replay
 slice-reshare-prefix-replay c = search needs
@@ -20,7 +27,10 @@ slice-aggregate-replay-2 : tie.Need-slice-aggregate-replay-2
 slice-aggregate-replay-2 c = search needs
 
 replay-requires : tie.Need-replay-requires
-replay-requires c κs = (c .before .before .before .pre .0, simp length-take (omega arith), simp length-take (omega arith))
+replay-requires c κs =
+    let begin = c .before .before .before in
+    let f = few (begin .args .edition) (begin .args .bytes .now) (begin .args .count) (begin .pre .1) in
+    (begin .pre .0, f, omega (arith, f))
 
 keep-rest-requires : tie.Need-keep-rest-requires
 keep-rest-requires c κs = search needs
@@ -29,17 +39,17 @@ array-share-prefix-text : tie.Need-array-share-prefix-text
 array-share-prefix-text c =
     let a = c .before .before .before .before .before .before .before .before .before .before .args in
     let r = c .before .before .before .before .before .before .replay in
-    let e : r .result .written ≡ 17 * recordCount (take (a .count) (a .bytes .now)) = r .ensures .written in
-    let l : length (take (a .count) (a .bytes .now)) ≤ 2048 * recordBytes = simp length-take (omega arith) in
-    omega arith
+    let e : r .result .written ≡ 17 * recordCount (a .edition) (take (a .count) (a .bytes .now)) = r .ensures .written in
+    let f = few (a .edition) (a .bytes .now) (a .count) (c .before .before .before .before .before .before .before .before .before .before .pre .1) in
+    omega (arith, e, f)
 
 slice-aggregate-print : tie.Need-slice-aggregate-print
 slice-aggregate-print c =
     let a = c .before .before .before .before .before .before .before .before .before .before .before .args in
     let r = c .before .before .before .before .before .before .before .replay in
-    let e : r .result .written ≡ 17 * recordCount (take (a .count) (a .bytes .now)) = r .ensures .written in
-    let l : length (take (a .count) (a .bytes .now)) ≤ 2048 * recordBytes = simp length-take (omega arith) in
-    simp length-take (omega arith)
+    let e : r .result .written ≡ 17 * recordCount (a .edition) (take (a .count) (a .bytes .now)) = r .ensures .written in
+    let f = few (a .edition) (a .bytes .now) (a .count) (c .before .before .before .before .before .before .before .before .before .before .before .pre .1) in
+    simp length-take (omega (arith, e, f))
 
 print-requires : tie.Need-print-requires
 print-requires c κs = search needs

@@ -19,7 +19,7 @@ same-length c = search needs
 returns : tie.Need-returns
 returns c =
     let start = c .before .before .before .before .before .before .before .before in
-    turned-none _ _ _ _ (start .pre .2) (c .before .before .before .before .before .read-behind .ensures .1)
+    turned-none _ _ _ _ _ (start .pre .2) (c .before .before .before .before .before .read-behind .ensures .1)
 
 add-run-whole : tie.Need-add-run-whole
 add-run-whole c = search needs
@@ -35,7 +35,7 @@ returns-2 c =
     let start = c .before .before .before .before .before .before .before .before .before .before .before .before in
     let read = c .before .before .before .before .before .before .before .before .before .read-behind in
     let l : start .args .rest ≤ start .args .rest + read .result .count = omega arith in
-    turned-read _ _ _ _ _ l (read .ensures .1) _ _ _ (c .before .before .run-whole .ensures)
+    turned-read _ _ _ _ _ _ l (read .ensures .1) _ _ _ (c .before .before .run-whole .ensures)
 
 pub take-turn-spec : {M : Type 1} → statement M
 take-turn-spec =

@@ -11,7 +11,7 @@ use lib.ListN.{length}
 use mir.Facts.{toZ-pos, toZ-ofZ}
 use mir.Syntax.{w64}
 use mir.Val.{toZ, ofZ}
-use Rattle.rules.specs.Record.{recordBytes}
+use Rattle.rules.specs.Edition.{newest, recordBytes}
 use Rattle.rules.specs.Writer.{writeVerdict}
 use Rattle.writer.specs.Lent.{Lent, listOf, even, Wrote, ReadBack, WrittenBack}
 use Rattle.writer.specs.Parts.{Ready}
@@ -41,14 +41,14 @@ unequal-lengths c = sym (c .before .are-uneven .ensures) ∙ c .if1 .taken
 equal-lengths : (c : tie.Else1) → not (even (lent (c .before .before))) ≡ false
 equal-lengths c = sym (c .before .are-uneven .ensures) ∙ c .if1 .left
 
-verdict : (c : tie.After-verdict-of) → c .verdict-of .result ≡ writeVerdict (listOf (lent (c .before .before .before .before))) (buffer (c .before .before .before .before))
+verdict : (c : tie.After-verdict-of) → c .verdict-of .result ≡ writeVerdict newest (listOf (lent (c .before .before .before .before))) (buffer (c .before .before .before .before))
 verdict c = judged _ _ _ _ (c .verdict-of .ensures) (c .before .any-unrecordable .ensures)
 
 is-ready : (c : tie.After-enum-told) → let k = c .before .before .before .before .before .before in Ready (lent k) (buffer k)
 is-ready c = let judge = c .before .before in ready _ _ (equal-lengths (judge .before .before)) (sym (verdict judge) ∙ c .enum-told .given .1)
 
 -- a slice of bytes is shorter than 2 ^ 63
-count-fits : (c : tie.After-enum-told) → length (lent (c .before .before .before .before .before .before) .kinds) * recordBytes < 2 ^ 63
+count-fits : (c : tie.After-enum-told) → length (lent (c .before .before .before .before .before .before) .kinds) * recordBytes newest < 2 ^ 63
 count-fits c =
     let known = c .before .before .before .before .before .before in
     omega (arith, is-ready c .room, known .before .before .before .before .before .before .good .1 .1 .1 .1 .1 .0 .1)

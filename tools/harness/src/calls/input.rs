@@ -39,7 +39,10 @@ pub fn wires(rng: &mut Rng) -> Wires {
     } else {
         rng.pick(&pair)
     };
-    Wires { pos, neg }
+    Wires {
+        pos: [pos],
+        neg: [neg],
+    }
 }
 
 /// Any record, one in eight malformed.
@@ -60,5 +63,5 @@ pub fn record(rng: &mut Rng) -> [u8; RECORD] {
         _ => {}
     }
     let wires = wires(rng);
-    pack(head, wires.pos, wires.neg)
+    pack(head, wires.pos[0], wires.neg[0])
 }

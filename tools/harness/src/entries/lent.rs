@@ -49,8 +49,8 @@ impl Lent<'_> {
             register: self.registers[at],
             value: self.values[at],
             wires: Wires {
-                pos: self.positive[at],
-                neg: self.negative[at],
+                pos: [self.positive[at]],
+                neg: [self.negative[at]],
             },
         };
         (0..count).map(row).collect()
@@ -84,8 +84,8 @@ impl Entries {
             kinds: all.iter().map(|row| row.kind).collect(),
             registers: all.iter().map(|row| row.register).collect(),
             values: all.iter().map(|row| row.value).collect(),
-            positive: all.iter().map(|row| row.wires.pos).collect(),
-            negative: all.iter().map(|row| row.wires.neg).collect(),
+            positive: all.iter().map(|row| row.wires.pos[0]).collect(),
+            negative: all.iter().map(|row| row.wires.neg[0]).collect(),
             lengths: [rows.len(); 5],
         }
     }

@@ -26,8 +26,8 @@ impl Row {
         let far = rng.bits() as u16 & LARGEST;
         let any = rng.bits() as u32;
         let random = Wires {
-            pos: rng.bits(),
-            neg: rng.bits(),
+            pos: [rng.bits()],
+            neg: [rng.bits()],
         };
         let mut row = Row {
             kind: rng.pick(&[0, 1, 1, 2, 2]),

@@ -21,7 +21,7 @@ pub fn tick(
     let (access, wires) = (access(rng), wires(rng));
     let mut twin = reference_of(state);
     let valid = twin.valid();
-    let wanted = twin.tick(reference_access(access), wires.pos, wires.neg);
+    let wanted = twin.tick(reference_access(access), wires.pos[0], wires.neg[0]);
     let got = (subject.tick)(*state, access, wires);
     if valid {
         summary.ticks[wanted.answer.min(0).unsigned_abs() as usize] += 1;

@@ -62,7 +62,10 @@ fn row_of((access, pos, neg): (reference::Access, u64, u64)) -> Row {
         kind,
         register,
         value,
-        wires: Wires { pos, neg },
+        wires: Wires {
+            pos: [pos],
+            neg: [neg],
+        },
     }
 }
 

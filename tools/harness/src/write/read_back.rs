@@ -35,7 +35,11 @@ fn parse_odd(rows: &[Row], bytes: &[u8]) -> Option<Odd> {
         return Some(Odd::new(READING, "bytes", length, bytes.len()));
     }
     for (at, (row, record)) in rows.iter().zip(bytes.chunks_exact(RECORD)).enumerate() {
-        let wanted = (reference_access(row.access()), row.wires.pos, row.wires.neg);
+        let wanted = (
+            reference_access(row.access()),
+            row.wires.pos[0],
+            row.wires.neg[0],
+        );
         let got = parse(record.try_into().expect("a record"));
         if wanted != got {
             let field = format!("record {at}");
@@ -85,7 +89,7 @@ fn reference_odd(n: usize, rows: &[Row], bytes: &[u8], summary: &mut Summary) ->
     }
     for (at, (row, got)) in rows.iter().zip(&words).enumerate() {
         let access = reference_access(row.access());
-        let wanted = word(&state.tick(access, row.wires.pos, row.wires.neg));
+        let wanted = word(&state.tick(access, row.wires.pos[0], row.wires.neg[0]));
         if wanted != *got {
             return Some(Odd::word(REFERENCE_BATCH, at, wanted, *got));
         }

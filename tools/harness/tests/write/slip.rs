@@ -114,6 +114,6 @@ pub fn held(row: &Row) -> bool {
 pub fn pour(rows: &[Row], out: &mut [u8]) {
     for (row, place) in rows.iter().zip(out.chunks_exact_mut(RECORD)) {
         let head = Head::new(row.kind & 3, row.register & LARGEST, row.value);
-        place.copy_from_slice(&pack(head, row.wires.pos, row.wires.neg));
+        place.copy_from_slice(&pack(head, row.wires.pos[0], row.wires.neg[0]));
     }
 }

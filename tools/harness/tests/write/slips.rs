@@ -12,8 +12,8 @@ pub const SLIPS: &[Slip] = &[
         swap(&mut row.wires.pos, &mut row.wires.neg)
     }),
     Takes("alert 0 last", |row| {
-        row.wires.pos = row.wires.pos.reverse_bits();
-        row.wires.neg = row.wires.neg.reverse_bits();
+        row.wires.pos[0] = row.wires.pos[0].reverse_bits();
+        row.wires.neg[0] = row.wires.neg[0].reverse_bits();
     }),
     Takes("the kind cut to two bits", |row| row.kind &= 3),
     Takes("kind 3 taken for a write", |row| {

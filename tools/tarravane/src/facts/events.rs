@@ -28,7 +28,7 @@ pub fn alerts(t: &Tick) -> impl Iterator<Item = usize> {
 
 /// Does an enabled alert have equal wires?
 fn fails(h: &Handler, wires: Wires) -> bool {
-    let equal = !(wires.pos ^ wires.neg);
+    let equal = !(wires.pos[0] ^ wires.neg[0]);
     equal != 0 && members(equal).any(|i| i < h.n && is_enabled(h, i))
 }
 

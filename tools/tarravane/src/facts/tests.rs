@@ -52,12 +52,12 @@ fn input(rng: &mut Rng) -> Input {
     let wires = match rng.below(4) {
         0 => Wires::REST,
         1 => Wires {
-            pos: raised,
-            neg: u64::MAX,
+            pos: [raised],
+            neg: [u64::MAX],
         },
         _ => Wires {
-            pos: raised,
-            neg: !raised,
+            pos: [raised],
+            neg: [!raised],
         },
     };
     Input { access, wires }

@@ -83,8 +83,8 @@ mod tests {
         let input = Input {
             access: Access::Write(321, 14655),
             wires: Wires {
-                pos: 1 << 63,
-                neg: u64::MAX >> 1,
+                pos: [1 << 63],
+                neg: [u64::MAX >> 1],
             },
         };
         let line = "write CLASSA_CTRL 0x393f wires 0=10";

@@ -61,8 +61,8 @@ pub fn parse<'a>(words: impl Iterator<Item = &'a str>) -> Result<Wires, String> 
             named |= bit(i);
         }
         let all = (run.first..=run.last).fold(0, |all, i| all | bit(i));
-        wires.pos = if run.pos { wires.pos | all } else { wires.pos };
-        wires.neg = if run.neg { wires.neg } else { wires.neg & !all };
+        wires.pos[0] |= if run.pos { all } else { 0 };
+        wires.neg[0] &= if run.neg { u64::MAX } else { !all };
     }
     match named {
         0 => Err("wires wants I=PQ or I-J=PQ".to_string()),
@@ -72,7 +72,7 @@ pub fn parse<'a>(words: impl Iterator<Item = &'a str>) -> Result<Wires, String> 
 
 /// The alerts that are not at (0,1), each by its bit.
 fn off_rest(wires: Wires) -> u64 {
-    wires.pos | !wires.neg
+    wires.pos[0] | !wires.neg[0]
 }
 
 /// How many alerts are not at (0,1).
@@ -89,7 +89,7 @@ pub fn first_off_rest(wires: Wires, from: usize) -> Option<usize> {
 fn runs(wires: Wires) -> Vec<Run> {
     let mut all: Vec<Run> = Vec::new();
     for i in (0..ALERTS).filter(|&i| off_rest(wires) & bit(i) != 0) {
-        let (pos, neg) = (wires.pos & bit(i) != 0, wires.neg & bit(i) != 0);
+        let (pos, neg) = (wires.pos[0] & bit(i) != 0, wires.neg[0] & bit(i) != 0);
         match all.last_mut() {
             Some(run) if (run.last + 1, run.pos, run.neg) == (i, pos, neg) => run.last = i,
             _ => all.push(Run {
@@ -130,27 +130,19 @@ mod tests {
     #[test]
     fn wires_go_both_ways() {
         let (pos, neg) = (0x0123_4567_89AB_CDEF, 0x00FF_0F0F_3333_5555);
-        for wires in [
-            Wires { pos, neg },
-            Wires { pos: neg, neg: pos },
-            Wires { pos: 0, neg: 0 },
-            Wires {
-                pos: u64::MAX,
-                neg: 0,
-            },
-            Wires {
-                pos: u64::MAX,
-                neg: u64::MAX,
-            },
-            Wires {
-                pos: 1,
-                neg: u64::MAX,
-            },
-            Wires {
-                pos: 0,
-                neg: u64::MAX >> 1,
-            },
+        for (pos, neg) in [
+            (pos, neg),
+            (neg, pos),
+            (0, 0),
+            (u64::MAX, 0),
+            (u64::MAX, u64::MAX),
+            (1, u64::MAX),
+            (0, u64::MAX >> 1),
         ] {
+            let wires = Wires {
+                pos: [pos],
+                neg: [neg],
+            };
             let text = words(wires);
             let pairs = text.strip_prefix(" wires ").expect("it is off rest");
             assert_eq!(parsed(pairs), Ok(wires), "{text}");
@@ -161,8 +153,8 @@ mod tests {
     #[test]
     fn alert_0_is_the_highest_bit() {
         let wires = Wires {
-            pos: 0b11 << 62,
-            neg: u64::MAX << 1 & !(1 << 63),
+            pos: [0b11 << 62],
+            neg: [u64::MAX << 1 & !(1 << 63)],
         };
         assert_eq!(words(wires), " wires 0=10 1=11 63=00");
         assert_eq!(parsed("63=00 1=11 0=10 5-9=01"), Ok(wires));

@@ -1,7 +1,7 @@
 -- `drives` is line e's enable with the phase that its map names.
 -- Assumes nothing.
 use borrow.Author.Needs.{needs}
-use Rattle.classes.specs.Class.{drives}
+use Rattle.class_rules.specs.Class.{drives}
 use Rattle.class.proofs.lines.drives.Statement.{statement}
 use Rattle.class.proofs.lines.drives.Tie as tie
 

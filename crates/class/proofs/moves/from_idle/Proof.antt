@@ -1,7 +1,7 @@
 -- `from_idle` is Idle's move, by its two tests.
 -- Assumes nothing.
 use borrow.Author.Needs.{needs}
-use Rattle.classes.specs.Step.{movedFrom}
+use Rattle.class_rules.specs.Step.{movedFrom}
 use Rattle.class.proofs.moves.from_idle.Statement.{statement}
 use Rattle.class.proofs.moves.from_idle.Tie as tie
 

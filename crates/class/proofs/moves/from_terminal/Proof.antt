@@ -1,6 +1,6 @@
 -- `from_terminal` is Terminal's move, by its one test.
 -- Assumes nothing.
-use Rattle.classes.specs.Step.{movedFrom}
+use Rattle.class_rules.specs.Step.{movedFrom}
 use Rattle.class.proofs.moves.from_terminal.Statement.{statement}
 use Rattle.class.proofs.moves.from_terminal.Tie as tie
 

@@ -4,7 +4,7 @@ use Prim.Native.Nat.{_<_}
 use mathlib.Core.Path.{sym, _∙_}
 use native.Mathlib.Omega.{arith}
 use borrow.Author.Needs.{needs}
-use Rattle.classes.specs.Step.{movedFrom}
+use Rattle.class_rules.specs.Step.{movedFrom}
 use Rattle.class.proofs.Waiting.{waiting}
 use Rattle.class.proofs.moves.from_timeout.Statement.{statement}
 use Rattle.class.proofs.moves.from_timeout.Tie as tie

@@ -1,7 +1,7 @@
 -- `moved_from` is the move of step 4, arm by arm.
 -- Assumes nothing.
 use borrow.Author.Needs.{needs}
-use Rattle.classes.specs.Step.{movedFrom}
+use Rattle.class_rules.specs.Step.{movedFrom}
 use Rattle.class.proofs.moves.moved_from.Statement.{statement}
 use Rattle.class.proofs.moves.moved_from.Tie as tie
 

@@ -1,7 +1,7 @@
 -- `starts_from` says which states go to Phase 0, arm by arm.
 -- Assumes nothing.
 use borrow.Author.Needs.{needs}
-use Rattle.classes.specs.Step.{startsFrom}
+use Rattle.class_rules.specs.Step.{startsFrom}
 use Rattle.class.proofs.moves.starts_from.Statement.{statement}
 use Rattle.class.proofs.moves.starts_from.Tie as tie
 

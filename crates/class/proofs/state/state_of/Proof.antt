@@ -1,7 +1,7 @@
 -- `state_of` gives the state that STATE's number names: each number by its own arm, the rest Idle.
 -- Assumes nothing.
 use borrow.Author.Tests.{ne-eqb}
-use Rattle.classes.specs.Class.{stateOf}
+use Rattle.class_rules.specs.Class.{stateOf}
 use Rattle.class.proofs.state.state_of.Statement.{statement}
 use Rattle.class.proofs.state.state_of.Tie as tie
 

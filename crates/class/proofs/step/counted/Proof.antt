@@ -2,7 +2,7 @@
 -- Assumes nothing.
 use borrow.Author.Tests.{le-ltb, lt-ltb}
 use borrow.Author.Needs.{needs}
-use Rattle.classes.specs.Step.{counted}
+use Rattle.class_rules.specs.Step.{counted}
 use Rattle.class.proofs.step.counted.Statement.{statement}
 use Rattle.class.proofs.step.counted.Tie as tie
 

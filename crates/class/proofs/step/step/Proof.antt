@@ -1,7 +1,7 @@
 -- `step` is steps 3 and 4 of a class: each field as the function that makes it ensures.
 -- Assumes nothing.
 use borrow.Author.Needs.{needs}
-use Rattle.classes.specs.Step.{classStep}
+use Rattle.class_rules.specs.Step.{classStep}
 use Rattle.class.proofs.step.step.Statement.{statement}
 use Rattle.class.proofs.step.step.Tie as tie
 

@@ -1,5 +1,8 @@
--- `interrupt_bit` is 1 exactly where the interrupt bit is now set.
+-- `interrupt_bit` is the interrupt bit of class k as a number.
 -- Assumes nothing.
+use mathlib.Core.Path.{ap, _∙_}
+use mathlib.Core.Bool.{Bool}
+use Rattle.bits.specs.Bits.{num}
 use borrow.Author.Needs.{needs}
 use Rattle.handler.proofs.four.interrupt_bit.Statement.{statement}
 use Rattle.handler.proofs.four.interrupt_bit.Tie as tie
@@ -7,11 +10,11 @@ use Rattle.handler.proofs.four.interrupt_bit.Tie as tie
 interrupt-requires : tie.Need-interrupt-requires
 interrupt-requires c κs = search needs
 
-returns : tie.Need-returns
-returns c = (rw (← c .before .interrupt .ensures, c .if1 .taken), search needs)
+num-requires : tie.Need-num-requires
+num-requires c κs = search needs
 
-returns-2 : tie.Need-returns-2
-returns-2 c = (rw (← c .before .interrupt .ensures, c .if1 .left), search needs)
+returns : tie.Need-returns
+returns c = (c .num .ensures .0 ∙ ap (λ (b : Bool). num b) (c .before .interrupt .ensures), c .num .ensures .1)
 
 pub interrupt-bit-spec : {M : Type 1} → statement M
-interrupt-bit-spec = tie.close (tie.spec interrupt-requires returns returns-2)
+interrupt-bit-spec = tie.close (tie.spec interrupt-requires num-requires returns)

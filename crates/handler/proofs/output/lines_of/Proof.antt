@@ -1,7 +1,7 @@
 -- `lines_of` has at bit e whether any class drives line e.
 -- Assumes nothing.
 use lib.ListN.{getD}
-use Rattle.classes.specs.Class.{drives, noClass}
+use Rattle.class_rules.specs.Class.{drives, noClass}
 use Rattle.handler.specs.Outputs.{linesOn}
 use Rattle.handler.proofs.Masks.{or-four}
 use borrow.Author.Needs.{needs}

@@ -1,7 +1,13 @@
 -- `number::block_at` meets its contract, offset by offset.
 -- Assumes nothing.
 use mathlib.Core.Path.{sym}
-use Rattle.map.proofs.Ranges.{past, past-six, block-phase, block-none}
+use Prim.Native.Nat.{_-_}
+use mathlib.Core.Path.{ap, _∙_}
+use native.Mathlib.Omega.{arith}
+use borrow.Author.Tests.{lt-ltb}
+use Rattle.laws.proofs.MapLaws.{block-at, block-none}
+use Rattle.rules.specs.declared.Setting.the-variants.{PhaseCyc}
+use Rattle.map.proofs.Ranges.{past, past-six}
 use Rattle.rules.specs.Map.{blockAt}
 use Rattle.map.proofs.number.block_at.Statement.{statement}
 use Rattle.map.proofs.number.block_at.Tie as tie
@@ -48,7 +54,12 @@ unfolding blockAt
 returns-9 c = rw (c .match .keys9)
 
 returns-10 : tie.Need-returns-10
-returns-10 c = sym (block-phase (c .before .before .args .k) (c .before .before .args .o) (sub-t14 c) (c .if1 .taken))
+returns-10 c =
+    let o = c .before .before .args .o in
+    let k = c .before .before .args .k in
+    let l = c .if1 .taken in
+    let h = sub-t14 c in
+    sym (block-at k (PhaseCyc (o - 7)) (lt-ltb (o - 7) 4 (omega (arith, h, l)))) ∙ ap (blockAt k) (omega (arith, h))
 
 returns-11 : tie.Need-returns-11
 returns-11 c =

@@ -1,8 +1,9 @@
 -- `access::access` meets its contract by the verdict.
 -- Assumes nothing.
 use mathlib.Core.Path.{sym, _∙_}
-use Rattle.registers.proofs.Accesses.{accepted-fits, accepted-does, refused-does}
+use Rattle.registers.proofs.Accesses.{accepted-fits, does}
 use borrow.Author.Needs.{needs}
+use Rattle.rules.specs.declared.Verdict.{Verdict}
 use Rattle.registers.proofs.access.access.Statement.{statement}
 use Rattle.registers.proofs.access.access.Tie as tie
 
@@ -23,12 +24,12 @@ enum-known-m c = search needs
 returns : tie.Need-returns
 returns c =
     let a = c .before .before .before .before .args in
-    c .act .ensures ∙ accepted-does (a .h) (a .x) (sym (c .before .before .before .verdict-of .ensures) ∙ c .before .enum-told .given .1)
+    c .act .ensures ∙ does (a .h) (a .x) Verdict.Accepted (sym (c .before .before .before .verdict-of .ensures) ∙ c .before .enum-told .given .1)
 
 returns-2 : tie.Need-returns-2
 returns-2 c =
     let a = c .before .before .before .before .args in
-    refused-does (a .h) (a .x) (c .before .m .given .0 .0) (sym (c .before .before .before .verdict-of .ensures) ∙ c .before .m .given .1)
+    does (a .h) (a .x) (Verdict.Refused (c .before .m .given .0 .0)) (sym (c .before .before .before .verdict-of .ensures) ∙ c .before .m .given .1)
 
 pub access-spec : {M : Type 1} → statement M
 access-spec =

@@ -1,9 +1,12 @@
 -- `access::clears_of` meets its contract: only CLR clears, only its own class, and only by a 1.
 -- Assumes nothing.
-use mathlib.Core.Path.{_∙_}
+use Prim.Native.Nat.{ℕ}
+use mathlib.Core.Path.{ap, _∙_}
+use mathlib.Core.Bool.{Bool, _&&_}
 use lib.Dec.{eqb}
+use Rattle.bits.specs.Bits.{bitsOf}
 use Rattle.rules.specs.Access.{settingIsClr}
-use Rattle.registers.proofs.Accesses.{no-bits, bits-when}
+use Rattle.registers.proofs.Accesses.{no-bits, bits-swap}
 use borrow.Author.Needs.{needs}
 use Rattle.registers.proofs.access.clears_of.Statement.{statement}
 use Rattle.registers.proofs.access.clears_of.Tie as tie
@@ -52,20 +55,13 @@ returns-5 c = rw (c .enum-told5 .given .1) no-bits
 
 returns-6 : tie.Need-returns-6
 returns-6 c =
-    let q = c .before .before .before .before .q .given in
-    let t = rw (c .before .before .is-clr .ensures) at (c .before .if1 .taken) in
-    let b = bits-when (settingIsClr (q .0 .0)) (eqb (c .before .before .before .before .before .before .args .v) 1) (eqb (q .0 .1 .0)) in
-    rw (q .1) (c .class-bit .ensures ∙ (rw t at b))
+    let q = c .before .before .before .q .given in
+    let k : ℕ = q .0 .1 .0 in
+    let one : Bool = eqb (c .before .before .before .before .before .args .v) 1 in
+    rw (q .1) (c .class-bit .ensures ∙ ap (λ (b : Bool). bitsOf 4 (λ j. (b && one) && eqb k j)) (c .before .is-clr .ensures) ∙ bits-swap (settingIsClr (q .0 .0)) one (eqb k))
 
 returns-7 : tie.Need-returns-7
-returns-7 c =
-    let q = c .before .before .before .q .given in
-    let t = rw (c .before .is-clr .ensures) at (c .if1 .left) in
-    let b = bits-when (settingIsClr (q .0 .0)) (eqb (c .before .before .before .before .before .args .v) 1) (eqb (q .0 .1 .0)) in
-    rw (q .1) (rw t at b)
-
-returns-8 : tie.Need-returns-8
-returns-8 c = rw (c .enum-told6 .given .1) no-bits
+returns-7 c = rw (c .enum-told6 .given .1) no-bits
 
 pub clears-of-spec : {M : Type 1} → statement M
 clears-of-spec =
@@ -86,5 +82,4 @@ clears-of-spec =
     returns-4
     returns-5
     returns-6
-    returns-7
-    returns-8)
+    returns-7)

@@ -1,23 +1,32 @@
--- `verdict::first_refusal` meets its contract.
+-- `verdict::first_refusal` meets its contract, case by case in order.
 -- Assumes nothing.
-use borrow.Author.Needs.{needs}
+use Rattle.rules.specs.Answer.{firstOf}
 use Rattle.registers.proofs.verdict.first_refusal.Statement.{statement}
 use Rattle.registers.proofs.verdict.first_refusal.Tie as tie
 
 returns : tie.Need-returns
+unfolding firstOf
 returns c = simp (c .if1 .taken)
 
 returns-2 : tie.Need-returns-2
+unfolding firstOf
 returns-2 c = simp (c .before .if1 .left, c .if2 .taken)
 
 returns-3 : tie.Need-returns-3
+unfolding firstOf
 returns-3 c = simp (c .before .before .if1 .left, c .before .if2 .left, c .if3 .taken)
 
 returns-4 : tie.Need-returns-4
+unfolding firstOf
 returns-4 c = simp (c .before .before .before .if1 .left, c .before .before .if2 .left, c .before .if3 .left, c .if4 .taken)
 
 returns-5 : tie.Need-returns-5
-returns-5 c = search needs
+unfolding firstOf
+returns-5 c = simp (c .before .before .before .before .if1 .left, c .before .before .before .if2 .left, c .before .before .if3 .left, c .before .if4 .left, c .if5 .taken)
+
+returns-6 : tie.Need-returns-6
+unfolding firstOf
+returns-6 c = simp (c .before .before .before .before .if1 .left, c .before .before .before .if2 .left, c .before .before .if3 .left, c .before .if4 .left, c .if5 .left)
 
 pub first-refusal-spec : {M : Type 1} → statement M
-first-refusal-spec = tie.close (tie.spec returns returns-2 returns-3 returns-4 returns-5)
+first-refusal-spec = tie.close (tie.spec returns returns-2 returns-3 returns-4 returns-5 returns-6)

@@ -1,13 +1,20 @@
--- `verdict::verdict_of` meets its contract.
+-- `verdict::verdict_of` meets its contract, kind of access by kind.
 -- Assumes nothing.
+use mathlib.Core.Path.{ap, _∙_}
+use mathlib.Core.Bool.{false, not}
+use Rattle.rules.specs.Access.{inOrder, verdict}
 use Rattle.rules.specs.Answer.{firstOf}
-use Rattle.rules.specs.Access.{verdict}
+use Rattle.rules.specs.Map.{isRegister, writeOnly}
+use Rattle.rules.specs.declared.Register.{Register}
 use borrow.Author.Needs.{needs}
 use Rattle.registers.proofs.verdict.verdict_of.Statement.{statement}
 use Rattle.registers.proofs.verdict.verdict_of.Tie as tie
 
 enum-told : tie.Need-enum-told
 enum-told c = search needs
+
+first-refusal-requires : tie.Need-first-refusal-requires
+first-refusal-requires c κs = search needs
 
 enum-known-x : tie.Need-enum-known-x
 enum-known-x c = search needs
@@ -30,27 +37,34 @@ write-verdict-requires c κs = search needs
 enum-told-2 : tie.Need-enum-told-2
 enum-told-2 c = search needs
 
+first-refusal-requires-2 : tie.Need-first-refusal-requires-2
+first-refusal-requires-2 c κs = search needs
+
 returns : tie.Need-returns
-unfolding verdict firstOf
-returns c = rw (c .enum-told .given .1)
+unfolding verdict
+returns c = rw (c .before .enum-told .given .1) (c .first-refusal .ensures)
 
 returns-2 : tie.Need-returns-2
-unfolding verdict firstOf
-returns-2 c = rw (c .before .before .before .x .given .1, ← c .before .register-at .ensures) (c .read-verdict .ensures)
+unfolding verdict
+returns-2 c =
+    rw (c .before .before .before .x .given .1)
+    (c .read-verdict .ensures
+    ∙ ap (λ (q : Register). firstOf (inOrder false (not (isRegister q)) (writeOnly q) false false)) (c .before .register-at .ensures))
 
 returns-3 : tie.Need-returns-3
-unfolding verdict firstOf
+unfolding verdict
 returns-3 c = rw (c .before .before .before .x2 .given .1, ← c .before .register-at2 .ensures) (c .write-verdict .ensures)
 
 returns-4 : tie.Need-returns-4
-unfolding verdict firstOf
-returns-4 c = rw (c .enum-told2 .given .1)
+unfolding verdict
+returns-4 c = rw (c .before .enum-told2 .given .1) (c .first-refusal2 .ensures)
 
 pub verdict-of-spec : {M : Type 1} → statement M
 verdict-of-spec =
     tie.close
     (tie.spec
     enum-told
+    first-refusal-requires
     enum-known-x
     register-at-requires
     read-verdict-requires
@@ -58,6 +72,7 @@ verdict-of-spec =
     register-at-requires-2
     write-verdict-requires
     enum-told-2
+    first-refusal-requires-2
     returns
     returns-2
     returns-3

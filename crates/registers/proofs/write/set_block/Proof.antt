@@ -4,7 +4,7 @@ use mathlib.Core.Path.{_≡_, sym, _∙_}
 use native.Mathlib.Omega.{arith}
 use lib.ListN.{length}
 use lib.Seq.{set-out}
-use Rattle.classes.specs.Class.{noClass}
+use Rattle.class_rules.specs.Class.{noClass}
 use Rattle.registers.proofs.Stores.{set-put}
 use borrow.Author.Needs.{needs}
 use Rattle.registers.proofs.write.set_block.Statement.{statement}

@@ -1,7 +1,11 @@
 -- `write::set_setting` meets its contract, register by register.
 -- Assumes nothing.
 use Prim.Native.Nat.{_<_}
-use Rattle.registers.proofs.Stores.{set-phase}
+use mathlib.Core.Path.{_≡_}
+use native.Mathlib.Omega.{arith}
+use lib.ListN.{length}
+use Rattle.registers.proofs.Stores.{set-register, set-phase}
+use Rattle.rules.specs.declared.Setting.{Setting}
 use borrow.Author.Needs.{needs}
 use Rattle.registers.proofs.write.set_setting.Statement.{statement}
 use Rattle.registers.proofs.write.set_setting.Tie as tie
@@ -52,36 +56,63 @@ enum-told-9 : tie.Need-enum-told-9
 enum-told-9 c = search needs
 
 returns : tie.Need-returns
-returns c = rw (c .enum-told .given .1)
+returns c =
+    let x = c .before .before .args in
+    let l : length (x .c .lengths) ≡ 4 = search needs in
+    rw (c .enum-told .given .1) (set-register (x .v) (x .c) Setting.Regwen l (λ p h e. omega arith))
 
 returns-2 : tie.Need-returns-2
-returns-2 c = rw (c .enum-told2 .given .1)
+returns-2 c =
+    let x = c .before .before .args in
+    let l : length (x .c .lengths) ≡ 4 = search needs in
+    rw (c .enum-told2 .given .1) (set-register (x .v) (x .c) Setting.Ctrl l (λ p h e. omega arith))
 
 returns-3 : tie.Need-returns-3
-returns-3 c = rw (c .enum-told3 .given .1)
+returns-3 c =
+    let x = c .before .before .args in
+    let l : length (x .c .lengths) ≡ 4 = search needs in
+    rw (c .enum-told3 .given .1) (set-register (x .v) (x .c) Setting.ClrRegwen l (λ p h e. omega arith))
 
 returns-4 : tie.Need-returns-4
-returns-4 c = rw (c .enum-told4 .given .1)
+returns-4 c =
+    let x = c .before .before .args in
+    let l : length (x .c .lengths) ≡ 4 = search needs in
+    rw (c .enum-told4 .given .1) (set-register (x .v) (x .c) Setting.Clr l (λ p h e. omega arith))
 
 returns-5 : tie.Need-returns-5
-returns-5 c = rw (c .enum-told5 .given .1)
+returns-5 c =
+    let x = c .before .before .args in
+    let l : length (x .c .lengths) ≡ 4 = search needs in
+    rw (c .enum-told5 .given .1) (set-register (x .v) (x .c) Setting.AccumCnt l (λ p h e. omega arith))
 
 returns-6 : tie.Need-returns-6
-returns-6 c = rw (c .enum-told6 .given .1)
+returns-6 c =
+    let x = c .before .before .args in
+    let l : length (x .c .lengths) ≡ 4 = search needs in
+    rw (c .enum-told6 .given .1) (set-register (x .v) (x .c) Setting.AccumThresh l (λ p h e. omega arith))
 
 returns-7 : tie.Need-returns-7
-returns-7 c = rw (c .enum-told7 .given .1)
+returns-7 c =
+    let x = c .before .before .args in
+    let l : length (x .c .lengths) ≡ 4 = search needs in
+    rw (c .enum-told7 .given .1) (set-register (x .v) (x .c) Setting.TimeoutCyc l (λ p h e. omega arith))
 
 returns-8 : tie.Need-returns-8
 returns-8 c =
     let x = c .before .before .before .before .before .args in
-    rw (c .before .before .before .s .given .1, c .set-length .ensures) (set-phase (c .before .before .before .s .given .0 .0) (x .v) (x .c))
+    rw (c .before .before .before .s .given .1, c .set-length .ensures) (set-phase (x .v) (x .c) (c .before .before .before .s .given .0 .0))
 
 returns-9 : tie.Need-returns-9
-returns-9 c = rw (c .enum-told8 .given .1)
+returns-9 c =
+    let x = c .before .before .args in
+    let l : length (x .c .lengths) ≡ 4 = search needs in
+    rw (c .enum-told8 .given .1) (set-register (x .v) (x .c) Setting.EscCnt l (λ p h e. omega arith))
 
 returns-10 : tie.Need-returns-10
-returns-10 c = rw (c .enum-told9 .given .1)
+returns-10 c =
+    let x = c .before .before .args in
+    let l : length (x .c .lengths) ≡ 4 = search needs in
+    rw (c .enum-told9 .given .1) (set-register (x .v) (x .c) Setting.State l (λ p h e. omega arith))
 
 pub set-setting-spec : {M : Type 1} → statement M
 set-setting-spec =

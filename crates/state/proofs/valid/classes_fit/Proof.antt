@@ -7,7 +7,7 @@ use native.Mathlib.Numerals.{add-one}
 use borrow.Author.Needs.{needs}
 use lib.ListN.{getD}
 use Rattle.bits.specs.Index.{allTo}
-use Rattle.classes.specs.Class.{classFits, noClass}
+use Rattle.class_rules.specs.Class.{classFits, noClass}
 use Rattle.state.proofs.valid.classes_fit.Statement.{statement}
 use Rattle.state.proofs.valid.classes_fit.Tie as tie
 

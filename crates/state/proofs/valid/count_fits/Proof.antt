@@ -1,6 +1,6 @@
 -- `valid::count_fits` meets its contract.
 -- Assumes nothing.
-use Rattle.classes.specs.Class.{stateOf}
+use Rattle.class_rules.specs.Class.{stateOf}
 use borrow.Author.Tests.{ne-eqb}
 use Rattle.state.proofs.valid.count_fits.Statement.{statement}
 use Rattle.state.proofs.valid.count_fits.Tie as tie

@@ -1,49 +1,61 @@
--- `record::input_at` meets its contract: three words of eight bytes.
+-- `record::input_at` meets its contract: the first eight bytes, the positive wires and the negative wires.
 -- Assumes nothing.
-use mathlib.Core.Path.{sym}
+use Prim.Native.Nat.{ℕ, _/_}
+use mathlib.Core.Path.{ap}
+use native.Mathlib.Omega.{arith}
 use borrow.Author.Needs.{needs}
-use Rattle.bits.specs.Fields.{unpack}
-use Rattle.trace.proofs.Records.{record-input}
+use Rattle.trace.proofs.Records.{record-parts, record-input}
 use Rattle.trace.proofs.record.input_at.Statement.{statement}
 use Rattle.trace.proofs.record.input_at.Tie as tie
 
 word-at-requires : tie.Need-word-at-requires
-word-at-requires c κs = search needs
+word-at-requires c κs = omega (arith, record-parts (c .before .args .edition), c .before .pre)
 
-access-in-requires : tie.Need-access-in-requires
-access-in-requires c κs = search needs
+first-access-requires : tie.Need-first-access-requires
+first-access-requires c κs = search needs
 
-add-word-at : tie.Need-add-word-at
-add-word-at c = search needs
+carried-requires : tie.Need-carried-requires
+carried-requires c κs = search needs
 
-word-at-requires-2 : tie.Need-word-at-requires-2
-word-at-requires-2 c κs = search needs
+add-wires-at : tie.Need-add-wires-at
+add-wires-at c = search needs
 
-add-word-at-2 : tie.Need-add-word-at-2
-add-word-at-2 c = search needs
+wires-at-requires : tie.Need-wires-at-requires
+wires-at-requires c κs = let b = c .before .before .before .before in omega (arith, record-parts (b .args .edition), b .pre)
 
-word-at-requires-3 : tie.Need-word-at-requires-3
-word-at-requires-3 c κs = search needs
+add-wires-at-2 : tie.Need-add-wires-at-2
+add-wires-at-2 c = search needs
+
+alerts-requires : tie.Need-alerts-requires
+alerts-requires c κs = search needs
+
+add-wires-at-3 : tie.Need-add-wires-at-3
+add-wires-at-3 c = search needs
+
+wires-at-requires-2 : tie.Need-wires-at-requires-2
+wires-at-requires-2 c κs =
+    let b = c .before .before .before .before .before .before in
+    omega (arith, record-parts (b .args .edition), b .pre, ap (λ (n : ℕ). n / 8) (c .alerts .ensures))
 
 returns : tie.Need-returns
-unfolding unpack
 returns c =
-    let start = c .before .before .before .before .before in
-    let first = c .before .before .before .word-at in
-    let pos = c .before .word-at2 in
-    let neg = c .word-at3 in
-    rw (c .before .before .access-in .ensures)
-    (sym (record-input (start .args .at) (start .args .bytes .now) (first .result) (pos .result) (neg .result) (start .pre)
-    (first .ensures) (pos .ensures) (neg .ensures) (search needs) (search needs) (search needs)))
+    let first = c .before .before .before .before .before in
+    let begin = first .before .before in
+    record-input (begin .args .edition) (begin .args .at) (begin .args .bytes .now) (λ i. first .before .shared-slice-known .given i .fits) (begin .pre) _ _ _ _ _ _
+    (first .word-at .ensures) (c .before .before .before .before .first-access .ensures) (c .before .before .before .carried .ensures) (c .before .alerts .ensures)
+    (c .before .before .wires-at .ensures) (c .wires-at2 .ensures)
 
 pub input-at-spec : {M : Type 1} → statement M
 input-at-spec =
     tie.close
     (tie.spec
     word-at-requires
-    access-in-requires
-    add-word-at
-    word-at-requires-2
-    add-word-at-2
-    word-at-requires-3
+    first-access-requires
+    carried-requires
+    add-wires-at
+    wires-at-requires
+    add-wires-at-2
+    alerts-requires
+    add-wires-at-3
+    wires-at-requires-2
     returns)

@@ -9,8 +9,10 @@ use mir.Val.{Fits}
 use lib.ListN.{getD, length}
 use lib.Seq.{take-all}
 use Rattle.laws.proofs.RecordLaws as laws
+use Rattle.laws.proofs.WriterLaws.{own-numbers}
 use Rattle.rules.specs.Access.{malformed}
-use Rattle.rules.specs.Record.{recordBytes, inputOf, recordOf}
+use Rattle.rules.specs.Edition.{newest, recordBytes}
+use Rattle.rules.specs.Record.{inputOf, recordOf}
 use Rattle.rules.specs.declared.Input.{Input}
 use Rattle.trace.proofs.record.input_of.Statement.{statement}
 use Rattle.trace.proofs.record.input_of.Tie as tie
@@ -24,11 +26,12 @@ input-at-requires c κs = search needs
 returns : tie.Need-returns
 returns c =
     let bytes = c .before .before .args .t1 in
-    let long : length bytes ≡ recordBytes = search needs in
+    let long : length bytes ≡ recordBytes newest = search needs in
     let fit : (i : ℕ) → Fits w8 (getD bytes i 0) = λ i. search needs in
     let byte : (i : ℕ) → getD bytes i 0 < 2 ^ 8 = λ i. omega (arith, fit i) in
-    let read = c .input-at .ensures ∙ ap inputOf (take-all recordBytes bytes (search needs)) in
-    (read, λ f. ap recordOf read ∙ laws.record-input bytes long byte (ap (λ (x : Input). malformed (x .access)) (sym read) ∙ f))
+    let read = c .input-at .ensures ∙ ap (inputOf newest) (take-all (recordBytes newest) bytes (search needs)) in
+    let held = read ∙ own-numbers bytes in
+    (read, λ f. ap (recordOf newest) held ∙ laws.record-input newest bytes long byte (ap (λ (x : Input). malformed (x .access)) (sym held) ∙ f))
 
 pub input-of-spec : {M : Type 1} → statement M
 input-of-spec = tie.close (tie.spec slice-aggregate-input-at input-at-requires returns)

@@ -7,6 +7,7 @@ use borrow.Author.Needs.{needs}
 use borrow.Author.Tests.{not-false}
 use lib.ListN.{length, take}
 use lib.Seq.{sets}
+use Rattle.rules.specs.Edition.{newest}
 use Rattle.rules.specs.Writer.{recordsOf}
 use Rattle.writer.specs.Lent.{listOf}
 use Rattle.writer.proofs.EntryLaws.{put-next, put-end}
@@ -16,7 +17,7 @@ use Rattle.writer.proofs.records.put_all.Tie as tie
 
 abbrev Inv-loop : tie.InvT-loop
 Inv-loop kinds registers values positive negative out₀ i₀ out i =
-    (i ≤ length kinds) × (length out ≡ length out₀) × (out ≡ sets out₀ 0 (recordsOf (take i (listOf (record { kinds = kinds; registers = registers; values = values; positive = positive; negative = negative })))))
+    (i ≤ length kinds) × (length out ≡ length out₀) × (out ≡ sets out₀ 0 (recordsOf newest (take i (listOf (record { kinds = kinds; registers = registers; values = values; positive = positive; negative = negative })))))
 
 abbrev μ-loop : tie.MeasureT-loop
 μ-loop kinds registers values positive negative out₀ i₀ out i = length kinds - i
@@ -43,23 +44,11 @@ mul-put-record-3 c = search needs
 shared-slice-read-put-record-3 : tie.Need-shared-slice-read-put-record-3 Inv-loop μ-loop
 shared-slice-read-put-record-3 c = search needs
 
-mul-put-record-4 : tie.Need-mul-put-record-4 Inv-loop μ-loop
-mul-put-record-4 c = search needs
-
-shared-slice-read-put-record-4 : tie.Need-shared-slice-read-put-record-4 Inv-loop μ-loop
-shared-slice-read-put-record-4 c = search needs
-
-mul-put-record-5 : tie.Need-mul-put-record-5 Inv-loop μ-loop
-mul-put-record-5 c = search needs
-
-shared-slice-read-put-record-5 : tie.Need-shared-slice-read-put-record-5 Inv-loop μ-loop
-shared-slice-read-put-record-5 c = search needs
-
 put-record-requires : tie.Need-put-record-requires Inv-loop μ-loop
 put-record-requires c κs =
-    let turn = c .before .before .before .before .before .before in
+    let turn = c .before .before .before .before in
     let begin = turn .before .before .before .before .before .before .before .before in
-    (search needs, not-false _ (none-at _ _ _ (begin .pre .each-recordable) (turn .loop-test .taken)))
+    (search needs, not-false _ (none-at _ _ _ (begin .pre .each-recordable) (turn .loop-test .taken)), omega (arith, begin .pre .positive-long), omega (arith, begin .pre .negative-long))
 
 add-i : tie.Need-add-i Inv-loop μ-loop
 add-i c = search needs
@@ -70,7 +59,7 @@ loop-less c = search needs
 loop-again : tie.Need-loop-again Inv-loop μ-loop
 loop-again c =
     let put = c .before .before in
-    let turn = put .before .before .before .before .before .before .before in
+    let turn = put .before .before .before .before .before in
     (search needs, search needs, put-next _ _ _ _ _ (turn .loop-test .taken) (turn .before .loop .inv .2) (put .put-record .ensures))
 
 same-length : tie.Need-same-length Inv-loop μ-loop
@@ -95,10 +84,6 @@ put-all-spec =
     shared-slice-read-put-record-2
     mul-put-record-3
     shared-slice-read-put-record-3
-    mul-put-record-4
-    shared-slice-read-put-record-4
-    mul-put-record-5
-    shared-slice-read-put-record-5
     put-record-requires
     add-i
     loop-less

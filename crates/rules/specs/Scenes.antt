@@ -1,0 +1,54 @@
+-- Ticks as the examples and the cases of document 01 write them: inputs, and what is seen of them.
+-- Assumes nothing.
+use Prim.Native.Nat.{ℕ, _-_, _^_}
+use mathlib.Core.List.{List, [], _∷_}
+use lib.IntN.{ℤ, pos, negℤ}
+use Rattle.rules.specs.Answer.{number}
+use Rattle.rules.specs.Map.{numberOf}
+use Rattle.rules.specs.Tick.{ticked}
+use Rattle.rules.specs.declared.Access.{Access}
+use Rattle.rules.specs.declared.Handler.{Handler}
+use Rattle.rules.specs.declared.Input.{Input}
+use Rattle.rules.specs.declared.Register.{Register}
+
+-- ── inputs ──
+
+abbrev pub ones : ℕ
+ones = 2 ^ 64 - 1
+
+-- an access with these positive and negative wires
+abbrev pub wired : ℕ → ℕ → Access → Input
+wired p m x = record { access = x; sample = record { alerts = record { pos = p ∷ []; neg = m ∷ [] } } }
+
+-- alert i's place in a word of wires
+abbrev pub wire : ℕ → ℕ
+wire i = 2 ^ (63 - i)
+
+-- all wires at (0,1)
+abbrev pub rest : Access → Input
+rest x = wired 0 ones x
+
+-- alert i at (1,0), the others at (0,1)
+abbrev pub raise : ℕ → Access → Input
+raise i x = wired (wire i) (ones - wire i) x
+
+-- alert i at (1,1) or at (0,0), the others at (0,1)
+abbrev pub bothHigh : ℕ → Access → Input
+bothHigh i x = wired (wire i) ones x
+
+abbrev pub bothLow : ℕ → Access → Input
+bothLow i x = wired 0 (ones - wire i) x
+
+abbrev pub none : Access
+none = Access.Nothing
+
+abbrev pub write : Register → ℕ → Access
+write q v = Access.Write (numberOf q) v
+
+-- ── what is seen ──
+
+abbrev pub gives : Handler → Input → ℤ
+gives h x = number (ticked h x .answer)
+
+abbrev pub refused : ℕ → ℤ
+refused m = negℤ (pos m)
