@@ -27,7 +27,6 @@ use Rattle.rules.specs.declared.Refusal.{Refusal}
 use Rattle.rules.specs.declared.Refusal.the-variants.{NoRecord, ShortBuffer}
 use Rattle.rules.specs.declared.Verdict.{Verdict}
 use Rattle.laws.proofs.RecordLaws.{record-length, input-record, held-wired, record-input}
-use Rattle.laws.proofs.PartLaws.{some-bytes, whole-parts}
 use Rattle.laws.proofs.Recordable.{read-recordable, record-formed}
 use Rattle.laws.proofs.Refusals.{first-accepts}
 use Rattle.laws.proofs.WellFormedLaws.{formed-one, none-formed, well-formed-append, inputs-none, inputs-cons, by-records}

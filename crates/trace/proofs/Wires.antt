@@ -1,12 +1,12 @@
 -- Words of eight bytes each, read one after another.
 -- Assumes nothing.
 use Prim.Native.Nat.{ℕ, zero, suc, _+_, _*_, _^_, _≤_, _<_}
-use mathlib.Core.Path.{_≡_, refl, sym, ap, ap₂, subst, _∙_}
+use mathlib.Core.Path.{_≡_, refl, sym, ap, subst, _∙_}
 use mathlib.Core.List.{List, [], _∷_, _++_}
 use native.Mathlib.Decide.{decLt}
 use native.Mathlib.Nat.{add-zero}
 use native.Mathlib.Omega.{arith}
-use lib.ListN.{getD, set, length, take, drop, replicate, length-set, length-replicate}
+use lib.ListN.{getD, set, length, take, drop, replicate, length-set}
 use lib.Seq.{ext-getD, getD-set-same, getD-set-other}
 use Rattle.bits.specs.Fields.{total, unpack, ofBytes}
 use Rattle.bits.proofs.FieldLaws.{unpack-fits, fit-length}

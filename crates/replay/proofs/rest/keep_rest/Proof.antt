@@ -17,7 +17,7 @@ rem-rest : tie.Need-rem-rest
 rem-rest c = subst (λ (n : ℕ). 0 < n) (sym (c .record-bytes .ensures)) (some-bytes (c .before .before .args .edition))
 
 sub-move-front : tie.Need-sub-move-front
-sub-move-front c = mod-le _ _
+sub-move-front c = omega (arith, mod-le (c .before .before .before .args .count) (c .before .record-bytes .result))
 
 move-front-requires : tie.Need-move-front-requires
 move-front-requires c κs = omega (arith, mod-le (c .before .before .before .args .count) (c .before .record-bytes .result), c .before .before .before .pre)

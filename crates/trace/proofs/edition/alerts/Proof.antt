@@ -1,6 +1,6 @@
 -- `edition::alerts` meets its contract, edition by edition.
 -- Assumes nothing.
-use mathlib.Core.Path.{_≡_, sym, ap}
+use mathlib.Core.Path.{sym, ap}
 use Rattle.rules.specs.Edition.{alerts}
 use Rattle.trace.proofs.Records.{only}
 use Rattle.trace.proofs.edition.alerts.Statement.{statement}

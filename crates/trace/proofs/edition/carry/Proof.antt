@@ -1,7 +1,6 @@
 -- `edition::carry` meets its contract, edition by edition.
 -- Assumes nothing.
-use Prim.Native.Nat.{ℕ}
-use mathlib.Core.Path.{_≡_, sym, ap}
+use mathlib.Core.Path.{sym, ap}
 use Rattle.rules.specs.Edition.{carry}
 use Rattle.rules.specs.declared.Edition.{Edition}
 use Rattle.trace.proofs.Records.{only}

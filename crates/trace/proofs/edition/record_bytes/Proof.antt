@@ -1,6 +1,6 @@
 -- `edition::record_bytes` meets its contract, edition by edition.
 -- Assumes nothing.
-use mathlib.Core.Path.{_≡_, sym, ap}
+use mathlib.Core.Path.{sym, ap}
 use Rattle.rules.specs.Edition.{recordBytes}
 use Rattle.trace.proofs.Records.{only}
 use Rattle.trace.proofs.edition.record_bytes.Statement.{statement}
