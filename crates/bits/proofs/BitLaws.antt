@@ -3,11 +3,11 @@
 use mathlib.Core.Path.{_≡_, refl, sym, ap, _∙_}
 use mathlib.Core.Bool.{Bool, true, false, not, _&&_, _||_, xor}
 use Prim.Native.Nat.{ℕ, zero, suc, _+_, _-_, _*_, _/_, _%_, _^_, _≤_, _<_}
-use native.Mathlib.Nat.{mod-lt, div-one, pow-suc, mul-assoc}
+use native.Mathlib.Nat.{mod-lt, div-one, pow-suc}
 use native.Mathlib.Omega.{arith}
 use lib.Dec.{eqb}
-use lib.Bits.{bitAnd, bitOr, bitXor, and-shr, or-shr, xor-shr, and-mod, or-mod, xor-mod, shifted-even}
-use lib.Pow.{pow-pos, pow-add, shr-shr, shl-shr, field, mod-mod-pow}
+use lib.Bits.{bitAnd, bitOr, bitXor, and-shr, or-shr, xor-shr, and-mod, or-mod, xor-mod}
+use lib.Pow.{pow-pos, shr-shr, field, mod-mod-pow}
 use borrow.Author.Tests.{eqb-false}
 use Rattle.bits.specs.Bits.{bit, num, bitsOf, place, wordOf}
 
@@ -118,7 +118,7 @@ bit-ext (suc w) a b ha hb e =
     (λ k h. sym (bit-suc a k) ∙ e (suc k) (omega arith) ∙ bit-suc b k) in
     omega arith
 
--- `a << j` at w bits
+-- the lowest w bits
 pub bit-mod : (w a k : ℕ) → k < w → bit (a % 2 ^ w) k ≡ bit a k
 unfolding bit
 bit-mod w a k h =
@@ -127,30 +127,9 @@ bit-mod w a k h =
     ∙ ap (λ (x : ℕ). eqb (x % 2) 1) (field a (w - k - 1 + 1) k)
     ∙ ap (λ (x : ℕ). eqb x 1) (mod-mod-pow (a / 2 ^ k) (w - k - 1) 1)
 
-pub bit-shl : (w a j k : ℕ) → k < w → j ≤ k → bit ((a * 2 ^ j) % 2 ^ w) k ≡ bit a (k - j)
-bit-shl w a j k h l =
-    let e : j + (k - j) ≡ k = omega arith in
-    bit-mod w (a * 2 ^ j) k h ∙ ap (bit (a * 2 ^ j)) (sym e) ∙ sym (bit-shr (a * 2 ^ j) j (k - j))
-    ∙ ap (λ (x : ℕ). bit x (k - j)) (shl-shr a j)
-
-pub bit-shl-low : (w a j k : ℕ) → k < w → k < j → bit ((a * 2 ^ j) % 2 ^ w) k ≡ false
-unfolding bit
-bit-shl-low w a j k h l =
-    let e : suc (j - k - 1) + k ≡ j = omega arith in
-    bit-mod w (a * 2 ^ j) k h
-    ∙ ap (λ (x : ℕ). eqb (a * 2 ^ x / 2 ^ k % 2) 1) (sym e)
-    ∙ ap (λ (x : ℕ). eqb (a * x / 2 ^ k % 2) 1) (pow-add 2 (suc (j - k - 1)) k)
-    ∙ ap (λ (x : ℕ). eqb (x / 2 ^ k % 2) 1) (sym (mul-assoc a (2 ^ suc (j - k - 1)) (2 ^ k)))
-    ∙ ap (λ (x : ℕ). eqb (x % 2) 1) (shl-shr (a * 2 ^ suc (j - k - 1)) k)
-    ∙ ap (λ (x : ℕ). eqb x 1) (shifted-even a (j - k - 1))
-
 -- all w bits set
 pub bit-ones : (w k : ℕ) → k < w → bit (2 ^ w - 1) k ≡ true
 bit-ones w k h = let e : 2 ^ w - 1 - 0 ≡ 2 ^ w - 1 = omega arith in ap (λ (x : ℕ). bit x k) (sym e) ∙ bit-not w 0 k (pow-pos w) h ∙ ap not (bit-none k)
-
--- a word is 0 exactly where it has no bit
-pub bit-some : (w a : ℕ) → a < 2 ^ w → ((k : ℕ) → k < w → bit a k ≡ false) → a ≡ 0
-bit-some w a h e = bit-ext w a 0 h (pow-pos w) (λ k l. e k l ∙ sym (bit-none k))
 
 -- ── a number by its bits, the lowest first ──
 

@@ -29,14 +29,3 @@ by4 f g t a b c d =
     by2 (f a b) (g a b)
     (every-at (λ y. every (λ z. every (λ w. Bool·beq (f a y z w) (g a y z w)))) (every-at (λ x. every (λ y. every (λ z. every (λ w. Bool·beq (f x y z w) (g x y z w))))) t a) b)
     c d
-
-pub by8 : (f g : Bool → Bool → Bool → Bool → Bool → Bool → Bool → Bool → Bool)
-    → T (every (λ a. every (λ b. every (λ c. every (λ d. every (λ e. every (λ h. every (λ i. every (λ j. Bool·beq (f a b c d e h i j) (g a b c d e h i j))))))))))
-    → (a b c d e h i j : Bool) → f a b c d e h i j ≡ g a b c d e h i j
-by8 f g t a b c d =
-    by4 (f a b c d) (g a b c d)
-    (every-at (λ w. every (λ e. every (λ h. every (λ i. every (λ j. Bool·beq (f a b c w e h i j) (g a b c w e h i j))))))
-    (every-at (λ z. every (λ w. every (λ e. every (λ h. every (λ i. every (λ j. Bool·beq (f a b z w e h i j) (g a b z w e h i j)))))))
-    (every-at (λ y. every (λ z. every (λ w. every (λ e. every (λ h. every (λ i. every (λ j. Bool·beq (f a y z w e h i j) (g a y z w e h i j))))))))
-    (every-at (λ x. every (λ y. every (λ z. every (λ w. every (λ e. every (λ h. every (λ i. every (λ j. Bool·beq (f x y z w e h i j) (g x y z w e h i j)))))))))
-    t a) b) c) d)

@@ -10,7 +10,7 @@ use borrow.Author.Tests.{eqb-true, eq-eqb}
 use lib.Dec.{eqb}
 use Rattle.bits.proofs.IndexLaws.{and-true, true-and}
 use Rattle.bits.specs.Bits.{fits}
-use Rattle.rules.specs.Access.{locked, bars, settingIsClr, isClrOf, writesClr, clears}
+use Rattle.rules.specs.Access.{locked, bars, settingIsClr, isClrOf, clears}
 use Rattle.rules.specs.Map.{decode, isRegister, bits, readOnly, isLock}
 use Rattle.rules.specs.declared.Access.{Access}
 use Rattle.rules.specs.declared.Access.the-variants.{Nothing, Read, Write, Malformed}

@@ -100,7 +100,7 @@ module _ (h : Handler) (r v k : ℕ) where
         ∙ ap (λ (q : Register). isRegister q && (not (readOnly q) && (fits (bits q) v && not (bars h q v)))) e
         ∙ ap (λ (b : Bool). not (onlyRead (settingRow s .way)) && (fits (settingBits s) v && not (b && not (settingRow s .lock && eqb v 0)))) block-locked
 
-    -- a write to class k's block, by the block alone
+    -- a write to class k's block, by the block alone (request (x) will cite this law and the two on clears)
     pub acted-class-own : classAt (acted h (Write r v)) k ≡ blockWritten s v (classAt h k)
     unfolding blockWritten
     acted-class-own =
@@ -109,7 +109,7 @@ module _ (h : Handler) (r v k : ℕ) where
         ∙ ap (λ (t : Bool). cond (blockAccepts s v (classAt h k)) (cond t (withSetting s v (classAt h k)) (classAt h k)) (classAt h k))
         (eq-eqb k k refl)
 
-    -- and whether it is an accepted clear
+    -- and whether it is an accepted clear (for request (x))
     pub clears-own : clears h (Write r v) k ≡ blockClears s v (classAt h k)
     unfolding blockClears
     clears-own =
@@ -135,7 +135,7 @@ acted-class-other h (Write r v) k l e =
     ∙ sym (cond-same (accepted h (Write r v)) (classAt h k))
 acted-class-other h Malformed k l e = ap (λ (g : Handler). classAt g k) (acted-is h Malformed ∙ sym (cond-same (accepted h Malformed) h))
 
--- or clears it
+-- or clears it (for request (x))
 pub clears-other : (h : Handler) (x : Access) (k : ℕ) → writesBlock h x k ≡ false → clears h x k ≡ false
 clears-other h x k e = go (clears h x k) refl
   where

@@ -25,7 +25,7 @@ use Rattle.rules.specs.declared.Way.{Way}
 use Rattle.laws.specs.InMap.{inMap, settingExists}
 use Rattle.laws.specs.Block.{classStored}
 use Rattle.laws.specs.RegisterFile.{target, newValue, writes, commits, committed, asWritten, plain}
-use Rattle.laws.proofs.Cases.{by-kind, by-field, cond-same}
+use Rattle.laws.proofs.Cases.{by-kind, by-field}
 use Rattle.laws.proofs.ColumnLaws.{at-changed, column-stored, local-column, alert-column, setting-value}
 use Rattle.laws.proofs.MapLaws.{decode-in-map, number-eq}
 use Rattle.laws.proofs.Refusals.{unrefused, is-accepted}

@@ -26,7 +26,7 @@ use Rattle.rules.specs.declared.Input.{Input}
 use Rattle.rules.specs.declared.Refusal.{Refusal}
 use Rattle.rules.specs.declared.Refusal.the-variants.{NoRecord, ShortBuffer}
 use Rattle.rules.specs.declared.Verdict.{Verdict}
-use Rattle.laws.proofs.RecordLaws.{record-length, input-record, held-wired, record-input}
+use Rattle.laws.proofs.RecordLaws.{record-length, input-record, record-input}
 use Rattle.laws.proofs.Recordable.{read-recordable, record-formed}
 use Rattle.laws.proofs.Refusals.{first-accepts}
 use Rattle.laws.proofs.WellFormedLaws.{formed-one, none-formed, well-formed-append, inputs-none, inputs-cons, by-records}
@@ -99,14 +99,6 @@ wired-from b (suc n) f w = one (w b) (wired-from (suc b) n f w)
 
 pub each-wired : (n : ℕ) (f : ℕ → Input) → ((i : ℕ) → Wired (f i)) → AllWired (each n f)
 each-wired n f w = wired-from 0 n f w
-
-pub input-wired : (e : Edition) (bytes : List ℕ) → Wired (inputOf e bytes)
-unfolding inputOf
-input-wired e bytes = let w = held-wired e bytes in record { positive = w .positive; negative = w .negative }
-
-pub read-wired : (e : Edition) (bytes : List ℕ) → AllWired (inputsOf e bytes)
-unfolding inputsOf
-read-wired e bytes = each-wired (recordCount e bytes) (λ i. inputOf e (recordAt e bytes i)) (λ i. input-wired e (recordAt e bytes i))
 
 -- ── the newest edition has the map's own register numbers ──
 

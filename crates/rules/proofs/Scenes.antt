@@ -1,7 +1,7 @@
 -- States that the examples share.
 -- Assumes nothing.
 use Prim.Native.Nat.{ℕ}
-use mathlib.Core.List.{List, [], _∷_}
+use mathlib.Core.List.{List, _∷_}
 use lib.ListN.{set, replicate}
 use Rattle.bits.specs.Bits.{bit, bitsOf, wordOf}
 use Rattle.bits.specs.Index.{eachFrom, anyTo, allTo}

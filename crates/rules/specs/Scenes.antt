@@ -1,7 +1,7 @@
 -- Ticks as the examples and the cases of document 01 write them: inputs, and what is seen of them.
 -- Assumes nothing.
 use Prim.Native.Nat.{ℕ, _-_, _^_}
-use mathlib.Core.List.{List, [], _∷_}
+use mathlib.Core.List.{[], _∷_}
 use lib.IntN.{ℤ, pos, negℤ}
 use Rattle.rules.specs.Answer.{number}
 use Rattle.rules.specs.Map.{numberOf}
