@@ -9,13 +9,14 @@
  * The promises are proved for the functions of crates/boundary. Trusted: the compiler's back end, the C ABI, this header.
  *
  * The stack that a call takes below its caller's frame, argument and result included, whatever the lengths of its lists:
- *   tarravane_new 1192 bytes
- *   tarravane_tick 6120 bytes
- *   tarravane_batch 6120 bytes
- *   tarravane_record 80 bytes
+ *   tarravane_new 3448 bytes
+ *   tarravane_tick 16024 bytes
+ *   tarravane_batch_24 18552 bytes
+ *   tarravane_batch_70 18552 bytes
+ *   tarravane_record 96 bytes
  * Measured, not proved (tests/stack, the gate): each call ran on a stack filled with a pattern, with accesses of every kind
  * and lists of 0 to 300 entries, linked with -z now. Else the dynamic loader binds memcpy within the first call and takes
- * stack there: with it the first tarravane_new took 4360 bytes on the machine that was measured, the other calls no more. */
+ * stack there: with it the first tarravane_new took 6600 bytes on the machine that was measured, the other calls no more. */
 #ifndef TARRAVANE_H
 #define TARRAVANE_H
 
@@ -32,13 +33,17 @@ extern "C" {
 
 /* ---- Sizes ---- */
 
-#define TARRAVANE_ALERTS 64 /* the most alerts that a handler is made for */
-#define TARRAVANE_WORDS 1   /* words of 64 that hold a bit of each alert */
-#define TARRAVANE_LOCALS 7  /* local alerts */
+#define TARRAVANE_ALERTS 248   /* the most alerts that a handler is made for */
+#define TARRAVANE_ALERTS_24 64 /* the most that records of 24 bytes speak of */
+#define TARRAVANE_WORDS 4      /* words of 64 that hold a bit of each alert */
+#define TARRAVANE_LOCALS 7     /* local alerts */
 #define TARRAVANE_CLASSES 4
 #define TARRAVANE_PHASES 4
 #define TARRAVANE_LINES 4
-#define TARRAVANE_RECORD 24 /* bytes of a trace record */
+
+/* Bytes of a trace record: of the first edition, and of the newest, which is the one that is written. */
+#define TARRAVANE_RECORD_24 24
+#define TARRAVANE_RECORD_70 70
 
 /* ---- The state. Read and copy it freely; change it by ticks. ---- */
 
@@ -55,7 +60,7 @@ struct tarravane_class {
     uint8_t state;                      /* STATE: TARRAVANE_IDLE .. */
 };
 
-/* Alert i is re-armed if bit 63 - i % 64 of word i / 64 is 1. */
+/* Alert i is re-armed if bit 63 - i % 64 of word i / 64 is 1. Places at n and above are no alert's: no call changes them. */
 struct tarravane_receivers {
     uint64_t armed[TARRAVANE_WORDS];
 };
@@ -93,7 +98,7 @@ struct tarravane_handler {
 /* ---- What goes in ---- */
 
 /* The wires of a tick: bit 63 - i % 64 of words i / 64 of pos and of neg is alert i's. Bits of alerts at n and above count
- * for nothing. */
+ * for nothing, nor do the last 8 places, 248 to 255. */
 struct tarravane_wires {
     uint64_t pos[TARRAVANE_WORDS];
     uint64_t neg[TARRAVANE_WORDS];
@@ -130,9 +135,9 @@ struct tarravane_batched {
 #define TARRAVANE_LOCKED 3        /* register locked */
 #define TARRAVANE_TOO_WIDE 4      /* written value has a bit outside the field */
 #define TARRAVANE_BAD_RECORD 5    /* trace record malformed, or a kind over 2 */
-#define TARRAVANE_BAD_COUNT 6     /* n is 0 or over 64 */
-#define TARRAVANE_BAD_STATE 7     /* n over 64, a register over its bits, a STATE of 2, a count that its state rules out */
-#define TARRAVANE_BAD_LENGTH 8    /* batch length not a multiple of 24 */
+#define TARRAVANE_BAD_COUNT 6     /* n is 0 or over 248 */
+#define TARRAVANE_BAD_STATE 7     /* n over 248, a register over its bits, a STATE of 2, a count that its state rules out */
+#define TARRAVANE_BAD_LENGTH 8    /* batch length not a multiple of its record's bytes */
 #define TARRAVANE_SHORT_LIST 9    /* output list shorter than the records */
 #define TARRAVANE_NO_RECORD 10    /* an access that no well-formed record holds */
 #define TARRAVANE_SHORT_BUFFER 11 /* buffer shorter than the records to write */
@@ -143,7 +148,9 @@ struct tarravane_batched {
 #define TARRAVANE_READ 1
 #define TARRAVANE_WRITE 2
 
-/* ---- Register numbers: local alert j is 0 to 6, alert i is below n, class k is 0 to 3, phase p is 0 to 3 ---- */
+/* ---- Register numbers: local alert j is 0 to 6, alert i is below n, class k is 0 to 3, phase p is 0 to 3 ----
+ * Those of tarravane_tick, of records of 70 bytes and of tarravane_record. Records of 24 bytes have document 01's: alert
+ * blocks at 64, 128, 192 and 256, classes at 320 + 16k; tarravane_batch_24 carries them over. */
 
 #define TARRAVANE_INTR_STATE 0  /* 4 bits, a 1 clears */
 #define TARRAVANE_INTR_ENABLE 1 /* 4 bits */
@@ -154,21 +161,21 @@ struct tarravane_batched {
 #define TARRAVANE_LOC_ALERT_CLASS(j) (32 + (j))  /* 2 bits */
 #define TARRAVANE_LOC_ALERT_CAUSE(j) (40 + (j))  /* 1 bit, a 1 clears */
 
-#define TARRAVANE_ALERT_REGWEN(i) (64 + (i)) /* 1 bit, a 0 locks */
-#define TARRAVANE_ALERT_EN(i) (128 + (i))    /* 1 bit */
-#define TARRAVANE_ALERT_CLASS(i) (192 + (i)) /* 2 bits */
-#define TARRAVANE_ALERT_CAUSE(i) (256 + (i)) /* 1 bit, a 1 clears */
+#define TARRAVANE_ALERT_REGWEN(i) (256 + (i)) /* 1 bit, a 0 locks */
+#define TARRAVANE_ALERT_EN(i) (512 + (i))     /* 1 bit */
+#define TARRAVANE_ALERT_CLASS(i) (768 + (i))  /* 2 bits */
+#define TARRAVANE_ALERT_CAUSE(i) (1024 + (i)) /* 1 bit, a 1 clears */
 
-#define TARRAVANE_CLASS_REGWEN(k) (320 + 16 * (k))            /* 1 bit, a 0 locks */
-#define TARRAVANE_CLASS_CTRL(k) (321 + 16 * (k))              /* 14 bits: EN, LOCK, four line enables, four maps */
-#define TARRAVANE_CLASS_CLR_REGWEN(k) (322 + 16 * (k))        /* 1 bit, a 0 locks */
-#define TARRAVANE_CLASS_CLR(k) (323 + 16 * (k))               /* 1 bit, write only */
-#define TARRAVANE_CLASS_ACCUM_CNT(k) (324 + 16 * (k))         /* 16 bits, read only */
-#define TARRAVANE_CLASS_ACCUM_THRESH(k) (325 + 16 * (k))      /* 16 bits */
-#define TARRAVANE_CLASS_TIMEOUT_CYC(k) (326 + 16 * (k))       /* 32 bits */
-#define TARRAVANE_CLASS_PHASE_CYC(k, p) (327 + 16 * (k) + (p)) /* 32 bits */
-#define TARRAVANE_CLASS_ESC_CNT(k) (331 + 16 * (k))           /* 32 bits, read only */
-#define TARRAVANE_CLASS_STATE(k) (332 + 16 * (k))             /* 3 bits, read only */
+#define TARRAVANE_CLASS_REGWEN(k) (1280 + 16 * (k))             /* 1 bit, a 0 locks */
+#define TARRAVANE_CLASS_CTRL(k) (1281 + 16 * (k))               /* 14 bits: EN, LOCK, four line enables, four maps */
+#define TARRAVANE_CLASS_CLR_REGWEN(k) (1282 + 16 * (k))         /* 1 bit, a 0 locks */
+#define TARRAVANE_CLASS_CLR(k) (1283 + 16 * (k))                /* 1 bit, write only */
+#define TARRAVANE_CLASS_ACCUM_CNT(k) (1284 + 16 * (k))          /* 16 bits, read only */
+#define TARRAVANE_CLASS_ACCUM_THRESH(k) (1285 + 16 * (k))       /* 16 bits */
+#define TARRAVANE_CLASS_TIMEOUT_CYC(k) (1286 + 16 * (k))        /* 32 bits */
+#define TARRAVANE_CLASS_PHASE_CYC(k, p) (1287 + 16 * (k) + (p)) /* 32 bits */
+#define TARRAVANE_CLASS_ESC_CNT(k) (1291 + 16 * (k))            /* 32 bits, read only */
+#define TARRAVANE_CLASS_STATE(k) (1292 + 16 * (k))              /* 3 bits, read only */
 
 /* What STATE reads. */
 #define TARRAVANE_IDLE 0
@@ -185,9 +192,9 @@ struct tarravane_batched {
 
 /* ---- The functions ---- */
 
-/* Makes a handler for n alerts, 1 to 64: all REGWEN and CLR_REGWEN at 1, all CTRL at 0x393C, every other register at 0,
- * classes Idle, alerts re-armed; answers 0.
- * -6: n is 0 or over 64. It leaves a handler of no alerts, otherwise as new. */
+/* Makes a handler for n alerts, 1 to 248: all REGWEN and CLR_REGWEN at 1, all CTRL at 0x393C, every other register at 0,
+ * classes Idle, alerts re-armed, and so the entries at n and above; answers 0.
+ * -6: n is 0 or over 248. It leaves a handler of no alerts, otherwise as new. */
 struct tarravane_made tarravane_new(size_t n);
 
 /* Runs one tick of the state h and gives the state after it, the answer to the access, and the outputs.
@@ -198,26 +205,33 @@ struct tarravane_made tarravane_new(size_t n);
 struct tarravane_answered tarravane_tick(struct tarravane_handler h, uint8_t kind, uint16_t register_number,
                                          uint32_t value, struct tarravane_wires wires);
 
-/* Runs a tick for each record of 24 bytes, one after another from the state h, and writes a word for each at its place in
+/* Runs a tick for each record of 70 bytes, one after another from the state h, and writes a word for each at its place in
  * out: bits 63 to 60 interrupts (class 0 first), 59 to 56 lines (line 0 first), 55 to 52 the refusal number or 0, then 20
  * zeros and the 32 bits of the value that was read, or 0. Later words stay as they were. Gives the state after the last
  * tick, and 0. A record that gets refusal 1 to 5 still takes its tick, and the batch goes on; its word says so.
- * -7: the state breaks its rule. -8: length is not a multiple of 24. -9: words is less than length / 24. In this order;
+ * -7: the state breaks its rule. -8: length is not a multiple of 70. -9: words is less than length / 70. In this order;
  * each leaves state and list unchanged.
  * The caller owes: bytes points to length readable bytes, out to words writable words, aligned; they do not overlap;
  * neither is null, also where its length is 0. */
-struct tarravane_batched tarravane_batch(struct tarravane_handler h, const uint8_t *bytes, size_t length, uint64_t *out,
-                                         size_t words);
+struct tarravane_batched tarravane_batch_70(struct tarravane_handler h, const uint8_t *bytes, size_t length, uint64_t *out,
+                                            size_t words);
 
-/* Writes a trace record of 24 bytes for each entry of the five lists, one after another from the start of bytes, and
- * answers the bytes written: 24 times the entries. Entry i of kinds, registers and values is the access of record i:
- * TARRAVANE_NONE with register and value 0, TARRAVANE_READ with value 0, or TARRAVANE_WRITE. Its wires are the TARRAVANE_WORDS
- * words of positive and of negative from i * TARRAVANE_WORDS on, as in struct tarravane_wires. Later bytes stay as they were. No entries: nothing is written, and it answers 0.
- * Reading what was written (tarravane_batch) gives these accesses and wires; writing what was read of a well-formed record
- * gives its bytes.
+/* The same for records of 24 bytes, with 24 in place of 70. Their register numbers are document 01's and carried over: a
+ * number that was unassigned then gets refusal 1, also where it names a register now. They have wires for 64 alerts.
+ * -7 also for a state of more than 64 alerts, though it keeps its rule, and with no bytes too. */
+struct tarravane_batched tarravane_batch_24(struct tarravane_handler h, const uint8_t *bytes, size_t length, uint64_t *out,
+                                            size_t words);
+
+/* Writes a trace record of 70 bytes for each entry of the five lists, one after another from the start of bytes, and
+ * answers the bytes written: 70 times the entries. Entry i of kinds, registers and values is the access of record i:
+ * TARRAVANE_NONE with register and value 0, TARRAVANE_READ with value 0, or TARRAVANE_WRITE. Its wires are the
+ * TARRAVANE_WORDS words of positive and of negative from i * TARRAVANE_WORDS on, as in struct tarravane_wires; places 248
+ * to 255 are left out, whatever they hold. Later bytes stay as they were. No entries: nothing is written, and it answers 0.
+ * Reading what was written (tarravane_batch_70) gives these accesses and the wires of all 248 alerts; writing what was read
+ * of a well-formed record gives its bytes.
  * -10: an entry that no well-formed record holds (a kind over 2, TARRAVANE_NONE with a register or value, a read with a
- * value, a register over 1023), or lists of unequal lengths (positive and negative: TARRAVANE_WORDS for each entry). -11: length is less than 24 times the entries. In this order;
- * each leaves bytes as they were.
+ * value, a register over 2047), or lists of unequal lengths (positive and negative: TARRAVANE_WORDS for each entry).
+ * -11: length is less than 70 times the entries. In this order; each leaves bytes as they were.
  * The caller owes: each list points to as many readable entries as its length says, aligned, and bytes to length writable
  * bytes that overlap none of them; no pointer is null, also where its length is 0. */
 int64_t tarravane_record(const uint8_t *kinds, size_t kinds_length, const uint16_t *registers, size_t registers_length,
@@ -237,34 +251,34 @@ TARRAVANE_ASSERT(offsetof(struct tarravane_class, thresh) == 28);
 TARRAVANE_ASSERT(offsetof(struct tarravane_class, regwen) == 30);
 TARRAVANE_ASSERT(offsetof(struct tarravane_class, clrwen) == 31);
 TARRAVANE_ASSERT(offsetof(struct tarravane_class, state) == 32);
-TARRAVANE_ASSERT(sizeof(struct tarravane_alerts) == 256);
-TARRAVANE_ASSERT(offsetof(struct tarravane_alerts, en) == 64);
-TARRAVANE_ASSERT(offsetof(struct tarravane_alerts, class_of) == 128);
-TARRAVANE_ASSERT(offsetof(struct tarravane_alerts, cause) == 192);
+TARRAVANE_ASSERT(sizeof(struct tarravane_alerts) == 992);
+TARRAVANE_ASSERT(offsetof(struct tarravane_alerts, en) == 248);
+TARRAVANE_ASSERT(offsetof(struct tarravane_alerts, class_of) == 496);
+TARRAVANE_ASSERT(offsetof(struct tarravane_alerts, cause) == 744);
 TARRAVANE_ASSERT(sizeof(struct tarravane_locals) == 28);
 TARRAVANE_ASSERT(offsetof(struct tarravane_locals, en) == 7);
 TARRAVANE_ASSERT(offsetof(struct tarravane_locals, class_of) == 14);
 TARRAVANE_ASSERT(offsetof(struct tarravane_locals, cause) == 21);
 TARRAVANE_ASSERT(sizeof(struct tarravane_interrupts) == 2);
 TARRAVANE_ASSERT(offsetof(struct tarravane_interrupts, enable) == 1);
-TARRAVANE_ASSERT(sizeof(struct tarravane_handler) == 448);
+TARRAVANE_ASSERT(sizeof(struct tarravane_handler) == 1208);
 TARRAVANE_ASSERT(offsetof(struct tarravane_handler, n) == 0);
 TARRAVANE_ASSERT(offsetof(struct tarravane_handler, receivers) == 8);
-TARRAVANE_ASSERT(offsetof(struct tarravane_handler, classes) == 16);
-TARRAVANE_ASSERT(offsetof(struct tarravane_handler, alerts) == 160);
-TARRAVANE_ASSERT(offsetof(struct tarravane_handler, locals) == 416);
-TARRAVANE_ASSERT(offsetof(struct tarravane_handler, interrupts) == 444);
-TARRAVANE_ASSERT(sizeof(struct tarravane_wires) == 16);
-TARRAVANE_ASSERT(offsetof(struct tarravane_wires, neg) == 8);
+TARRAVANE_ASSERT(offsetof(struct tarravane_handler, classes) == 40);
+TARRAVANE_ASSERT(offsetof(struct tarravane_handler, alerts) == 184);
+TARRAVANE_ASSERT(offsetof(struct tarravane_handler, locals) == 1176);
+TARRAVANE_ASSERT(offsetof(struct tarravane_handler, interrupts) == 1204);
+TARRAVANE_ASSERT(sizeof(struct tarravane_wires) == 64);
+TARRAVANE_ASSERT(offsetof(struct tarravane_wires, neg) == 32);
 TARRAVANE_ASSERT(sizeof(struct tarravane_output) == 2);
 TARRAVANE_ASSERT(offsetof(struct tarravane_output, lines) == 1);
-TARRAVANE_ASSERT(sizeof(struct tarravane_made) == 456);
-TARRAVANE_ASSERT(offsetof(struct tarravane_made, answer) == 448);
-TARRAVANE_ASSERT(sizeof(struct tarravane_answered) == 464);
-TARRAVANE_ASSERT(offsetof(struct tarravane_answered, answer) == 448);
-TARRAVANE_ASSERT(offsetof(struct tarravane_answered, output) == 456);
-TARRAVANE_ASSERT(sizeof(struct tarravane_batched) == 456);
-TARRAVANE_ASSERT(offsetof(struct tarravane_batched, answer) == 448);
+TARRAVANE_ASSERT(sizeof(struct tarravane_made) == 1216);
+TARRAVANE_ASSERT(offsetof(struct tarravane_made, answer) == 1208);
+TARRAVANE_ASSERT(sizeof(struct tarravane_answered) == 1224);
+TARRAVANE_ASSERT(offsetof(struct tarravane_answered, answer) == 1208);
+TARRAVANE_ASSERT(offsetof(struct tarravane_answered, output) == 1216);
+TARRAVANE_ASSERT(sizeof(struct tarravane_batched) == 1216);
+TARRAVANE_ASSERT(offsetof(struct tarravane_batched, answer) == 1208);
 
 #ifdef __cplusplus
 }

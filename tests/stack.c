@@ -13,7 +13,7 @@
 
 static unsigned char *stack;
 static unsigned char *frame; /* the caller's, noted before its call */
-static uint8_t bytes[RECORDS * TARRAVANE_RECORD];
+static uint8_t bytes[RECORDS * TARRAVANE_RECORD_70];
 static uint64_t words[RECORDS];
 
 /* What a call is given. */
@@ -25,13 +25,13 @@ static uint64_t positive[RECORDS * TARRAVANE_WORDS], negative[RECORDS * TARRAVAN
 static struct tarravane_wires wires;
 static size_t entries;
 
-/* A call takes its argument of 448 bytes and its result from the caller's frame: both are counted. */
+/* A call takes its argument of 1208 bytes and its result from the caller's frame: both are counted. */
 #define NOTE_FRAME() frame = __builtin_frame_address(0)
 
 static void call_new(void)
 {
     NOTE_FRAME();
-    state = tarravane_new(entries % 70).handler;
+    state = tarravane_new(entries).handler;
 }
 
 static void call_tick(void)
@@ -40,10 +40,16 @@ static void call_tick(void)
     state = tarravane_tick(state, kinds[0], registers[0], values[0], wires).handler;
 }
 
-static void call_batch(void)
+static void call_batch_24(void)
 {
     NOTE_FRAME();
-    state = tarravane_batch(state, bytes, entries * TARRAVANE_RECORD, words, RECORDS).handler;
+    state = tarravane_batch_24(state, bytes, entries * TARRAVANE_RECORD_24, words, RECORDS).handler;
+}
+
+static void call_batch_70(void)
+{
+    NOTE_FRAME();
+    state = tarravane_batch_70(state, bytes, entries * TARRAVANE_RECORD_70, words, RECORDS).handler;
 }
 
 static void call_record(void)
@@ -89,7 +95,7 @@ static void draw_input(void)
     entries = next_random() % (RECORDS + 1);
     for (size_t i = 0; i < RECORDS; i++) {
         kinds[i] = (uint8_t)(next_random() % 3);
-        registers[i] = kinds[i] == TARRAVANE_NONE ? 0 : (uint16_t)(next_random() % 512);
+        registers[i] = kinds[i] == TARRAVANE_NONE ? 0 : (uint16_t)(next_random() % 1536);
         values[i] = kinds[i] == TARRAVANE_WRITE ? (uint32_t)(next_random() >> (next_random() % 64)) : 0;
     }
     for (size_t i = 0; i < RECORDS * TARRAVANE_WORDS; i++) {
@@ -100,31 +106,50 @@ static void draw_input(void)
     memcpy(wires.neg, negative, sizeof wires.neg);
 }
 
-/* A state of any number of alerts; in the first round one of zeros, as making one binds memcpy. */
-static void draw_state(int round)
+/* A state of up to so many alerts; in the first round one of zeros, as making one binds memcpy. */
+static void draw_state(int round, size_t alerts)
 {
     if (round > 0)
-        state = tarravane_new(1 + next_random() % TARRAVANE_ALERTS).handler;
+        state = tarravane_new(1 + next_random() % alerts).handler;
 }
 
-static const struct {
+/* Records of 24 bytes of the accesses, with document 01's numbers; those of 70 the library writes. */
+static void pack_24(void)
+{
+    memset(bytes, 0, sizeof bytes);
+    for (size_t i = 0; i < entries; i++) {
+        uint8_t *at = bytes + i * TARRAVANE_RECORD_24;
+        uint32_t head = (uint32_t)kinds[i] << 30 | (uint32_t)(registers[i] % 384) << 20;
+        for (int b = 0; b < 4; b++) {
+            at[b] = (uint8_t)(head >> (24 - 8 * b));
+            at[4 + b] = (uint8_t)(values[i] >> (24 - 8 * b));
+        }
+        memcpy(at + 8, &positive[i], 8);
+        memcpy(at + 16, &negative[i], 8);
+    }
+}
+
+static const struct call {
     const char *name;
     void (*call)(void);
+    void (*pack)(void);
+    size_t alerts;
 } calls[] = {
-    {"tarravane_new", call_new},
-    {"tarravane_tick", call_tick},
-    {"tarravane_batch", call_batch},
-    {"tarravane_record", call_record},
+    {"tarravane_new", call_new, call_record, TARRAVANE_ALERTS},
+    {"tarravane_tick", call_tick, call_record, TARRAVANE_ALERTS},
+    {"tarravane_batch_24", call_batch_24, pack_24, TARRAVANE_ALERTS_24},
+    {"tarravane_batch_70", call_batch_70, call_record, TARRAVANE_ALERTS},
+    {"tarravane_record", call_record, call_record, TARRAVANE_ALERTS},
 };
 
-static size_t most_of(void (*call)(void))
+static size_t most_of(const struct call *c)
 {
     size_t most = 0;
     for (int round = 0; round < 200; round++) {
         draw_input();
-        draw_state(round);
-        call_record();
-        size_t depth = depth_of(call);
+        draw_state(round, c->alerts);
+        c->pack();
+        size_t depth = depth_of(c->call);
         if (depth > most)
             most = depth;
     }
@@ -138,7 +163,7 @@ int main(int count, char **words_given)
         return 2;
     for (size_t i = 0; i < sizeof calls / sizeof calls[0]; i++) {
         if (strcmp(calls[i].name, words_given[1]) == 0) {
-            printf("%zu\n", most_of(calls[i].call));
+            printf("%zu\n", most_of(&calls[i]));
             return 0;
         }
     }

@@ -14,11 +14,12 @@ pub enum Refusal {
     OutsideField = 4,
     /// The trace record is malformed.
     Malformed = 5,
-    /// N is 0 or over 64.
+    /// N is 0 or over 248.
     AlertCount = 6,
-    /// The state breaks the rule on stored states.
+    /// The state breaks the rule on stored states, or has more alerts than the
+    /// records of a batch.
     BrokenState = 7,
-    /// The batch length is not a multiple of 24.
+    /// The batch length is not a multiple of its edition's record.
     BatchLength = 8,
     /// The output list is shorter than the records.
     ShortList = 9,

@@ -2,9 +2,10 @@
 
 use crate::answer::Refusal;
 use crate::class::Class;
+use crate::wires::{wire, Wires};
 
 /// The largest number of alerts.
-pub const MAX_ALERTS: usize = 64;
+pub const MAX_ALERTS: usize = 248;
 /// The number of local alerts.
 pub const LOCALS: usize = 7;
 /// The number of classes.
@@ -100,7 +101,7 @@ pub struct Handler {
 }
 
 impl Handler {
-    /// Makes a handler for `n` alerts and answers 0. If `n` is 0 or over 64 the
+    /// Makes a handler for `n` alerts and answers 0. If `n` is 0 or over 248 the
     /// answer is -6 and the handler has no alerts, otherwise as new.
     pub fn new(n: u64) -> (Handler, i64) {
         let accepted = n >= 1 && n <= MAX_ALERTS as u64;
@@ -122,7 +123,7 @@ impl Handler {
     }
 
     /// Whether the state keeps the rule of refusal 7. An N of 0 keeps it: the
-    /// rule speaks of N over 64 only.
+    /// rule speaks of N over 248 only.
     pub fn valid(&self) -> bool {
         if self.n > MAX_ALERTS as u64 || self.intr_state > 0xF || self.intr_enable > 0xF {
             return false;
@@ -146,9 +147,9 @@ impl Handler {
         true
     }
 
-    /// Runs one tick. Alert 0 is the most significant bit of `pos` and `neg`,
-    /// as in a trace record. A broken state answers -7 and stays as it is.
-    pub fn tick(&mut self, access: Access, pos: u64, neg: u64) -> Ticked {
+    /// Runs one tick with the positive wires `pos` and the negative `neg`. A
+    /// broken state answers -7 and stays as it is.
+    pub fn tick(&mut self, access: Access, pos: &Wires, neg: &Wires) -> Ticked {
         if !self.valid() {
             return Ticked {
                 answer: Refusal::BrokenState.answer(),
@@ -160,7 +161,7 @@ impl Handler {
     }
 
     /// Runs one tick on a state known to be valid.
-    pub(crate) fn run(&mut self, access: Access, pos: u64, neg: u64) -> Ticked {
+    pub(crate) fn run(&mut self, access: Access, pos: &Wires, neg: &Wires) -> Ticked {
         let (answer, cleared) = self.access(access);
         let assigned = self.sample(pos, neg);
         for (k, class) in self.classes.iter_mut().enumerate() {
@@ -183,12 +184,12 @@ impl Handler {
 
     /// Step 2: takes the samples; says which classes have an alert's event or
     /// an occurring local alert assigned, whether or not their EN is 1.
-    fn sample(&mut self, pos: u64, neg: u64) -> [bool; CLASSES] {
+    fn sample(&mut self, pos: &Wires, neg: &Wires) -> [bool; CLASSES] {
         let mut assigned = [false; CLASSES];
         let mut equal = false;
         for i in 0..self.n as usize {
-            let p = (pos >> (63 - i)) & 1 == 1;
-            let n = (neg >> (63 - i)) & 1 == 1;
+            let p = wire(pos, i);
+            let n = wire(neg, i);
             let alert = &mut self.alerts[i];
             if p == n {
                 equal |= alert.en == 1;

@@ -6,14 +6,20 @@
 
 mod access;
 pub mod answer;
+pub mod carried;
 pub mod class;
+pub mod edition;
 pub mod handler;
 pub mod register;
 pub mod trace;
+pub mod wires;
 pub mod writer;
 
 pub use answer::Refusal;
+pub use carried::carried;
 pub use class::Class;
+pub use edition::Edition;
 pub use handler::{Access, Handler, Source, Ticked};
 pub use trace::batch;
+pub use wires::Wires;
 pub use writer::record;

@@ -67,11 +67,11 @@ impl Register {
             24..=30 => Some(Register::Local(SourceField::En, at - 24)),
             32..=38 => Some(Register::Local(SourceField::Class, at - 32)),
             40..=46 => Some(Register::Local(SourceField::Cause, at - 40)),
-            64..=127 => alert(SourceField::Regwen, at - 64, n),
-            128..=191 => alert(SourceField::En, at - 128, n),
-            192..=255 => alert(SourceField::Class, at - 192, n),
-            256..=319 => alert(SourceField::Cause, at - 256, n),
-            320..=383 => class((at - 320) % 16, (at - 320) / 16),
+            256..=503 => alert(SourceField::Regwen, at - 256, n),
+            512..=759 => alert(SourceField::En, at - 512, n),
+            768..=1015 => alert(SourceField::Class, at - 768, n),
+            1024..=1271 => alert(SourceField::Cause, at - 1024, n),
+            1280..=1343 => class((at - 1280) % 16, (at - 1280) / 16),
             _ => None,
         }
     }

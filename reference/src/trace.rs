@@ -1,37 +1,47 @@
 //! Packed traces: records in, words out. Most significant bit first.
 
 use crate::answer::{refusal_number, value, Refusal};
+use crate::carried::carried;
+use crate::edition::Edition;
 use crate::handler::{Access, Handler, Ticked};
-
-/// The bytes of one record.
-pub const RECORD: usize = 24;
+use crate::wires::{from_bytes, Wires};
 
 /// Takes a record apart into its access, positive wires and negative wires.
-/// Alert 0 is the most significant bit of the wires, as in the record. A
-/// malformed record keeps its wires, since its tick still runs.
-pub fn parse(record: &[u8; RECORD]) -> (Access, u64, u64) {
-    let head = field(record, 0, 4) as u32;
-    let value = field(record, 4, 4) as u32;
-    let kind = head >> 30;
-    let register = ((head >> 20) & 0x3FF) as u16;
-    let access = if head & 0xF_FFFF != 0 {
-        Access::Malformed
-    } else {
-        match kind {
-            0 if register == 0 && value == 0 => Access::None,
-            1 if value == 0 => Access::Read { register },
-            2 => Access::Write { register, value },
-            _ => Access::Malformed,
-        }
-    };
-    (access, field(record, 8, 8), field(record, 16, 8))
+/// `record` is the `edition.bytes()` bytes of one record. The access has
+/// today's register number, carried over from a record of the first edition.
+/// A malformed record keeps its wires, since its tick still runs.
+pub fn parse(edition: Edition, record: &[u8]) -> (Access, Wires, Wires) {
+    let access = access(edition, number(&record[..4]), number(&record[4..8]));
+    let (positive, negative) = record[8..].split_at(edition.wire_bytes());
+    (access, from_bytes(positive), from_bytes(negative))
 }
 
-/// The number in `length` bytes of a record.
-fn field(record: &[u8; RECORD], start: usize, length: usize) -> u64 {
+/// The access in a record's first 32 bits and its value.
+fn access(edition: Edition, head: u32, value: u32) -> Access {
+    let kind = head >> 30;
+    let zeros = head & ((1 << edition.zero_bits()) - 1);
+    let number = (head >> edition.zero_bits()) & ((1 << edition.register_bits()) - 1);
+    let number = number as u16;
+    let register = match edition {
+        Edition::First => carried(number),
+        Edition::Second => number,
+    };
+    if zeros != 0 {
+        return Access::Malformed;
+    }
+    match kind {
+        0 if number == 0 && value == 0 => Access::None,
+        1 if value == 0 => Access::Read { register },
+        2 => Access::Write { register, value },
+        _ => Access::Malformed,
+    }
+}
+
+/// The number in four bytes of a record.
+fn number(bytes: &[u8]) -> u32 {
     let mut number = 0;
-    for byte in &record[start..start + length] {
-        number = (number << 8) | u64::from(*byte);
+    for byte in bytes {
+        number = (number << 8) | u32::from(*byte);
     }
     number
 }
@@ -55,22 +65,22 @@ fn first_highest(bits: u8) -> u64 {
 
 /// Runs the records in `bytes` and fills `out` with one word each; later words
 /// stay as they were. Answers 0, or -7, -8, -9 with state and list unchanged.
-pub fn batch(handler: &mut Handler, bytes: &[u8], out: &mut [u64]) -> i64 {
-    if !handler.valid() {
+pub fn batch(handler: &mut Handler, edition: Edition, bytes: &[u8], out: &mut [u64]) -> i64 {
+    // A record must have wires for every alert, so a batch of the first
+    // edition refuses a larger handler, though its state is sound.
+    if !handler.valid() || handler.n > edition.alerts() as u64 {
         return Refusal::BrokenState.answer();
     }
-    if !bytes.len().is_multiple_of(RECORD) {
+    if !bytes.len().is_multiple_of(edition.bytes()) {
         return Refusal::BatchLength.answer();
     }
-    if out.len() < bytes.len() / RECORD {
+    if out.len() < bytes.len() / edition.bytes() {
         return Refusal::ShortList.answer();
     }
-    let mut record = [0; RECORD];
-    for (chunk, slot) in bytes.chunks_exact(RECORD).zip(out.iter_mut()) {
-        record.copy_from_slice(chunk);
-        let (access, pos, neg) = parse(&record);
+    for (record, slot) in bytes.chunks_exact(edition.bytes()).zip(out.iter_mut()) {
+        let (access, pos, neg) = parse(edition, record);
         // Ticks keep a valid state valid, so it is judged once above.
-        *slot = word(&handler.run(access, pos, neg));
+        *slot = word(&handler.run(access, &pos, &neg));
     }
     0
 }

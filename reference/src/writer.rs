@@ -2,22 +2,27 @@
 //! bit first.
 
 use crate::answer::Refusal;
-use crate::trace::RECORD;
+use crate::edition::Edition;
+use crate::wires::{to_bytes, Wires};
 
-/// Writes one record for each entry of a list to the front of `out` and
-/// answers the bytes written; later bytes stay as they were. The five slices
-/// are the list: kind (0 none, 1 read, 2 write), register, value, positive and
-/// negative wires, with alert 0 in the most significant bit of the wires.
+/// The edition that is written: the newest.
+pub const WRITTEN: Edition = Edition::Second;
+
+/// Writes one record of the newest edition for each entry of a list to the
+/// front of `out` and answers the bytes written; later bytes stay as they
+/// were. The five slices are the list: kind (0 none, 1 read, 2 write),
+/// register, value, positive and negative wires.
 ///
 /// Answers -10 if no well-formed record holds one of the entries, and if the
 /// slices do not all have the same length; else -11 if `out` is shorter than
-/// the records. Either leaves every byte of `out` as it was.
+/// the records. Either leaves every byte of `out` as it was. Places 248 to 255
+/// of the wires are no wires: they are left out and refuse nothing.
 pub fn record(
     kinds: &[u8],
     registers: &[u16],
     values: &[u32],
-    positive: &[u64],
-    negative: &[u64],
+    positive: &[Wires],
+    negative: &[Wires],
     out: &mut [u8],
 ) -> i64 {
     let entries = kinds.len();
@@ -31,44 +36,32 @@ pub fn record(
             return Refusal::Unrecordable.answer();
         }
     }
-    if out.len() / RECORD < entries {
+    let size = WRITTEN.bytes();
+    if out.len() / size < entries {
         return Refusal::ShortBuffer.answer();
     }
-    for (i, record) in out.chunks_exact_mut(RECORD).take(entries).enumerate() {
-        // The bits of each field and what it holds, in the paper's order.
-        let fields = [
-            (2, u64::from(kinds[i])),
-            (10, u64::from(registers[i])),
-            (20, 0),
-            (32, u64::from(values[i])),
-            (64, positive[i]),
-            (64, negative[i]),
-        ];
-        put(record, &fields);
+    for (i, record) in out.chunks_exact_mut(size).take(entries).enumerate() {
+        put_access(&mut record[..8], kinds[i], registers[i], values[i]);
+        let (first, second) = record[8..].split_at_mut(WRITTEN.wire_bytes());
+        first.copy_from_slice(&to_bytes(&positive[i]));
+        second.copy_from_slice(&to_bytes(&negative[i]));
     }
-    (entries * RECORD) as i64
+    (entries * size) as i64
 }
 
-/// Whether a well-formed record holds the access.
+/// Whether a well-formed record holds the access: 11 bits for the register.
 fn held(kind: u8, register: u16, value: u32) -> bool {
     match kind {
         0 => register == 0 && value == 0,
-        1 => register < 1024 && value == 0,
-        2 => register < 1024,
+        1 => register < 2048 && value == 0,
+        2 => register < 2048,
         _ => false,
     }
 }
 
-/// Fills a record with the bits of its fields, one after another.
-fn put(record: &mut [u8], fields: &[(usize, u64)]) {
-    record.fill(0);
-    let mut at = 0;
-    for (bits, number) in fields {
-        for bit in (0..*bits).rev() {
-            if (number >> bit) & 1 == 1 {
-                record[at / 8] |= 0x80 >> (at % 8);
-            }
-            at += 1;
-        }
-    }
+/// Fills the first eight bytes: 2 bits kind, 11 register, 19 zeros, 32 value.
+fn put_access(bytes: &mut [u8], kind: u8, register: u16, value: u32) {
+    let head = (u32::from(kind) << 30) | (u32::from(register) << 19);
+    bytes[..4].copy_from_slice(&head.to_be_bytes());
+    bytes[4..].copy_from_slice(&value.to_be_bytes());
 }

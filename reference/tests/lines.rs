@@ -2,7 +2,7 @@
 
 mod common;
 
-use common::{event, idle, read, ready, tick, write, ALERT0, REST};
+use common::{event, idle, raised, read, ready, tick, write, Sample, ALERT0, REST};
 use reference::class::{IDLE, PHASE0, TERMINAL, TIMEOUT};
 use reference::{Access, Handler};
 
@@ -17,9 +17,9 @@ fn stands(h: &Handler) -> (u8, u32) {
 }
 
 /// A tick that writes class 0's CTRL and has these wires.
-fn set_ctrl(h: &mut Handler, value: u32, wires: (u64, u64)) -> u8 {
+fn set_ctrl(h: &mut Handler, value: u32, wires: Sample) -> u8 {
     let access = Access::Write {
-        register: 321,
+        register: 1281,
         value,
     };
     let ticked = tick(h, access, wires);
@@ -44,7 +44,7 @@ fn no_lines_no_event() {
             assert!(!h.armed[0]);
             idle(&mut h);
         }
-        assert_eq!(read(&mut h, 321), i64::from(ctrl));
+        assert_eq!(read(&mut h, 1281), i64::from(ctrl));
     }
 }
 
@@ -52,7 +52,7 @@ fn no_lines_no_event() {
 fn no_lines_no_event_of_equal_wires() {
     let mut h = ready(1, NO_LINES);
     assert_eq!(write(&mut h, 26, 1), 0);
-    tick(&mut h, Access::None, (0, 0));
+    tick(&mut h, Access::None, ([0; 4], [0; 4]));
     assert_eq!(h.locals[2].cause, 1);
     assert_eq!((h.intr_state, h.classes[0].accum_cnt), (0, 0));
     assert_eq!(stands(&h), (IDLE, 0));
@@ -82,7 +82,7 @@ fn the_enables_after_the_access_count() {
 #[test]
 fn no_lines_not_due() {
     let mut h = ready(1, NO_LINES);
-    assert_eq!(write(&mut h, 326, 5), 0);
+    assert_eq!(write(&mut h, 1286, 5), 0);
     // The bit that software sets is set, but it starts no timeout.
     assert_eq!(write(&mut h, 2, 1), 0);
     assert_eq!((h.intr_state, stands(&h)), (1, (IDLE, 0)));
@@ -133,7 +133,7 @@ fn a_running_phase_goes_on_without_lines() {
     }
     event(&mut h);
     assert_eq!(stands(&h), (TERMINAL, 0));
-    assert_eq!(write(&mut h, 323, 1), 0);
+    assert_eq!(write(&mut h, 1283, 1), 0);
     assert_eq!((stands(&h), h.classes[0].accum_cnt), ((IDLE, 0), 0));
 }
 
@@ -161,7 +161,7 @@ fn each_line_enable_alone_is_enough() {
         assert_eq!(stands(&h), (PHASE0, 1));
 
         let mut h = ready(1, NO_LINES | (4 << e));
-        assert_eq!(write(&mut h, 326, 1), 0);
+        assert_eq!(write(&mut h, 1286, 1), 0);
         assert_eq!(write(&mut h, 2, 1), 0);
         assert_eq!(stands(&h), (TIMEOUT, 1), "line {e}");
         idle(&mut h);
@@ -175,7 +175,7 @@ fn lock_is_not_touched() {
     let mut h = ready(1, NO_LINES | 2);
     event(&mut h);
     assert_eq!(h.classes[0].clr_regwen, 1);
-    assert_eq!(read(&mut h, 321), i64::from(NO_LINES | 2));
+    assert_eq!(read(&mut h, 1281), i64::from(NO_LINES | 2));
     // With each single line a start locks as before.
     for e in 0..4 {
         let mut h = ready(1, NO_LINES | 2 | (4 << e));
@@ -183,7 +183,7 @@ fn lock_is_not_touched() {
         assert_eq!((stands(&h), h.classes[0].clr_regwen), ((PHASE0, 1), 0));
         // Switching the lines off afterwards opens nothing.
         set_ctrl(&mut h, NO_LINES | 2, REST);
-        assert_eq!(write(&mut h, 323, 1), -3);
+        assert_eq!(write(&mut h, 1283, 1), -3);
         assert_eq!(h.classes[0].clr_regwen, 0);
     }
 }
@@ -191,9 +191,9 @@ fn lock_is_not_touched() {
 #[test]
 fn the_other_classes_do_not_mind() {
     let mut h = ready(2, NO_LINES);
-    assert_eq!(write(&mut h, 193, 2), 0);
-    assert_eq!(write(&mut h, 353, ALL_LINES), 0);
-    let ticked = tick(&mut h, Access::None, (3 << 62, !(3 << 62)));
+    assert_eq!(write(&mut h, 769, 2), 0);
+    assert_eq!(write(&mut h, 1313, ALL_LINES), 0);
+    let ticked = tick(&mut h, Access::None, raised(&[0, 1]));
     assert_eq!((ticked.lines, h.intr_state), (1, 4));
     assert_eq!(stands(&h), (IDLE, 0));
     assert_eq!(h.classes[2].state, PHASE0);

@@ -1,39 +1,15 @@
-//! Registers, samples, classes and refusal 7, each as a run with asserted values.
+//! Registers, samples, classes and refusal 7, each as a run with asserted
+//! values and today's register numbers.
 
 mod common;
 
-use common::{event, idle, new, read, ready, tick, write, ALERT0, REST};
+use common::{event, idle, new, raised, read, ready, tick, with, write, ALERT0, COUNTS, REST};
 use reference::class::{IDLE, PHASE0, TERMINAL, TIMEOUT};
+use reference::handler::MAX_ALERTS;
 use reference::trace::word;
-use reference::{batch, Access, Handler, Ticked};
+use reference::{batch, Access, Edition, Handler, Source, Ticked};
 
 // Registers
-
-#[test]
-fn the_map_at_reset() {
-    let mut h = new(5);
-    let mut found = 0;
-    for number in 0..1024u16 {
-        let answer = read(&mut h, number);
-        let offset = (number.wrapping_sub(320)) % 16;
-        let expected = match number {
-            0 | 1 | 24..=30 | 32..=38 | 40..=46 => 0,
-            128..=132 | 192..=196 | 256..=260 => 0,
-            16..=22 | 64..=68 => 1,
-            2 => -2,
-            320..=383 if offset == 3 => -2,
-            320..=383 if offset == 1 => 0x393C,
-            320..=383 if offset == 0 || offset == 2 => 1,
-            320..=383 if offset <= 12 => 0,
-            _ => -1,
-        };
-        assert_eq!(answer, expected, "register {number}");
-        found += i32::from(answer != -1);
-    }
-    assert_eq!(found, 3 + 28 + 20 + 52);
-    assert_eq!(read(&mut h, 1024), -1);
-    assert_eq!(h, new(5));
-}
 
 #[test]
 fn largest_values_and_one_bit_more() {
@@ -46,13 +22,13 @@ fn largest_values_and_one_bit_more() {
         (26, 1, 1),
         (34, 3, 3),
         (42, 1, 0),
-        (64, 1, 1),
-        (128, 1, 1),
-        (192, 3, 3),
-        (256, 1, 0),
-        (321, 0x3FFF, 0x3FFF),
-        (325, 0xFFFF, 0xFFFF),
-        (323, 1, -2),
+        (256, 1, 1),
+        (512, 1, 1),
+        (768, 3, 3),
+        (1024, 1, 0),
+        (1281, 0x3FFF, 0x3FFF),
+        (1285, 0xFFFF, 0xFFFF),
+        (1283, 1, -2),
     ];
     for (number, largest, after) in rows {
         let mut h = new(1);
@@ -62,7 +38,7 @@ fn largest_values_and_one_bit_more() {
         assert_eq!(write(&mut h, number, largest), 0, "{number}");
         assert_eq!(read(&mut h, number), after, "{number}");
     }
-    for number in 326..=330 {
+    for number in 1286..=1290 {
         let mut h = new(1);
         assert_eq!(write(&mut h, number, u32::MAX), 0);
         assert_eq!(read(&mut h, number), 4_294_967_295);
@@ -72,19 +48,21 @@ fn largest_values_and_one_bit_more() {
 #[test]
 fn locks_and_their_order() {
     let mut h = new(1);
-    for regwen in [18, 64, 320, 322] {
+    for regwen in [18, 256, 1280, 1282] {
         assert_eq!(write(&mut h, regwen, 1), 0);
         assert_eq!(write(&mut h, regwen, 0), 0);
         assert_eq!(write(&mut h, regwen, 2), -4);
         assert_eq!(write(&mut h, regwen, 1), -3);
         assert_eq!(write(&mut h, regwen, 0), 0);
     }
-    for number in [26, 34, 128, 192, 321, 323, 325, 326, 327, 328, 329, 330] {
+    for number in [
+        26, 34, 512, 768, 1281, 1283, 1285, 1286, 1287, 1288, 1289, 1290,
+    ] {
         assert_eq!(write(&mut h, number, 0), -3, "{number}");
         assert_eq!(write(&mut h, number, 1), -3, "{number}");
     }
-    assert_eq!(write(&mut h, 325, 65536), -4);
-    for number in [42, 256, 19, 27, 336, 337, 339, 0, 1, 2] {
+    assert_eq!(write(&mut h, 1285, 65536), -4);
+    for number in [42, 1024, 19, 27, 1296, 1297, 1299, 0, 1, 2] {
         assert_eq!(write(&mut h, number, 1), 0, "{number}");
     }
 }
@@ -93,16 +71,16 @@ fn locks_and_their_order() {
 fn a_cause_clears_by_a_one_but_an_event_sets_it_again() {
     let mut h = ready(1, 0x393C);
     event(&mut h);
-    assert_eq!(write(&mut h, 256, 0), 0);
-    assert_eq!(read(&mut h, 256), 1);
+    assert_eq!(write(&mut h, 1024, 0), 0);
+    assert_eq!(read(&mut h, 1024), 1);
     let clear = Access::Write {
-        register: 256,
+        register: 1024,
         value: 1,
     };
     assert_eq!(tick(&mut h, clear, ALERT0).answer, 0);
-    assert_eq!(read(&mut h, 256), 1);
+    assert_eq!(read(&mut h, 1024), 1);
     assert_eq!(tick(&mut h, clear, REST).answer, 0);
-    assert_eq!(read(&mut h, 256), 0);
+    assert_eq!(read(&mut h, 1024), 0);
     // The class is not enabled, so nothing but the cause came of it.
     assert_eq!((h.intr_state, h.classes[0].accum_cnt), (0, 0));
 }
@@ -115,7 +93,7 @@ fn an_alert_must_rearm() {
     h.classes[0].accum_thresh = 9;
     event(&mut h);
     event(&mut h);
-    tick(&mut h, Access::None, (0, 0));
+    tick(&mut h, Access::None, ([0; 4], [0; 4]));
     event(&mut h);
     assert_eq!(h.classes[0].accum_cnt, 1);
     idle(&mut h);
@@ -130,7 +108,7 @@ fn a_disabled_alert_disarms_without_a_cause() {
     assert!(!h.armed[0]);
     // Enabled in this tick, but the event is over.
     let enable = Access::Write {
-        register: 128,
+        register: 512,
         value: 1,
     };
     tick(&mut h, enable, ALERT0);
@@ -138,29 +116,36 @@ fn a_disabled_alert_disarms_without_a_cause() {
 }
 
 #[test]
-fn entries_at_n_and_above_stay() {
-    let mut h = ready(3, 0x393D);
-    h.alerts[3].en = 1;
-    h.alerts[4].class = 200;
-    h.armed[5] = false;
-    let before = h.clone();
-    assert!(h.valid());
-    assert_eq!(
-        tick(&mut h, Access::None, (u64::MAX >> 3, 7 << 61)).answer,
-        0
-    );
-    assert_eq!(tick(&mut h, Access::None, (0, u64::MAX)).answer, 0);
-    assert_eq!(h, before);
-    assert_eq!(write(&mut h, 131, 1), -1);
+fn entries_and_samples_at_n_and_above_count_for_nothing() {
+    for n in COUNTS {
+        let mut h = ready(n, 0x393D);
+        assert_eq!(write(&mut h, 26, 1), 0);
+        for i in n as usize..MAX_ALERTS {
+            h.alerts[i] = Source {
+                regwen: 2,
+                en: 1,
+                class: 200,
+                cause: 9,
+            };
+            h.armed[i] = i % 2 == 0;
+        }
+        assert!(h.valid());
+        let before = h.clone();
+        for pair in [(1, 0), (0, 1), (0, 0), (1, 1)] {
+            let sample = (n as usize..256).fold(REST, |sample, i| with(sample, i, pair));
+            assert_eq!(tick(&mut h, Access::None, sample).answer, 0);
+            assert_eq!(h, before, "N {n}, {pair:?}");
+        }
+    }
 }
 
 #[test]
 fn a_timeout_goes_back_when_not_due_and_survives_a_clear() {
     let mut h = ready(1, 0x393D);
-    assert_eq!(write(&mut h, 326, 4), 0);
+    assert_eq!(write(&mut h, 1286, 4), 0);
     assert_eq!(write(&mut h, 2, 1), 0);
     assert_eq!((h.classes[0].state, h.classes[0].esc_cnt), (TIMEOUT, 1));
-    assert_eq!(write(&mut h, 323, 1), 0);
+    assert_eq!(write(&mut h, 1283, 1), 0);
     assert_eq!((h.classes[0].state, h.classes[0].esc_cnt), (TIMEOUT, 2));
     assert_eq!(write(&mut h, 0, 1), 0);
     assert_eq!((h.classes[0].state, h.classes[0].esc_cnt), (IDLE, 0));
@@ -172,7 +157,7 @@ fn a_phase_does_not_read_en() {
     h.classes[0].phase_cyc = [3; 4];
     event(&mut h);
     let off = Access::Write {
-        register: 321,
+        register: 1281,
         value: 0x393C,
     };
     assert_eq!(
@@ -189,11 +174,11 @@ fn a_phase_does_not_read_en() {
 #[test]
 fn two_classes_share_the_lines() {
     let mut h = ready(2, 0x393D);
-    assert_eq!(write(&mut h, 193, 3), 0);
+    assert_eq!(write(&mut h, 769, 3), 0);
     // Class 3: line 3 only, in Phase 0.
-    assert_eq!(write(&mut h, 369, 0x0021), 0);
+    assert_eq!(write(&mut h, 1329, 0x0021), 0);
     assert_eq!(write(&mut h, 1, 8), 0);
-    let ticked = tick(&mut h, Access::None, (3 << 62, !(3 << 62)));
+    let ticked = tick(&mut h, Access::None, raised(&[0, 1]));
     assert_eq!(
         ticked,
         Ticked {
@@ -210,7 +195,7 @@ fn two_classes_share_the_lines() {
 
 /// Each breaks the rule at one place in a handler of three alerts.
 const DAMAGES: [fn(&mut Handler); 19] = [
-    |h| h.n = 65,
+    |h| h.n = 249,
     |h| h.intr_state = 16,
     |h| h.intr_enable = 16,
     |h| h.alerts[2].regwen = 2,
@@ -247,7 +232,10 @@ fn damaged_states_are_refused() {
         };
         assert_eq!(tick(&mut h, Access::Malformed, ALERT0), refused);
         let mut out = [7];
-        assert_eq!(batch(&mut h, &[0; 25], &mut out), -7);
+        for edition in [Edition::First, Edition::Second] {
+            assert_eq!(batch(&mut h, edition, &[0; 71], &mut out), -7);
+            assert_eq!(batch(&mut h, edition, &[], &mut []), -7);
+        }
         assert_eq!((h, out), (before, [7]));
     }
 }
@@ -259,4 +247,23 @@ fn terminal_holds_no_count() {
     assert!(h.valid());
     h.classes[0].esc_cnt = 1;
     assert!(!h.valid());
+}
+
+#[test]
+fn the_last_alert_is_looked_at_and_no_entry_after_it() {
+    for n in COUNTS {
+        let mut h = new(n);
+        h.alerts[n as usize - 1].class = 4;
+        assert!(!h.valid(), "N {n}");
+        if n < 248 {
+            let mut h = new(n);
+            h.alerts[n as usize].class = 4;
+            assert!(h.valid(), "N {n}");
+        }
+    }
+    for n in [249, 256, 1 << 32, u64::MAX] {
+        let mut h = new(248);
+        h.n = n;
+        assert_eq!(tick(&mut h, Access::None, REST).answer, -7);
+    }
 }

@@ -1,128 +1,296 @@
-//! Records, words, batches and the program.
+//! Records of both editions, their words, and batches.
 
 mod common;
 
-use common::{ready, ALERT0, REST};
+use common::records::{pack, record, renumbered, unpack, EDITIONS};
+use common::{new, ready, with, Numbers, Sample, ALERT0, COUNTS, REST};
 use reference::trace::parse;
-use reference::{batch, Access};
-use std::io::Write;
-use std::process::{Command, Stdio};
+use reference::{batch, Access, Edition, Handler};
 
-// Traces
-
-fn record(head: u32, value: u32, pos: u64, neg: u64) -> [u8; 24] {
-    let mut bytes = [0; 24];
-    bytes[..4].copy_from_slice(&head.to_be_bytes());
-    bytes[4..8].copy_from_slice(&value.to_be_bytes());
-    bytes[8..16].copy_from_slice(&pos.to_be_bytes());
-    bytes[16..].copy_from_slice(&neg.to_be_bytes());
-    bytes
+/// The wires that a record of the edition has of a sample.
+fn wires_in(edition: Edition, mut sample: Sample) -> Sample {
+    for set in [&mut sample.0, &mut sample.1] {
+        match edition {
+            Edition::First => set[1..].fill(0),
+            Edition::Second => set[3] &= !0xFF,
+        }
+    }
+    sample
 }
 
+// Records
+
 #[test]
-fn records_apart() {
-    let rows = [
-        (0, 0, Access::None),
-        (0x5410_0000, 0, Access::Read { register: 321 }),
-        (
-            0xBFF0_0000,
-            9,
-            Access::Write {
-                register: 1023,
-                value: 9,
-            },
-        ),
-        (
-            0x8000_0000,
-            0,
-            Access::Write {
-                register: 0,
-                value: 0,
-            },
-        ),
-        (0x0010_0000, 0, Access::Malformed),
-        (0, 1, Access::Malformed),
-        (0x5410_0000, 1, Access::Malformed),
-        (0x5410_0001, 0, Access::Malformed),
-        (0x8008_0000, 0, Access::Malformed),
-        (0x0000_0001, 0, Access::Malformed),
-        (0xC000_0000, 0, Access::Malformed),
-    ];
+fn sizes() {
+    for (edition, bytes, alerts) in [(Edition::First, 24, 64), (Edition::Second, 70, 248)] {
+        assert_eq!((edition.bytes(), edition.alerts()), (bytes, alerts));
+        assert_eq!(8 + 2 * edition.wire_bytes(), bytes);
+        assert_eq!(2 + edition.register_bits() + edition.zero_bits(), 32);
+        assert_eq!(pack(edition, 0, 0, REST).len(), bytes);
+    }
+}
+
+/// A row's first 32 bits, its value and its access.
+type Row = (u32, u32, Access);
+
+fn check_rows(edition: Edition, rows: &[Row]) {
+    let mut numbers = Numbers(5);
     for (head, value, access) in rows {
-        assert_eq!(parse(&record(head, value, 5, 6)), (access, 5, 6));
+        let sample = (numbers.wires(), numbers.wires());
+        let (positive, negative) = wires_in(edition, sample);
+        let parsed = parse(edition, &pack(edition, *head, *value, sample));
+        assert_eq!(parsed, (*access, positive, negative), "{head:#x}");
     }
 }
 
 #[test]
-fn batches() {
-    let mut h = ready(1, 0x393D);
-    let mut bytes = record(0xC000_0000, 0, ALERT0.0, ALERT0.1).to_vec();
-    bytes.extend(record(0x5000_0000, 0, REST.0, REST.1)); // 256, the cause
-    let mut out = [11; 3];
-    let before = h.clone();
-    assert_eq!(batch(&mut h, &bytes[..47], &mut out[..1]), -8);
-    assert_eq!(batch(&mut h, &bytes, &mut out[..1]), -9);
-    assert_eq!(batch(&mut h, &[], &mut []), 0);
-    assert_eq!((&h, out), (&before, [11; 3]));
-    assert_eq!(batch(&mut h, &bytes, &mut out), 0);
-    assert_eq!(out, [0x0850_0000_0000_0000, 0x0400_0000_0000_0001, 11]);
-}
-
-// The program
-
-fn replay(input: &[u8]) -> String {
-    let mut child = Command::new(env!("CARGO_BIN_EXE_reference-replay"))
-        .stdin(Stdio::piped())
-        .stdout(Stdio::piped())
-        .spawn()
-        .unwrap();
-    let mut stdin = child.stdin.take().unwrap();
-    let input = input.to_vec();
-    // Written beside the reading, or both pipes fill and nobody goes on.
-    let writer = std::thread::spawn(move || {
-        // A refused N ends the program early, so a broken pipe is no fault.
-        let _ = stdin.write_all(&input);
-    });
-    let output = child.wait_with_output().unwrap();
-    writer.join().unwrap();
-    assert!(output.status.success());
-    String::from_utf8(output.stdout).unwrap()
+fn first_records_apart() {
+    let read = |register| Access::Read { register };
+    let write = |register, value| Access::Write { register, value };
+    check_rows(
+        Edition::First,
+        &[
+            (0, 0, Access::None),
+            (0x5410_0000, 0, read(1281)),
+            (0x8000_0000, 0, write(0, 0)),
+            (0x8400_0000, 1, write(256, 1)),
+            // 1023, unassigned then.
+            (0xBFF0_0000, 9, write(2047, 9)),
+            (0x0010_0000, 0, Access::Malformed),
+            // Unassigned then, but still a register where none may be.
+            (0x3FF0_0000, 0, Access::Malformed),
+            (0, 1, Access::Malformed),
+            (0x5410_0000, 1, Access::Malformed),
+            (0x5410_0001, 0, Access::Malformed),
+            (0x8008_0000, 0, Access::Malformed),
+            (0x0000_0001, 0, Access::Malformed),
+            (0xC000_0000, 0, Access::Malformed),
+        ],
+    );
 }
 
 #[test]
-fn the_program_prints_the_papers_words() {
-    let mut input = vec![1];
-    input.extend(record(0x5410_0000, 0, 0, 1 << 63));
-    input.extend(record(0xBFF0_0000, 0, 0, 1 << 63));
-    let words = "000000000000393c\n0010000000000000\n";
-    assert_eq!(replay(&input), words);
-    input.push(0);
-    assert_eq!(replay(&input), format!("{words}cut\n"));
+fn second_records_apart() {
+    let read = |register| Access::Read { register };
+    let write = |register, value| Access::Write { register, value };
+    check_rows(
+        Edition::Second,
+        &[
+            (0, 0, Access::None),
+            (0x6808_0000, 0, read(1281)),
+            (0x4008_0000, 0, read(1)),
+            (0x6000_0000, 0, read(1024)),
+            (0x8000_0000, 0, write(0, 0)),
+            (0x8800_0000, 1, write(256, 1)),
+            (0xBFF8_0000, 9, write(2047, 9)),
+            (0xBFF8_0000, u32::MAX, write(2047, u32::MAX)),
+            (0x0008_0000, 0, Access::Malformed),
+            (0x2000_0000, 0, Access::Malformed),
+            (0, 1, Access::Malformed),
+            (0x6808_0000, 1, Access::Malformed),
+            (0x6808_0001, 0, Access::Malformed),
+            (0x8004_0000, 0, Access::Malformed),
+            (0x0004_0000, 0, Access::Malformed),
+            (0x0000_0001, 0, Access::Malformed),
+            (0xC000_0000, 0, Access::Malformed),
+            (0xFFF8_0000, 9, Access::Malformed),
+        ],
+    );
 }
 
 #[test]
-fn the_program_at_the_edges() {
-    assert_eq!(replay(&[]), "refused\n");
-    assert_eq!(replay(&[0]), "refused\n");
-    assert_eq!(replay(&[65, 1, 2, 3]), "refused\n");
-    assert_eq!(replay(&[64]), "");
-    assert_eq!(replay(&[64, 0]), "cut\n");
-    assert_eq!(replay(&[1; 24]), "cut\n");
-}
-
-#[test]
-fn the_program_keeps_its_state_over_blocks() {
-    // Ends exactly on a block and one record past it.
-    for records in [8192, 8193, 20_000] {
-        let mut input = vec![1];
-        input.extend(record(0x8010_0000, 5, REST.0, REST.1)); // INTR_ENABLE
-        for _ in 1..records {
-            input.extend(record(0x4010_0000, 0, REST.0, REST.1));
+fn every_zero_bit_must_be_zero() {
+    for (edition, zeros) in [(Edition::First, 20), (Edition::Second, 19)] {
+        for kind in 0..4u32 {
+            for bit in 0..zeros {
+                let bytes = pack(edition, (kind << 30) | (1 << bit), 0, REST);
+                assert_eq!(parse(edition, &bytes).0, Access::Malformed);
+            }
+            // The next bit is the register's lowest.
+            let bytes = pack(edition, (kind << 30) | (1 << zeros), 0, REST);
+            let malformed = parse(edition, &bytes).0 == Access::Malformed;
+            assert_eq!(malformed, kind == 0 || kind == 3);
         }
-        let text = replay(&input);
-        let mut lines = text.lines();
-        assert_eq!(lines.next(), Some("0000000000000000"));
-        assert_eq!(lines.clone().count(), records - 1);
-        assert!(lines.all(|line| line == "0000000000000005"));
+    }
+}
+
+// Wires
+
+#[test]
+fn each_wire_is_one_alerts() {
+    for edition in EDITIONS {
+        let n = edition.alerts();
+        let mut h = ready(n as u64, 0x393C);
+        for i in 0..n {
+            let raised = record(edition, Access::None, with(REST, i, (1, 0)));
+            let mut out = [0];
+            assert_eq!(batch(&mut h, edition, &raised, &mut out), 0);
+            for (at, alert) in h.alerts.iter_mut().enumerate() {
+                assert_eq!(alert.cause, u8::from(at == i), "alert {at}, wire {i}");
+                alert.cause = 0;
+            }
+            for (at, armed) in h.armed.iter().enumerate() {
+                assert_eq!(*armed, at != i);
+            }
+            let rest = record(edition, Access::None, REST);
+            assert_eq!(batch(&mut h, edition, &rest, &mut out), 0);
+        }
+    }
+}
+
+#[test]
+fn equal_wires_at_the_last_alert_and_the_next() {
+    for edition in EDITIONS {
+        for n in COUNTS {
+            if n > edition.alerts() as u64 {
+                continue;
+            }
+            for pair in [(0, 0), (1, 1)] {
+                for i in [n as usize - 1, n as usize] {
+                    let mut h = ready(n, 0x393D);
+                    h.locals[2].en = 1;
+                    let bytes = record(edition, Access::None, with(REST, i, pair));
+                    assert_eq!(batch(&mut h, edition, &bytes, &mut [0]), 0);
+                    let expected = u8::from(i < n as usize);
+                    assert_eq!(h.locals[2].cause, expected, "N {n}, wire {i}");
+                    assert_eq!(h.intr_state, expected);
+                }
+            }
+        }
+    }
+}
+
+// Batches
+
+#[test]
+fn batches() {
+    for edition in EDITIONS {
+        let size = edition.bytes();
+        let cause = match edition {
+            Edition::First => 256,
+            Edition::Second => 1024,
+        };
+        let mut h = ready(1, 0x393D);
+        let mut bytes = record(edition, Access::Malformed, ALERT0);
+        bytes.extend(record(edition, Access::Read { register: cause }, REST));
+        let mut out = [11; 3];
+        let before = h.clone();
+        for length in [1, size - 1, size + 1, 2 * size - 1] {
+            // 8 comes before 9.
+            assert_eq!(batch(&mut h, edition, &bytes[..length], &mut []), -8);
+            assert_eq!(batch(&mut h, edition, &bytes[..length], &mut out), -8);
+        }
+        assert_eq!(batch(&mut h, edition, &bytes, &mut out[..1]), -9);
+        assert_eq!(batch(&mut h, edition, &bytes[..size], &mut []), -9);
+        assert_eq!(batch(&mut h, edition, &[], &mut []), 0);
+        assert_eq!((&h, out), (&before, [11; 3]));
+        assert_eq!(batch(&mut h, edition, &bytes, &mut out), 0);
+        assert_eq!(out, [0x0850_0000_0000_0000, 0x0400_0000_0000_0001, 11]);
+    }
+}
+
+#[test]
+fn the_length_is_the_editions_own() {
+    let mut h = new(1);
+    let bytes = [0; 24 * 70];
+    let mut out = [0; 70];
+    assert_eq!(batch(&mut h, Edition::First, &bytes[..70], &mut out), -8);
+    assert_eq!(batch(&mut h, Edition::Second, &bytes[..24], &mut out), -8);
+    // Both lengths divide this one, which is 70 old records or 24 new.
+    assert_eq!(batch(&mut h, Edition::First, &bytes, &mut out[..69]), -9);
+    assert_eq!(batch(&mut h, Edition::First, &bytes, &mut out), 0);
+    assert_eq!(batch(&mut h, Edition::Second, &bytes, &mut out[..23]), -9);
+    assert_eq!(batch(&mut h, Edition::Second, &bytes, &mut out[..24]), 0);
+}
+
+#[test]
+fn a_first_batch_is_refused_by_more_than_64_alerts() {
+    let bytes = [0; 48];
+    for n in [65, 127, 128, 191, 192, 247, 248] {
+        let mut h = ready(n, 0x393D);
+        let before = h.clone();
+        assert!(h.valid());
+        let mut out = [11; 3];
+        // Before 8 and 9, and with no bytes too.
+        for length in [0, 1, 23, 24, 25, 48] {
+            for room in 0..=3 {
+                let answer = batch(&mut h, Edition::First, &bytes[..length], &mut out[..room]);
+                assert_eq!(answer, -7, "N {n}, {length} bytes, {room} words");
+            }
+        }
+        assert_eq!((&h, out), (&before, [11; 3]));
+        // The same state takes ticks and a batch of the second edition.
+        assert_eq!(batch(&mut h, Edition::Second, &[], &mut []), 0);
+        assert_eq!(batch(&mut h, Edition::Second, &[0; 70], &mut out), 0);
+        assert_eq!(h.tick(Access::None, &REST.0, &REST.1).answer, 0);
+    }
+    for n in [1, 63, 64] {
+        assert_eq!(batch(&mut new(n), Edition::First, &bytes, &mut [0; 2]), 0);
+    }
+}
+
+// The same words
+
+/// Fields of a record that reach far: mostly registers of the first map.
+fn fields(numbers: &mut Numbers) -> (Access, Sample) {
+    let register = match numbers.below(8) {
+        0 => numbers.below(1024) as u16,
+        1 => 128 + numbers.below(64) as u16,
+        2 | 3 => 320 + numbers.below(64) as u16,
+        _ => numbers.below(384) as u16,
+    };
+    let value = [0, 1, 3, 0x393D, numbers.next() as u32][numbers.below(5) as usize];
+    let access = match numbers.below(16) {
+        0 => Access::Malformed,
+        1..=4 => Access::None,
+        5..=8 => Access::Read { register },
+        _ => Access::Write { register, value },
+    };
+    let positive: [u64; 4] = std::array::from_fn(|_| numbers.next() & numbers.next());
+    let mut negative = positive.map(|word| !word);
+    if numbers.below(4) == 0 {
+        negative[0] ^= 1 << numbers.below(64);
+    }
+    (access, (positive, negative))
+}
+
+/// The access with its number carried by hand; 333 and the like, unassigned
+/// in both maps, may stand for any number that was unassigned then.
+fn carried_by_hand(access: Access) -> Access {
+    let number = |old| renumbered(old).unwrap_or(1293);
+    match access {
+        Access::Read { register } => Access::Read {
+            register: number(register),
+        },
+        Access::Write { register, value } => Access::Write {
+            register: number(register),
+            value,
+        },
+        other => other,
+    }
+}
+
+#[test]
+fn both_editions_give_the_same_words_and_states() {
+    let mut numbers = Numbers(8);
+    for n in [1, 2, 31, 63, 64] {
+        let (mut old, mut new): (Handler, Handler) = (new(n), new(n));
+        for _ in 0..400 {
+            let (mut old_bytes, mut new_bytes) = (Vec::new(), Vec::new());
+            for _ in 0..20 {
+                let (access, sample) = fields(&mut numbers);
+                old_bytes.extend(record(Edition::First, access, sample));
+                let access = carried_by_hand(access);
+                new_bytes.extend(record(Edition::Second, access, sample));
+            }
+            let (mut old_out, mut new_out) = ([0; 20], [0; 20]);
+            assert_eq!(batch(&mut old, Edition::First, &old_bytes, &mut old_out), 0);
+            assert_eq!(
+                batch(&mut new, Edition::Second, &new_bytes, &mut new_out),
+                0
+            );
+            assert_eq!(old_out.map(unpack), new_out.map(unpack));
+            assert_eq!(old, new);
+        }
     }
 }

@@ -1,7 +1,17 @@
 //! The trace writer: what it writes, what it refuses, and what it keeps.
 
-use reference::trace::{parse, RECORD};
-use reference::{record, Access};
+mod common;
+
+use common::Numbers;
+use reference::trace::parse;
+use reference::writer::WRITTEN;
+use reference::{record, Access, Edition, Wires};
+
+/// The bytes of a record that is written.
+const SIZE: usize = 70;
+
+/// Kind, register, value, positive and negative wires.
+type Entry = (u8, u16, u32, Wires, Wires);
 
 /// A list as the writer borrows it.
 #[derive(Clone, Debug, Default, PartialEq)]
@@ -9,12 +19,12 @@ struct List {
     kinds: Vec<u8>,
     registers: Vec<u16>,
     values: Vec<u32>,
-    positive: Vec<u64>,
-    negative: Vec<u64>,
+    positive: Vec<Wires>,
+    negative: Vec<Wires>,
 }
 
 impl List {
-    fn of(entries: &[(u8, u16, u32, u64, u64)]) -> List {
+    fn of(entries: &[Entry]) -> List {
         let mut list = List::default();
         for entry in entries {
             list.push(*entry);
@@ -22,7 +32,7 @@ impl List {
         list
     }
 
-    fn push(&mut self, entry: (u8, u16, u32, u64, u64)) {
+    fn push(&mut self, entry: Entry) {
         self.kinds.push(entry.0);
         self.registers.push(entry.1);
         self.values.push(entry.2);
@@ -42,7 +52,7 @@ impl List {
     }
 
     /// The entry as the parser gives it.
-    fn entry(&self, i: usize) -> (Access, u64, u64) {
+    fn entry(&self, i: usize) -> (Access, Wires, Wires) {
         let (register, value) = (self.registers[i], self.values[i]);
         let access = match self.kinds[i] {
             0 => Access::None,
@@ -55,7 +65,7 @@ impl List {
 }
 
 /// What the parser gives, as an entry of a list.
-fn read((access, positive, negative): (Access, u64, u64)) -> (u8, u16, u32, u64, u64) {
+fn read((access, positive, negative): (Access, Wires, Wires)) -> Entry {
     match access {
         Access::None => (0, 0, 0, positive, negative),
         Access::Read { register } => (1, register, 0, positive, negative),
@@ -64,37 +74,41 @@ fn read((access, positive, negative): (Access, u64, u64)) -> (u8, u16, u32, u64,
     }
 }
 
-/// Numbers that look random (xorshift).
-struct Numbers(u64);
+/// Wires as a record gives them, with nothing in the last eight places.
+fn wires(numbers: &mut Numbers) -> Wires {
+    let mut wires = numbers.wires();
+    wires[3] &= !0xFF;
+    wires
+}
 
-impl Numbers {
-    fn next(&mut self) -> u64 {
-        self.0 ^= self.0 << 13;
-        self.0 ^= self.0 >> 7;
-        self.0 ^= self.0 << 17;
-        self.0
+/// An entry that a record holds.
+fn entry(numbers: &mut Numbers) -> Entry {
+    let register = [0, 1023, 1024, 2047, numbers.below(2048) as u16][numbers.below(5) as usize];
+    let value = [0, 1, u32::MAX, numbers.next() as u32][numbers.below(4) as usize];
+    let (positive, negative) = (wires(numbers), wires(numbers));
+    match numbers.below(3) {
+        0 => (0, 0, 0, positive, negative),
+        1 => (1, register, 0, positive, negative),
+        _ => (2, register, value, positive, negative),
     }
+}
 
-    /// An entry that a record holds.
-    fn entry(&mut self) -> (u8, u16, u32, u64, u64) {
-        let register = [0, 1023, (self.next() % 1024) as u16][(self.next() % 3) as usize];
-        let value = [0, 1, u32::MAX, self.next() as u32][(self.next() % 4) as usize];
-        let (positive, negative) = (self.next(), self.next());
-        match self.next() % 3 {
-            0 => (0, 0, 0, positive, negative),
-            1 => (1, register, 0, positive, negative),
-            _ => (2, register, value, positive, negative),
-        }
+fn list(numbers: &mut Numbers) -> List {
+    let mut list = List::default();
+    for _ in 0..numbers.below(9) {
+        list.push(entry(numbers));
     }
+    list
+}
 
-    fn list(&mut self) -> List {
-        let mut list = List::default();
-        for _ in 0..self.next() % 9 {
-            let entry = self.entry();
-            list.push(entry);
-        }
-        list
-    }
+/// Three entries that records hold.
+fn three() -> List {
+    let wires = |first| [first, 5, 6, 7 << 8];
+    List::of(&[
+        (2, 1, 2, wires(3), wires(4)),
+        (1, 5, 0, wires(6), wires(7)),
+        (0, 0, 0, wires(8), wires(9)),
+    ])
 }
 
 /// A buffer with no two neighbours alike.
@@ -107,59 +121,61 @@ fn hex(bytes: &[u8]) -> String {
 }
 
 #[test]
-fn the_papers_records() {
-    let list = List::of(&[(1, 321, 0, 0, 1 << 63), (2, 1023, 0, 0, 1 << 63)]);
-    let mut out = buffer(48);
-    assert_eq!(list.write(&mut out), 48);
-    assert_eq!(
-        hex(&out[..24]),
-        "541000000000000000000000000000008000000000000000"
-    );
-    assert_eq!(
-        hex(&out[24..]),
-        "bff000000000000000000000000000008000000000000000"
-    );
+fn the_newest_edition_is_written() {
+    assert_eq!((WRITTEN, WRITTEN.bytes()), (Edition::Second, SIZE));
 }
 
 #[test]
+fn the_papers_accesses() {
+    // 321 and 1023 of the base are 1281 now and a number that is unassigned.
+    let rest = ([0; 4], [1 << 63, 0, 0, 0]);
+    let list = List::of(&[(1, 1281, 0, rest.0, rest.1), (2, 2047, 0, rest.0, rest.1)]);
+    let mut out = buffer(140);
+    assert_eq!(list.write(&mut out), 140);
+    let wires = "00".repeat(31) + "80" + &"00".repeat(30);
+    assert_eq!(hex(&out[..70]), format!("6808000000000000{wires}"));
+    assert_eq!(hex(&out[70..]), format!("bff8000000000000{wires}"));
+}
+
+/// Wires with a byte of their own at every end of a word.
+const MARKED: Wires = [
+    0x0123_4567_89ab_cdef,
+    0xfedc_ba98_7654_3210,
+    0x1122_3344_5566_7788,
+    0x99aa_bbcc_ddee_ffa5,
+];
+
+#[test]
 fn each_field_has_its_bits() {
+    let (none, full) = ([0; 4], [u64::MAX; 4]);
+    let (zero, all) = (&*"00".repeat(31), &*"ff".repeat(31));
+    // The last byte of the last word is no wire.
+    let marked = "0123456789abcdeffedcba9876543210112233445566778899aabbccddeeff";
     let rows = [
+        ((0, 0, 0, none, none), ["0000000000000000", zero, zero]),
+        ((0, 0, 0, full, none), ["0000000000000000", all, zero]),
+        ((1, 0, 0, none, full), ["4000000000000000", zero, all]),
         (
-            (0, 0, 0, 0, 0),
-            "000000000000000000000000000000000000000000000000",
+            (1, 2047, 0, MARKED, none),
+            ["7ff8000000000000", marked, zero],
         ),
         (
-            (0, 0, 0, u64::MAX, 0),
-            "0000000000000000ffffffffffffffff0000000000000000",
+            (1, 1024, 0, none, MARKED),
+            ["6000000000000000", zero, marked],
         ),
         (
-            (1, 0, 0, 0, u64::MAX),
-            "40000000000000000000000000000000ffffffffffffffff",
+            (2, 1, 0x123_4567, full, MARKED),
+            ["8008000001234567", all, marked],
         ),
         (
-            (1, 1023, 0, 1, 2),
-            "7ff000000000000000000000000000010000000000000002",
-        ),
-        // Alert 0 of the positive and alert 1 of the negative wires.
-        (
-            (2, 1, 0x0123_4567, 1 << 63, 1 << 62),
-            "801000000123456780000000000000004000000000000000",
-        ),
-        (
-            (
-                2,
-                512,
-                u32::MAX,
-                0x0123_4567_89ab_cdef,
-                0xfedc_ba98_7654_3210,
-            ),
-            "a0000000ffffffff0123456789abcdeffedcba9876543210",
+            (2, 512, u32::MAX, none, none),
+            ["90000000ffffffff", zero, zero],
         ),
     ];
     for (entry, bytes) in rows {
-        let mut out = buffer(24);
-        assert_eq!(List::of(&[entry]).write(&mut out), 24);
-        assert_eq!(hex(&out), bytes);
+        let mut out = buffer(SIZE);
+        assert_eq!(List::of(&[entry]).write(&mut out), 70);
+        assert_eq!(hex(&out), bytes.concat());
     }
 }
 
@@ -167,15 +183,15 @@ fn each_field_has_its_bits() {
 fn reading_what_was_written() {
     let mut numbers = Numbers(1);
     for _ in 0..2000 {
-        let list = numbers.list();
+        let list = list(&mut numbers);
         let entries = list.kinds.len();
-        let mut out = buffer(entries * RECORD + (numbers.next() % 50) as usize);
+        let mut out = buffer(entries * SIZE + (numbers.next() % 50) as usize);
         let before = out.clone();
-        assert_eq!(list.write(&mut out), (entries * RECORD) as i64);
-        for (i, written) in out.chunks_exact(RECORD).take(entries).enumerate() {
-            assert_eq!(parse(written.try_into().unwrap()), list.entry(i));
+        assert_eq!(list.write(&mut out), (entries * SIZE) as i64);
+        for (i, written) in out.chunks_exact(SIZE).take(entries).enumerate() {
+            assert_eq!(parse(Edition::Second, written), list.entry(i));
         }
-        assert_eq!(out[entries * RECORD..], before[entries * RECORD..]);
+        assert_eq!(out[entries * SIZE..], before[entries * SIZE..]);
     }
 }
 
@@ -187,8 +203,8 @@ fn writing_what_was_read() {
         let mut bytes = Vec::new();
         for _ in 0..numbers.next() % 9 {
             // Random bytes, with as few changed as it takes to be well formed.
-            let mut record: [u8; RECORD] = std::array::from_fn(|_| numbers.next() as u8);
-            record[1] &= 0xF0;
+            let mut record: [u8; SIZE] = std::array::from_fn(|_| numbers.next() as u8);
+            record[1] &= 0xF8;
             record[2..4].fill(0);
             match record[0] >> 6 {
                 0 => record[..8].fill(0),
@@ -196,7 +212,7 @@ fn writing_what_was_read() {
                 2 => {}
                 _ => record[0] &= 0xBF,
             }
-            list.push(read(parse(&record)));
+            list.push(read(parse(Edition::Second, &record)));
             bytes.extend(record);
         }
         let mut out = buffer(bytes.len());
@@ -220,7 +236,7 @@ fn unrecordable() -> Vec<(u8, u16, u32)> {
         bad.push((1, 0, 1 << bit));
         bad.push((1, 321, 1 << bit));
     }
-    for register in [1024, 1025, 2048, 1024 + 321, 32768, 65535] {
+    for register in [2048, 2049, 4096, 2048 + 1281, 32768, 65535] {
         bad.push((1, register, 0));
         bad.push((2, register, 0));
         bad.push((2, register, 1));
@@ -235,14 +251,14 @@ fn an_unrecordable_entry_is_refused_at_every_place() {
         for place in 0..4 {
             let mut list = List::default();
             for at in 0..4 {
-                let mut entry = numbers.entry();
+                let mut entry = entry(&mut numbers);
                 if at == place {
                     (entry.0, entry.1, entry.2) = (kind, register, value);
                 }
                 list.push(entry);
             }
             // 10 comes before 11.
-            for length in [0, 24, 95, 96, 97, 200] {
+            for length in [0, 70, 96, 279, 280, 281, 400] {
                 let before = buffer(length);
                 let mut out = before.clone();
                 assert_eq!(list.write(&mut out), -10, "{kind} {register} {value}");
@@ -255,16 +271,16 @@ fn an_unrecordable_entry_is_refused_at_every_place() {
 #[test]
 fn all_other_entries_are_written() {
     for kind in 0..=2 {
-        for register in 0..1024 {
+        for register in 0..2048 {
             for value in [0, 1, 1 << 31, u32::MAX] {
                 let good = match kind {
                     0 => register == 0 && value == 0,
                     1 => value == 0,
                     _ => true,
                 };
-                let list = List::of(&[(kind, register, value, 5, 6)]);
-                let mut out = [0; 24];
-                assert_eq!(list.write(&mut out), if good { 24 } else { -10 });
+                let list = List::of(&[(kind, register, value, [5; 4], [6; 4])]);
+                let mut out = [0; SIZE];
+                assert_eq!(list.write(&mut out), if good { 70 } else { -10 });
             }
         }
     }
@@ -272,19 +288,19 @@ fn all_other_entries_are_written() {
 
 #[test]
 fn slices_of_unequal_lengths_are_refused() {
-    let good = List::of(&[(2, 1, 2, 3, 4), (1, 5, 0, 6, 7), (0, 0, 0, 8, 9)]);
+    let good = three();
     let change: [fn(&mut List, usize); 5] = [
         |list, length| list.kinds.resize(length, 0),
         |list, length| list.registers.resize(length, 0),
         |list, length| list.values.resize(length, 0),
-        |list, length| list.positive.resize(length, 0),
-        |list, length| list.negative.resize(length, 0),
+        |list, length| list.positive.resize(length, [0; 4]),
+        |list, length| list.negative.resize(length, [0; 4]),
     ];
     for resize in change {
         for length in [0, 1, 2, 4, 9] {
             let mut list = good.clone();
             resize(&mut list, length);
-            for size in [0, 71, 72, 300] {
+            for size in [0, 72, 209, 210, 900] {
                 let before = buffer(size);
                 let mut out = before.clone();
                 assert_eq!(list.write(&mut out), -10);
@@ -296,25 +312,25 @@ fn slices_of_unequal_lengths_are_refused() {
 
 #[test]
 fn a_short_buffer_is_refused_and_kept() {
-    let list = List::of(&[(2, 1, 2, 3, 4), (1, 5, 0, 6, 7), (0, 0, 0, 8, 9)]);
-    for length in 0..72 {
+    let list = three();
+    for length in 0..210 {
         let before = buffer(length);
         let mut out = before.clone();
         assert_eq!(list.write(&mut out), -11);
         assert_eq!(out, before);
     }
-    for length in 72..150 {
+    for length in 210..300 {
         let before = buffer(length);
         let mut out = before.clone();
-        assert_eq!(list.write(&mut out), 72);
-        assert_eq!(out[72..], before[72..]);
-        assert_ne!(out[..72], before[..72]);
+        assert_eq!(list.write(&mut out), 210);
+        assert_eq!(out[210..], before[210..]);
+        assert_ne!(out[..210], before[..210]);
     }
 }
 
 #[test]
 fn an_empty_list_writes_nothing() {
-    for length in [0, 1, 24, 100] {
+    for length in [0, 1, 24, 70, 100] {
         let before = buffer(length);
         let mut out = before.clone();
         assert_eq!(List::default().write(&mut out), 0);

@@ -63,13 +63,22 @@ pub extern "C" fn tarravane_tick(
     tick(h, input)
 }
 
-// The ticks of the records of 24 bytes, a word for each.
+// The ticks of the old records, of 24 bytes, a word for each.
 #[no_mangle]
-pub extern "C" fn tarravane_batch(h: Handler, bytes: &[u8], out: &mut [u64]) -> Batched
+pub extern "C" fn tarravane_batch_24(h: Handler, bytes: &[u8], out: &mut [u64]) -> Batched
     ensures { λ r. ⌜ BatchedBy Edition.Bytes24 h (now (bytes .entry)) (now (out .entry)) r (now (out .exit)) ⌝ }
     ensures demand3 { λ r. ⌜ (valid h ≡ true → Demand3 h (batchInputs Edition.Bytes24 (batchVerdict Edition.Bytes24 h (now (bytes .entry)) (now (out .entry))) (now (bytes .entry)))) ⌝ }
 {
     batch(Edition::Bytes24, h, bytes, out)
+}
+
+// The ticks of the newest records, of 70 bytes, a word for each.
+#[no_mangle]
+pub extern "C" fn tarravane_batch_70(h: Handler, bytes: &[u8], out: &mut [u64]) -> Batched
+    ensures { λ r. ⌜ BatchedBy Edition.Bytes70 h (now (bytes .entry)) (now (out .entry)) r (now (out .exit)) ⌝ }
+    ensures demand3 { λ r. ⌜ (valid h ≡ true → Demand3 h (batchInputs Edition.Bytes70 (batchVerdict Edition.Bytes70 h (now (bytes .entry)) (now (out .entry))) (now (bytes .entry)))) ⌝ }
+{
+    batch(Edition::Bytes70, h, bytes, out)
 }
 
 // A record for each entry of the lent lists, into the lent buffer.

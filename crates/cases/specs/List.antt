@@ -5,7 +5,7 @@ use mathlib.Core.Path.{_≡_}
 use mathlib.Core.List.{[], _∷_, _++_}
 use lib.IntN.{pos}
 use lib.ListN.{replicate}
-use Rattle.cases.specs.Ticks.{rise, broken, configure, answers, holds, heldBy}
+use Rattle.cases.specs.Ticks.{rise, broken, old, configure, answers, holds, heldBy}
 use Rattle.class_rules.specs.declared.Class.{Class}
 use Rattle.rules.specs.Run.{run}
 use Rattle.rules.specs.Scenes.{rest, none, write, gives, refused}
@@ -79,20 +79,20 @@ accum = Block AccumCnt 0
 
 pub record List12 : Type 0 where
   -- P1 New, N = 1: read 321 gives 0x393C
-  pub P1 : gives new (rest (Access.Read 321)) ≡ pos 0x393C
+  pub P1 : gives new (rest (old (Access.Read 321))) ≡ pos 0x393C
   -- P2 Write 65535 to 325: 0; then 65536: -4, register unchanged
   pub P2 :
-      answers new (rest (Access.Write 325 65535) ∷ rest (Access.Write 325 65536) ∷ rest (Access.Read 325) ∷ [])
+      answers new (rest (old (Access.Write 325 65535)) ∷ rest (old (Access.Write 325 65536)) ∷ rest (old (Access.Read 325)) ∷ [])
       ≡ pos 0 ∷ refused 4 ∷ pos 65535 ∷ []
   -- P3 Write 0 to 320, then 321: -3. P4 Then 1 to 320: -3; 0 to 320: 0
   pub P3-P4 :
       answers new
-      (rest (Access.Write 320 0)
-      ∷ rest (Access.Write 321 1)
-      ∷ rest (Access.Read 321)
-      ∷ rest (Access.Write 320 1)
-      ∷ rest (Access.Write 320 0)
-      ∷ rest (Access.Read 320)
+      (rest (old (Access.Write 320 0))
+      ∷ rest (old (Access.Write 321 1))
+      ∷ rest (old (Access.Read 321))
+      ∷ rest (old (Access.Write 320 1))
+      ∷ rest (old (Access.Write 320 0))
+      ∷ rest (old (Access.Read 320))
       ∷ [])
       ≡ pos 0 ∷ refused 3 ∷ pos 0x393C ∷ refused 3 ∷ pos 0 ∷ pos 0 ∷ []
   -- P5 Threshold 2, ACCUM_CNT 0, Idle: the third event starts Phase 0, ACCUM_CNT then 3; the second does not
@@ -116,6 +116,6 @@ pub record List12 : Type 0 where
       (answers (on 0 0) (rise none ∷ rest (write (Block Clr 0) 1) ∷ []) ≡ pos 0 ∷ refused 3 ∷ [])
       × (heldBy (long 5 5 5 5) (rise none ∷ rest (write (Block Clr 0) 1) ∷ []) state ≡ 4 ∷ 4 ∷ [])
   -- P11 Wires (1,1) on enabled alert 0, local 2 enabled in enabled class 1: register 42 reads 1 next tick
-  pub P11 : answers sealed (broken (Access.Read 42) ∷ rest (Access.Read 42) ∷ []) ≡ pos 0 ∷ pos 1 ∷ []
+  pub P11 : answers sealed (broken (old (Access.Read 42)) ∷ rest (old (Access.Read 42)) ∷ []) ≡ pos 0 ∷ pos 1 ∷ []
   -- P12 INTR_STATE clear with an event: bit is 1 after
   pub P12 : heldBy (on 9 0) (rise none ∷ rest none ∷ rise (write IntrState 1) ∷ rest (write IntrState 1) ∷ []) IntrState ≡ 1 ∷ 1 ∷ 1 ∷ 0 ∷ []

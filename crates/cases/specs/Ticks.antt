@@ -5,9 +5,11 @@ use mathlib.Core.List.{List, [], _∷_, map}
 use lib.IntN.{ℤ}
 use Rattle.rules.specs.Answer.{number}
 use Rattle.rules.specs.Access.{value}
+use Rattle.rules.specs.Record.{carried}
 use Rattle.rules.specs.Run.{run, ticks}
 use Rattle.rules.specs.Scenes.{rest, raise, bothHigh, write}
 use Rattle.rules.specs.declared.Access.{Access}
+use Rattle.rules.specs.declared.Edition.{Edition}
 use Rattle.rules.specs.declared.Handler.{Handler}
 use Rattle.rules.specs.declared.Input.{Input}
 use Rattle.rules.specs.declared.Register.{Register}
@@ -19,6 +21,10 @@ rise x = raise 0 x
 
 abbrev pub broken : Access → Input
 broken x = bothHigh 0 x
+
+-- an access by document 01's numbers, as a record of 24 bytes gives it
+abbrev pub old : Access → Access
+old x = carried Edition.Bytes24 x
 
 -- the ticks that give a register a value
 abbrev pub configure : Register → ℕ → List Input

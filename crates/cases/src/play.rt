@@ -1,12 +1,14 @@
 // One tick, played and shown.
 use libc::STDOUT_FILENO;
 use rules::Access;
+use rules::Edition;
 use rules::Handler;
 use rules::Input;
 use rules::Sample;
 use rules::Wires;
+use trace::edition::carry;
 
-// Class 0's registers, by number.
+// The cases keep document 01's numbers, and are played as its records say them. Class 0's registers, by number.
 pub const REGWEN: u16 = 320;
 
 pub const CTRL: u16 = 321;
@@ -63,19 +65,29 @@ pub fn print_answer(a: i64) {
         -1 => print(b"-1"),
         0 => print(b"0"),
         1 => print(b"1"),
-        48 => print(b"48"),
+        140 => print(b"140"),
         14652 => print(b"14652"),
         _ => print(b"?"),
     }
 }
 
+// An access by document 01's numbers, as a record of 24 bytes gives it.
+fn old(x: Access) -> Access {
+    match x {
+        Access::Nothing => Access::Nothing,
+        Access::Read(r) => Access::Read(carry(Edition::Bytes24, r)),
+        Access::Write(r, v) => Access::Write(carry(Edition::Bytes24, r), v),
+        Access::Malformed => Access::Malformed,
+    }
+}
+
 fn input(x: Access, pos: u64) -> Input {
     Input {
-        access: x,
+        access: old(x),
         sample: Sample {
             alerts: Wires {
-                pos: [pos],
-                neg: [!pos],
+                pos: [pos, 0, 0, 0],
+                neg: [!pos, 0, 0, 0],
             },
         },
     }
@@ -93,7 +105,12 @@ pub fn configure(h: Handler, r: u16, v: u32) -> Handler {
 
 // What register r holds, and a space.
 fn show_value(h: Handler, r: u16) {
-    print_number(registers::read::value_of(h, map::number::register_at(h.n, r)) as u64);
+    print_number(
+        registers::read::value_of(
+            h,
+            map::number::register_at(h.n, carry(Edition::Bytes24, r)),
+        ) as u64,
+    );
     print(b" ");
 }
 

@@ -14,13 +14,16 @@ fn make(n: usize) {
     print(b"\n");
 }
 
-// "N = 64 accepted, 65 refused", and numbers that would be small if cut.
+// "N = 64 accepted, 65 refused": since request (iii) in old inputs only, and else 248 accepted, 249 refused; and numbers that would be small
+// if cut.
 pub fn making() {
     print(b"making\n");
     make(0);
     make(1);
     make(64);
     make(65);
+    make(248);
+    make(249);
     make(256);
     make(4294967296);
 }

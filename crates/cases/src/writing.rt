@@ -14,9 +14,9 @@ fn show_bytes(bytes: &[u8]) {
     print(b"\n");
 }
 
-// A read of 321 and a write of 0 to this register, with negative wire 0 at 1, into the first bytes of a buffer.
+// A read of 1281 and a write of 0 to this register, with negative wire 0 at 1, into the first bytes of a buffer.
 fn show_two(register: u16, out: &mut [u8]) {
-    let registers: [u16; 2] = [321, register];
+    let registers: [u16; 2] = [1281, register];
     let positive: [u64; 2 * WORDS] = [0; 2 * WORDS];
     let mut negative: [u64; 2 * WORDS] = [0; 2 * WORDS];
     negative[0] = 0x8000_0000_0000_0000;
@@ -27,13 +27,13 @@ fn show_two(register: u16, out: &mut [u8]) {
     show_bytes(out);
 }
 
-// The two records of document 01; a register that no record holds; a buffer one byte too short; both.
+// The two records of document 01 in the newest form; a register that no record holds; a buffer one byte too short; both.
 pub fn two_records() {
     print(b"writing\n");
-    let mut long: [u8; 50] = [7; 50];
-    show_two(1023, &mut long);
-    show_two(1024, &mut long);
-    let mut short: [u8; 47] = [7; 47];
-    show_two(1023, &mut short);
-    show_two(1024, &mut short);
+    let mut long: [u8; 142] = [7; 142];
+    show_two(2047, &mut long);
+    show_two(2048, &mut long);
+    let mut short: [u8; 139] = [7; 139];
+    show_two(2047, &mut short);
+    show_two(2048, &mut short);
 }

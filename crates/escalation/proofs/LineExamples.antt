@@ -6,7 +6,7 @@ use mathlib.Core.Logic.{_≢_}
 use mathlib.Core.Bool.{true, false≢true}
 use mathlib.Core.List.{List, [], _∷_, map}
 use native.Mathlib.Omega.{arith}
-use lib.ListN.{set, replicate, length}
+use lib.ListN.{replicate, length}
 use Rattle.bits.specs.Bits.{bit}
 use Rattle.class_rules.specs.Class.{drives}
 use Rattle.rules.specs.Scenes.{rest, raise, none}
@@ -26,7 +26,7 @@ use Rattle.escalation.proofs.StartExamples.{locked}
 
 -- what tick t gives, whatever the inputs ys after tick 100
 abbrev after100 : List Input → ℕ → Ticked
-after100 ys t = givenAt 100 (PhaseExamples.station 5) (raise 63 none ∷ ys) t
+after100 ys t = givenAt 100 (PhaseExamples.station 5) (raise 1 none ∷ ys) t
 
 module _ (ys : List Input) (t : ℕ) (from : 101 ≤ t) (l : t ≤ 100 + length ys) where
   line-1 : Line (PhaseExamples.class 5) 100 t (after100 ys t) 2 1
@@ -47,16 +47,16 @@ module _ (ys : List Input) (t : ℕ) (from : 101 ≤ t) (l : t ≤ 100 + length 
       → bit (after100 ys t .output .lines) 1 ≡ true
   held past j small other d = line-1 .outside (λ r. omega (arith, r .1 .to)) .1 (j, small, other, d)
 
--- ── a list of eight ticks from tick 100: alert 62 starts class 3 in tick 100, for nine ticks of Phase 0; alert 63 class 2 in tick 101, with phases
+-- ── a list of eight ticks from tick 100: alert 0 starts class 3 in tick 100, for nine ticks of Phase 0; alert 1 class 2 in tick 101, with phases
 -- of two ticks ──
 
 abbrev two : Handler
 two =
     withClasses (resetClass ∷ resetClass ∷ locked 0 0 (2 ∷ 2 ∷ 2 ∷ 2 ∷ []) ∷ settings 0x393F 0 0 (9 ∷ 0 ∷ 0 ∷ 0 ∷ []) ∷ [])
-    (station 64 (set (set (replicate 64 0) 62 1) 63 1) (set (set (replicate 64 0) 62 3) 63 2) 0 resetClass)
+    (station 2 (1 ∷ 1 ∷ replicate 246 0) (3 ∷ 2 ∷ replicate 246 0) 0 resetClass)
 
 abbrev inputs : List Input
-inputs = raise 62 none ∷ raise 63 none ∷ replicate 6 (rest none)
+inputs = raise 0 none ∷ raise 1 none ∷ replicate 6 (rest none)
 
 -- the lines, computed: class 3 drives line 0 in all eight, class 2 line 0 in 101 and 102, and then lines 1, 2 and 3
 computed : map (λ (o : Ticked). o .output .lines) (ticks two inputs) ≡ 1 ∷ 1 ∷ 1 ∷ 3 ∷ 3 ∷ 5 ∷ 5 ∷ 9 ∷ []

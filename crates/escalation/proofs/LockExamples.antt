@@ -54,8 +54,8 @@ module _ (h : Handler) (v : valid h ≡ true) where
     unfolding run
     never g q a b r e z = demand3 h xs v .locks 0 t (numberOf q) (omega arith) l (shut g q a b r e z) .1
 
-    -- 64+i guards 128+i and 192+i
-    alerts : (i : ℕ) → h .n ≡ 64 → i < 64 → valueOf h (64 + i) ≡ 0 → Same (128 + i) × Same (192 + i)
+    -- 256+i guards 512+i and 768+i
+    alerts : (i : ℕ) → h .n ≡ 248 → i < 248 → valueOf h (256 + i) ≡ 0 → Same (512 + i) × Same (768 + i)
     unfolding numberOf guard
     alerts i n s z =
         let a : inMap (h .n) (Alert Field.En i) ≡ true = lt-ltb i (h .n) (omega arith) in
@@ -72,35 +72,35 @@ module _ (h : Handler) (v : valid h ≡ true) where
       has : (s : Setting) → settingExists s ≡ true → inMap (h .n) (Block s k) ≡ true
       has s e = true-and (lt-ltb k classCount small) e
 
-      -- 320+16k guards +1, +5, +6 and +7 to +10
-      class : valueOf h (320 + 16 * k) ≡ 0
-          → Same (320 + 16 * k + 1) × Same (320 + 16 * k + 5) × Same (320 + 16 * k + 6) × ((p : ℕ) → p < 4 → Same (320 + 16 * k + (7 + p)))
+      -- 1280+16k guards +1, +5, +6 and +7 to +10
+      class : valueOf h (1280 + 16 * k) ≡ 0
+          → Same (1280 + 16 * k + 1) × Same (1280 + 16 * k + 5) × Same (1280 + 16 * k + 6) × ((p : ℕ) → p < 4 → Same (1280 + 16 * k + (7 + p)))
       unfolding numberOf guard
       class z = (kept Ctrl refl refl, kept AccumThresh refl refl, kept TimeoutCyc refl refl, λ p s. kept (PhaseCyc p) (lt-ltb p 4 s) refl)
         where
           kept : (s : Setting) → settingExists s ≡ true → guard (Block s k) ≡ Block Setting.Regwen k → Same (numberOf (Block s k))
           kept s e g = never (Block Setting.Regwen k) (Block s k) (has Setting.Regwen refl) (has s e) refl g (rw add-zero z)
 
-      -- 322+16k guards itself
-      clr-regwen : valueOf h (322 + 16 * k) ≡ 0 → Same (322 + 16 * k)
+      -- 1282+16k guards itself
+      clr-regwen : valueOf h (1282 + 16 * k) ≡ 0 → Same (1282 + 16 * k)
       unfolding numberOf guard
       clr-regwen z =
-          let e : 322 + 16 * k ≡ 320 + 16 * k + 2 = omega arith in
+          let e : 1282 + 16 * k ≡ 1280 + 16 * k + 2 = omega arith in
           rw e (never (Block ClrRegwen k) (Block ClrRegwen k) (has ClrRegwen refl) (has ClrRegwen refl) refl refl (rw e at z))
 
       -- and CLR: no later tick has an accepted clear of class k
-      no-clear : valueOf h (322 + 16 * k) ≡ 0 → t < length xs → clears (run h (take t xs)) (getD xs t noInput .access) k ≡ false
+      no-clear : valueOf h (1282 + 16 * k) ≡ 0 → t < length xs → clears (run h (take t xs)) (getD xs t noInput .access) k ≡ false
       unfolding numberOf guard run
       no-clear z m =
-          let e : 322 + 16 * k ≡ 320 + 16 * k + 2 = omega arith in
+          let e : 1282 + 16 * k ≡ 1280 + 16 * k + 2 = omega arith in
           demand3 h xs v .no-clear 0 t k small (omega arith) m
           (shut (Block ClrRegwen k) (Block Clr k) (has ClrRegwen refl) (has Clr refl) refl refl (rw e at z))
 
--- a scene: class 2 is locked, 64 alerts; whatever the ticks, its CTRL and its lengths stay
+-- a scene: class 2 is locked, two alerts; whatever the ticks, its CTRL and its lengths stay
 abbrev scene : Handler
 scene = StartExamples.post 2 (StartExamples.locked 0 0 (7 ∷ 8 ∷ 9 ∷ 10 ∷ []))
 
-stays : (xs : List Input) (t : ℕ) → t ≤ length xs → (valueOf (run scene (take t xs)) 353 ≡ 0x393F) × (valueOf (run scene (take t xs)) 362 ≡ 10)
+stays : (xs : List Input) (t : ℕ) → t ≤ length xs → (valueOf (run scene (take t xs)) 1313 ≡ 0x393F) × (valueOf (run scene (take t xs)) 1322 ≡ 10)
 unfolding rules
 stays xs t l = let c = class scene refl xs t l 2 (omega arith) refl in (c .0, c .3 3 (omega arith))
 
@@ -108,6 +108,6 @@ stays xs t l = let c = class scene refl xs t l 2 (omega arith) refl in (c .0, c 
 abbrev locking : List Input → List Input
 locking ys = rest (write (Block Setting.Regwen 3) 0) ∷ ys
 
-stays-then : (ys : List Input) (t : ℕ) → 1 ≤ t → t ≤ length (locking ys) → valueOf (run (StartExamples.post 3 (settings 0x393F 0 0 zeros)) (take t (locking ys))) 369 ≡ 0x393F
+stays-then : (ys : List Input) (t : ℕ) → 1 ≤ t → t ≤ length (locking ys) → valueOf (run (StartExamples.post 3 (settings 0x393F 0 0 zeros)) (take t (locking ys))) 1329 ≡ 0x393F
 unfolding rules
-stays-then ys t f l = demand3 (StartExamples.post 3 (settings 0x393F 0 0 zeros)) (locking ys) refl .locks 1 t 369 f l refl .1
+stays-then ys t f l = demand3 (StartExamples.post 3 (settings 0x393F 0 0 zeros)) (locking ys) refl .locks 1 t 1329 f l refl .1

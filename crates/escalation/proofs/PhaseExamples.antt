@@ -44,7 +44,7 @@ module _ (h : Handler) (x : Input) (ys : List Input) (v : valid h ≡ true) (t :
       ap valid (given-handler h (x ∷ ys) v (t - 100) (omega arith)) ∙ at-valid h (x ∷ ys) v (suc (t - 100)) in
       sym (number-state _ (facts _ ok .classes k l .state)) ∙ ap stateNumber e
 
--- ── P7: class 2 of 64 alerts, lengths 0, 10, 10 and last ──
+-- ── P7: class 2 of two alerts, lengths 0, 10, 10 and last ──
 
 abbrev pub class : ℕ → Class
 class last = locked 0 0 (0 ∷ 10 ∷ 10 ∷ last ∷ [])
@@ -52,15 +52,15 @@ class last = locked 0 0 (0 ∷ 10 ∷ 10 ∷ last ∷ [])
 abbrev pub station : ℕ → Handler
 station last = post 2 (class last)
 
--- alert 63 rises in tick 100, and then come any inputs: class 2 after tick t
+-- alert 1 rises in tick 100, and then come any inputs: class 2 after tick t
 abbrev after : ℕ → List Input → ℕ → Class
-after last ys t = classAt (givenAt 100 (station last) (raise 63 none ∷ ys) t .handler) 2
+after last ys t = classAt (givenAt 100 (station last) (raise 1 none ∷ ys) t .handler) 2
 
-started : (last : ℕ) → Starts (station last) (raise 63 none) 2
+started : (last : ℕ) → Starts (station last) (raise 1 none) 2
 unfolding rules
 started last = record { is-class = omega arith; is-start = refl; is-locked = refl; has-en = refl; has-lock = refl }
 
-is-read : (last : ℕ) → classRead (station last) (raise 63 none) 2 ≡ class last
+is-read : (last : ℕ) → classRead (station last) (raise 1 none) 2 ≡ class last
 unfolding rules
 is-read last = refl
 
@@ -73,16 +73,16 @@ unfolding rules
 valid-most = refl
 
 module _ (last : ℕ) (v : valid (station last) ≡ true) (ys : List Input) (t : ℕ) (from : 100 ≤ t) (to : t ≤ 100 + length ys) where
-  pub escalated : Escalated (class last) 100 t (givenAt 100 (station last) (raise 63 none ∷ ys) t) 2
+  pub escalated : Escalated (class last) 100 t (givenAt 100 (station last) (raise 1 none ∷ ys) t) 2
   escalated =
-      subst (λ (c : Class). Escalated c 100 t (givenAt 100 (station last) (raise 63 none ∷ ys) t) 2) (is-read last)
-      (from100 (station last) (raise 63 none) ys v t from to 2 (started last))
+      subst (λ (c : Class). Escalated c 100 t (givenAt 100 (station last) (raise 1 none ∷ ys) t) 2) (is-read last)
+      (from100 (station last) (raise 1 none) ys v t from to 2 (started last))
 
   in-phase : (p : ℕ) → p < 4 → OfPhase (class last) 100 p t → after last ys t .state ≡ stateNumber (phase p)
-  in-phase p l o = state-reads (station last) (raise 63 none) ys v t from to 2 (omega arith) (phase p) (escalated .in-phase p l .1 o)
+  in-phase p l o = state-reads (station last) (raise 1 none) ys v t from to 2 (omega arith) (phase p) (escalated .in-phase p l .1 o)
 
   in-terminal : 121 + last ≤ t → 0 < last → after last ys t .state ≡ 3
-  in-terminal l p = state-reads (station last) (raise 63 none) ys v t from to 2 (omega arith) Terminal (escalated .in-terminal .1 (omega arith))
+  in-terminal l p = state-reads (station last) (raise 1 none) ys v t from to 2 (omega arith) Terminal (escalated .in-terminal .1 (omega arith))
 
   before-terminal : t < 121 + last → after last ys t .state ≢ 3
   before-terminal l e = omega (arith, escalated .in-terminal .0 (ap stateOf e ∙ state-number Terminal))

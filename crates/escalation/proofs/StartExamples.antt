@@ -6,7 +6,7 @@ use mathlib.Core.Logic.{inr, ⊎-elim}
 use mathlib.Core.Bool.{true, false, false≢true}
 use mathlib.Core.List.{List, [], _∷_}
 use native.Mathlib.Omega.{arith}
-use lib.ListN.{set, replicate}
+use lib.ListN.{replicate}
 use Rattle.class_rules.specs.Class.{lineEnable}
 use Rattle.class_rules.specs.Step.{trigger, starts}
 use Rattle.class_rules.specs.declared.Class.{Class}
@@ -27,7 +27,7 @@ use Rattle.escalation.specs.Escalation.{stateIn, StartIs, Starts}
 use Rattle.escalation.specs.List.{classRead, met}
 use Rattle.escalation.proofs.Demand3.{demand3}
 
--- ── scenes: 64 alerts, of which the last is enabled, in class k ──
+-- ── scenes: two alerts, of which the last is enabled, in class k ──
 
 -- a class with REGWEN 0
 abbrev shut : Class → Class
@@ -49,7 +49,7 @@ abbrev pub locked : ℕ → ℕ → List ℕ → Class
 locked thresh timeout lengths = shut (settings 0x393F thresh timeout lengths)
 
 abbrev pub post : ℕ → Class → Handler
-post k c = station 64 (set (replicate 64 0) 63 1) (set (replicate 64 0) 63 k) k c
+post k c = station 2 (0 ∷ 1 ∷ replicate 246 0) (0 ∷ k ∷ replicate 246 0) k c
 
 abbrev nines : List ℕ
 nines = replicate 4 9
@@ -58,13 +58,13 @@ nines = replicate 4 9
 abbrev idle : Handler
 idle = post 2 (locked 0 0 nines)
 
-by-trigger : Starts idle (raise 63 none) 2
+by-trigger : Starts idle (raise 1 none) 2
 unfolding rules
 by-trigger = record { is-class = omega arith; is-start = refl; is-locked = refl; has-en = refl; has-lock = refl }
 
 -- by the timeout: due since the event of the tick before, with a Timeout count at TIMEOUT_CYC, and no trigger
 abbrev waiting : Handler
-waiting = run (post 3 (locked 9 1 nines)) (raise 63 none ∷ [])
+waiting = run (post 3 (locked 9 1 nines)) (raise 1 none ∷ [])
 
 by-timeout : Starts waiting (rest none) 3 × (stateIn waiting 3 ≡ Timeout) × (trigger (met waiting (rest none) 3) (classRead waiting (rest none) 3) ≡ false)
 unfolding rules
@@ -91,7 +91,7 @@ abbrev unlocked : Handler
 unlocked = post 3 (settings 0x393F 0 0 nines)
 
 abbrev locking : Input
-locking = raise 63 (write (Block Setting.Regwen 3) 0)
+locking = raise 1 (write (Block Setting.Regwen 3) 0)
 
 just-locked : Starts unlocked locking 3 × (classAt unlocked 3 .regwen ≡ 1)
 unfolding rules
@@ -107,13 +107,13 @@ start-is h x k v l = demand3 h (x ∷ []) v .start 0 k 0 l (record { from = omeg
 reaches : (h : Handler) (x : Input) (k : ℕ) → valid h ≡ true → Starts h x k → stateIn (ticked h x .handler) k ≡ Phase0
 reaches h x k v s = start-is h x k v (s .is-class) .move .0 (s .is-start) .1
 
-all-reach : (stateIn (ticked idle (raise 63 none) .handler) 2 ≡ Phase0)
+all-reach : (stateIn (ticked idle (raise 1 none) .handler) 2 ≡ Phase0)
     × (stateIn (ticked waiting (rest none) .handler) 3 ≡ Phase0)
     × (stateIn (ticked waiting clearing .handler) 3 ≡ Phase0)
     × (stateIn (ticked unlocked locking .handler) 3 ≡ Phase0)
 unfolding rules
 all-reach = (
-  reaches idle (raise 63 none) 2 refl by-trigger,
+  reaches idle (raise 1 none) 2 refl by-trigger,
   reaches waiting (rest none) 3 refl (by-timeout .0),
   reaches waiting clearing 3 refl (with-clear .0),
   reaches unlocked locking 3 refl (just-locked .0),
@@ -140,7 +140,7 @@ with-line = start-is waiting (rest none) 3 refl (omega arith) .line (by-timeout 
 abbrev lastLine : Handler
 lastLine = post 2 (shut (settings 0x3923 0 0 nines))
 
-by-last-line : Starts lastLine (raise 63 none) 2 × (lineEnable (classRead lastLine (raise 63 none) 2) 0 ≡ false)
+by-last-line : Starts lastLine (raise 1 none) 2 × (lineEnable (classRead lastLine (raise 1 none) 2) 0 ≡ false)
 unfolding rules
 by-last-line = (record { is-class = omega arith; is-start = refl; is-locked = refl; has-en = refl; has-lock = refl }, refl)
 
@@ -148,6 +148,6 @@ by-last-line = (record { is-class = omega arith; is-start = refl; is-locked = re
 abbrev lineless : Handler
 lineless = post 2 (shut (settings 0x3903 0 0 nines))
 
-no-start : starts (met lineless (raise 63 none) 2) (classRead lineless (raise 63 none) 2) ≡ false
+no-start : starts (met lineless (raise 1 none) 2) (classRead lineless (raise 1 none) 2) ≡ false
 unfolding rules
 no-start = refl

@@ -14,12 +14,13 @@ use Rattle.bits.proofs.IndexLaws.{and-true, true-and, at-each, length-each, is-
 use Rattle.bits.specs.Index.{each}
 use Rattle.rules.specs.Answer.{firstOf, number}
 use Rattle.rules.specs.Batch.{Batched, admits, batch, batchOf, batchVerdict}
-use Rattle.rules.specs.Edition.{recordBytes, alerts}
+use Rattle.rules.specs.Edition.{newest, recordBytes, alerts}
 use Rattle.rules.specs.Record.{inputOf, inputsOf, recordAt, recordCount}
 use Rattle.rules.specs.Run.{run, ticks}
 use Rattle.rules.specs.Valid.{valid}
 use Rattle.rules.specs.declared.Answer.{Answer}
 use Rattle.rules.specs.declared.Edition.{Edition}
+use Rattle.rules.specs.State.{most}
 use Rattle.rules.specs.declared.Handler.{Handler}
 use Rattle.rules.specs.declared.Input.{Input}
 use Rattle.rules.specs.declared.Refusal.{Refusal}
@@ -45,10 +46,10 @@ run-admits e h xs a =
     let b = and-true (valid h) (leb (h .n) (alerts e)) a in
     true-and (run-valid h xs (b .0)) (ap (λ (n : ℕ). leb n (alerts e)) (run-above h xs .n) ∙ b .1)
 
--- the records of 24 bytes speak of every alert that there is
-pub admits-all : (h : Handler) → valid h ≡ true → admits Edition.Bytes24 h ≡ true
+-- the newest records speak of every alert that there is
+pub admits-all : (h : Handler) → valid h ≡ true → admits newest h ≡ true
 unfolding admits
-admits-all h v = true-and v (le-leb (h .n) 64 (facts h v .n))
+admits-all h v = true-and v (le-leb (h .n) most (facts h v .n))
 
 -- ── a refused batch ──
 

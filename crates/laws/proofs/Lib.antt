@@ -2,6 +2,7 @@ pub mod Cases
 pub mod RowLaws
 pub mod MapLaws
 pub mod ColumnLaws
+pub mod CarryLaws
 pub mod Step1
 pub mod Refusals
 pub mod RegisterFile

@@ -86,7 +86,7 @@ field-lt = by-field (λ f. fieldIndex f < 4) (omega arith) (omega arith) (omega 
 -- ── the block of a class ──
 
 -- a block has 13 registers
-offset-lt : (s : Setting) → settingExists s ≡ true → offset s < 13
+pub offset-lt : (s : Setting) → settingExists s ≡ true → offset s < 13
 offset-lt =
     by-setting (λ s. settingExists s ≡ true → offset s < 13) (λ e. omega arith) (λ e. omega arith) (λ e. omega arith) (λ e. omega arith)
     (λ e. omega arith) (λ e. omega arith) (λ e. omega arith) (λ p e. omega (arith, ltb-true p 4 e)) (λ e. omega arith) (λ e. omega arith)

@@ -1,7 +1,7 @@
 -- One record: reading what was written gives the same access and sample, and writing what was read the same bytes.
 -- Assumes nothing.
 use Prim.Native.Nat.{ℕ, zero, suc, _*_, _^_, _≤_, _<_}
-use mathlib.Core.Path.{_≡_, refl, sym, ap, ap₂, _∙_, subst}
+use mathlib.Core.Path.{_≡_, refl, sym, ap, _∙_, subst}
 use mathlib.Core.Bool.{Bool, true, false, false≢true, cond, _&&_}
 use mathlib.Core.List.{List, [], _∷_}
 use native.Mathlib.Omega.{arith}
@@ -22,11 +22,10 @@ use Rattle.rules.specs.Writer.{Wired}
 use Rattle.rules.specs.declared.Access.{Access}
 use Rattle.rules.specs.declared.Access.the-variants.{Nothing, Read, Write, Malformed}
 use Rattle.rules.specs.declared.Edition.{Edition}
-use Rattle.rules.specs.declared.Edition.the-variants.{Bytes24}
+use Rattle.rules.specs.declared.Edition.the-variants.{Bytes24, Bytes70}
 use Rattle.rules.specs.declared.Input.{Input}
-use Rattle.rules.specs.declared.Sample.{Sample}
-use Rattle.laws.specs.Wires.{Blank}
-use Rattle.laws.proofs.WireLaws.{wires-lt, wires-back, words-back}
+use Rattle.laws.specs.Wires.{shown}
+use Rattle.laws.proofs.WireLaws.{wires-lt, wires-back}
 
 pub record-length : (e : Edition) (x : Input) → length (recordOf e x) ≡ recordBytes e
 unfolding recordOf
@@ -39,6 +38,7 @@ record-byte e x i = is-byte (recordBytes e) (pack (layout e) (fieldsOfInput e x)
 -- the fields fill the bytes
 layout-bytes : (e : Edition) → total (layout e) ≡ 8 * recordBytes e
 layout-bytes Bytes24 = refl
+layout-bytes Bytes70 = refl
 
 -- ── from an access and sample to bytes and back ──
 
@@ -77,15 +77,14 @@ module _ (e : Edition) (x : Input) (w : Wired x) (t : recordable e (x .access) �
       one (kind-lt (x .access)) (one (register-lt e (x .access) t) (one (pow-pos (zeroBits e)) (one (value-lt e (x .access) t)
       (one (wires-lt e (x .sample .alerts .pos) (w .positive)) (one (wires-lt e (x .sample .alerts .neg) (w .negative)) none)))))
 
-  -- no wire beyond the edition's is high
-  pub input-record : Blank e (x .sample .alerts .pos) → Blank e (x .sample .alerts .neg) → heldIn e (recordOf e x) ≡ x
+  -- reading the record gives the same access, and the wires that the edition has a place for
+  pub input-record : heldIn e (recordOf e x) ≡ shown e x
   unfolding heldIn recordOf
-  input-record p m =
+  input-record =
       let small = subst (λ (k : ℕ). pack (layout e) (fieldsOfInput e x) < 2 ^ k) (layout-bytes e) (pack-lt fields-fit) in
       ap (λ (n : ℕ). inputOfFields e (unpack (layout e) n)) (of-to-bytes (recordBytes e) (pack (layout e) (fieldsOfInput e x)) small)
       ∙ ap (inputOfFields e) (unpack-pack fields-fit)
-      ∙ ap₂ (λ (a : Access) (s : Sample). record { access = a; sample = s }) (access-back e (x .access) t)
-      (ap₂ (λ (p m : List ℕ). record { alerts = record { pos = p; neg = m } }) (words-back e (x .sample .alerts .pos) (w .positive) p) (words-back e (x .sample .alerts .neg) (w .negative) m))
+      ∙ ap (λ (a : Access). record { access = a; sample = shown e x .sample }) (access-back e (x .access) t)
 
 -- ── from bytes to an access and sample and back ──
 

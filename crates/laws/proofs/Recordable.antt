@@ -21,10 +21,8 @@ use Rattle.rules.specs.declared.Access.{Access}
 use Rattle.rules.specs.declared.Access.the-variants.{Nothing, Read, Write, Malformed}
 use Rattle.rules.specs.declared.Edition.{Edition}
 use Rattle.rules.specs.declared.Input.{Input}
-use Rattle.laws.specs.Wires.{Blank}
 use Rattle.laws.proofs.RecordLaws.{record-length, record-byte, input-record, access-fields}
 use Rattle.laws.proofs.WellFormedLaws.{formed-one, one-formed}
-use Rattle.laws.proofs.WireLaws.{words-blank}
 
 -- ── what a record holds ──
 
@@ -55,11 +53,10 @@ formed e (Read r) t = refl
 formed e (Write r v) t = refl
 formed e Malformed t = absurd (false≢true t)
 
-pub record-formed : (e : Edition) (x : Input) → Wired x → Blank e (x .sample .alerts .pos) → Blank e (x .sample .alerts .neg) → recordable e (x .access) ≡ true
-    → WellFormed e (recordOf e x)
-record-formed e x w p m t =
+pub record-formed : (e : Edition) (x : Input) → Wired x → recordable e (x .access) ≡ true → WellFormed e (recordOf e x)
+record-formed e x w t =
     one-formed e (recordOf e x) (record-length e x) (record-byte e x)
-    (ap (λ (y : Input). malformed (y .access)) (input-record e x w t p m) ∙ formed e (x .access) t)
+    (ap (λ (y : Input). malformed (y .access)) (input-record e x w t) ∙ formed e (x .access) t)
 
 -- with all wires at 0
 abbrev quiet : Edition → Access → Input
@@ -69,8 +66,7 @@ held : (e : Edition) (a : Access) → recordable e a ≡ true → HeldBy e a
 held e a t =
     let x = quiet e a in
     let w : Wired x = record { positive = unpack-fits _ _; negative = unpack-fits _ _ } in
-    let b : Blank e (x .sample .alerts .pos) = words-blank e 0 (pow-pos (alerts e)) in
-    (recordOf e x, record-length e x, record-formed e x w b b t, ap (λ (y : Input). y .access) (input-record e x w t b b))
+    (recordOf e x, record-length e x, record-formed e x w t, ap (λ (y : Input). y .access) (input-record e x w t))
 
 pub recordable-is : (e : Edition) (a : Access) → (recordable e a ≡ true) ↔ HeldBy e a
 recordable-is e a =

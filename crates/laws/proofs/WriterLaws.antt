@@ -1,10 +1,10 @@
 -- The trace writer: what is written is read back, and what is read is written back.
 -- Assumes nothing.
 use Prim.Native.Nat.{ℕ, zero, suc, _+_, _*_, _≤_}
-use mathlib.Core.Path.{_≡_, refl, sym, ap, ap₂, _∙_}
+use mathlib.Core.Path.{_≡_, refl, sym, ap, ap₂, _∙_, subst}
 use mathlib.Core.Bool.{Bool, true, false, false≢true, cond, not, _||_}
 use mathlib.Core.Logic.{_↔_}
-use mathlib.Core.List.{List, [], _∷_, _++_, append-assoc}
+use mathlib.Core.List.{List, [], _∷_, _++_, map, append-assoc}
 use native.Mathlib.Nat.{zero-mul, suc-mul}
 use native.Mathlib.Omega.{arith}
 use borrow.Author.Tests.{not-false, le-ltb}
@@ -17,7 +17,7 @@ use Rattle.bits.specs.Index.{each, eachFrom}
 use Rattle.rules.specs.Answer.{firstOf, number}
 use Rattle.rules.specs.Edition.{newest, recordBytes}
 use Rattle.rules.specs.Record.{carried, heldIn, inputOf, recordOf, recordable, inputsOf, recordAt, recordCount}
-use Rattle.rules.specs.Writer.{WellFormed, Wired, AllWired, none, one, recordsOf, anyUnrecordable, writeCases, writeVerdict, writeOf, write}
+use Rattle.rules.specs.Writer.{WellFormed, Wired, AllWired, none, one, AllSame, no-more, and, recordsOf, anyUnrecordable, writeCases, writeVerdict, writeOf, write}
 use Rattle.rules.specs.declared.Answer.{Answer}
 use Rattle.rules.specs.declared.Access.{Access}
 use Rattle.rules.specs.declared.Access.the-variants.{Nothing, Read, Write, Malformed}
@@ -30,7 +30,8 @@ use Rattle.laws.proofs.RecordLaws.{record-length, input-record, record-
 use Rattle.laws.proofs.Recordable.{read-recordable, record-formed}
 use Rattle.laws.proofs.Refusals.{first-accepts}
 use Rattle.laws.proofs.WellFormedLaws.{formed-one, none-formed, well-formed-append, inputs-none, inputs-cons, by-records}
-use Rattle.laws.proofs.WireLaws.{newest-blank}
+use Rattle.laws.proofs.WireLaws.{same-shown}
+use Rattle.laws.specs.Wires.{shown}
 
 -- ── a record for each ──
 
@@ -118,14 +119,14 @@ or-false : (a b : Bool) → (a || b) ≡ false → (a ≡ false) × (b ≡ false
 or-false true b e = absurd (false≢true (sym e))
 or-false false b e = (refl, e)
 
-inputs-records : (xs : List Input) → AllWired xs → anyUnrecordable newest xs ≡ false → inputsOf newest (recordsOf newest xs) ≡ xs
+inputs-records : (xs : List Input) → AllWired xs → anyUnrecordable newest xs ≡ false → inputsOf newest (recordsOf newest xs) ≡ map (shown newest) xs
 unfolding recordsOf anyUnrecordable
 inputs-records [] w e = inputs-none newest
 inputs-records (x ∷ xs) (one v w) e =
     let p = or-false (not (recordable newest (x .access))) (anyUnrecordable newest xs) e in
     inputs-cons newest (recordOf newest x) (recordsOf newest xs) (record-length newest x)
     ∙ ap₂ {C = List Input} _∷_ (own-numbers (recordOf newest x)
-    ∙ input-record newest x v (not-false (recordable newest (x .access)) (p .0)) (newest-blank _) (newest-blank _)) (inputs-records xs w (p .1))
+    ∙ input-record newest x v (not-false (recordable newest (x .access)) (p .0))) (inputs-records xs w (p .1))
 
 -- what is written is well formed
 pub written-formed : (xs : List Input) → AllWired xs → anyUnrecordable newest xs ≡ false → WellFormed newest (recordsOf newest xs)
@@ -133,14 +134,23 @@ unfolding recordsOf anyUnrecordable
 written-formed [] w e = none-formed newest
 written-formed (x ∷ xs) (one v w) e =
     let p = or-false (not (recordable newest (x .access))) (anyUnrecordable newest xs) e in
-    well-formed-append newest (recordOf newest x) (recordsOf newest xs) (record-formed newest x v (newest-blank _) (newest-blank _) (not-false (recordable newest (x .access)) (p .0))) (written-formed xs w (p .1))
+    well-formed-append newest (recordOf newest x) (recordsOf newest xs) (record-formed newest x v (not-false (recordable newest (x .access)) (p .0))) (written-formed xs w (p .1))
 
-pub read-written : (xs : List Input) (buffer : List ℕ) → AllWired xs → writeVerdict newest xs buffer ≡ Verdict.Accepted
-    → inputsOf newest (take (length xs * recordBytes newest) (write newest xs buffer .buffer)) ≡ xs
-read-written xs buffer w e =
+read-shown : (xs : List Input) (buffer : List ℕ) → AllWired xs → writeVerdict newest xs buffer ≡ Verdict.Accepted
+    → inputsOf newest (take (length xs * recordBytes newest) (write newest xs buffer .buffer)) ≡ map (shown newest) xs
+read-shown xs buffer w e =
     ap (λ (bs : List ℕ). inputsOf newest (take (length xs * recordBytes newest) bs)) (write-accepted newest xs buffer e)
     ∙ ap (inputsOf newest) (take-at (recordsOf newest xs) (drop (length xs * recordBytes newest) buffer) (length xs * recordBytes newest) (records-length newest xs))
     ∙ inputs-records xs w (accepted-recordable newest xs buffer e)
+
+all-same : (xs : List Input) → AllWired xs → AllSame newest xs (map (shown newest) xs)
+all-same [] w = no-more
+all-same (x ∷ xs) (one v w) = and (same-shown newest x v) (all-same xs w)
+
+pub read-written : (xs : List Input) (buffer : List ℕ) → AllWired xs → writeVerdict newest xs buffer ≡ Verdict.Accepted
+    → AllSame newest xs (inputsOf newest (take (length xs * recordBytes newest) (write newest xs buffer .buffer)))
+read-written xs buffer w e =
+    subst (AllSame newest xs) (sym (read-shown xs buffer w e)) (all-same xs w)
 
 -- ── writing what was read ──
 

@@ -1,4 +1,5 @@
 pub mod InMap
+pub mod Carry
 pub mod Facts
 pub mod RegisterFile
 pub mod Refusals

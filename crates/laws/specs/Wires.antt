@@ -1,14 +1,21 @@
--- A sample's words of 64, of which an edition has the first wires.
+-- What a record shows of a sample: the wires that its edition has a place for.
 -- Assumes nothing.
-use Prim.Native.Nat.{ℕ, _-_, _*_, _%_, _^_}
-use mathlib.Core.Path.{_≡_}
-use mathlib.Core.List.{List}
-use lib.ListN.{replicate}
-use Rattle.bits.specs.Fields.{pack}
 use Rattle.rules.specs.Edition.{alerts}
-use Rattle.rules.specs.State.{words}
+use Rattle.rules.specs.Record.{wireWords, wiresOf}
 use Rattle.rules.specs.declared.Edition.{Edition}
+use Rattle.rules.specs.declared.Input.{Input}
 
--- no wire is high that the edition has no place for
-abbrev pub Blank : Edition → List ℕ → Type 0
-Blank e ws = pack (replicate words 64) ws % 2 ^ (64 * words - alerts e) ≡ 0
+-- the same access, and words in which every place past the edition's alerts is 0
+abbrev pub shown : Edition → Input → Input
+shown e x =
+    record {
+      access = x .access;
+      sample =
+          record {
+            alerts =
+                record {
+                  pos = wireWords (alerts e) (wiresOf (alerts e) (x .sample .alerts .pos));
+                  neg = wireWords (alerts e) (wiresOf (alerts e) (x .sample .alerts .neg));
+                };
+          };
+    }

@@ -4,7 +4,7 @@ use rules::Register;
 use rules::Setting;
 
 // From one field of the alerts to the next.
-const STRIDE: usize = 64;
+const STRIDE: usize = 256;
 
 // The first numbers of the alerts' four fields and of the classes, and what is past them.
 const REGWEN: usize = STRIDE;

@@ -8,14 +8,16 @@ use input::read_some;
 use libc::STDERR_FILENO;
 use libc::STDIN_FILENO;
 use libc::STDOUT_FILENO;
-use records::BYTES;
 use records::TEXT;
+use records::TURN;
 use records::replay;
 use rest::keep_rest;
 use rules::Edition;
 use rules::Handler;
 use rules::Made;
 use state::new::new;
+use trace::edition::BYTES_24;
+use trace::edition::BYTES_70;
 ghost use mathlib.Core.Path.{_≡_};
 ghost use mathlib.Core.Bool.{true};
 ghost use Prim.Native.Nat.{_*_, _≤_, _<_};
@@ -30,6 +32,12 @@ struct Turn {
     handler: Handler,
     rest: usize,
     goes_on: bool,
+}
+
+// A byte that was read, or that the input ended.
+enum Byte {
+    Read(u8),
+    Missing,
 }
 
 // Prints to standard output, and says whether it could; that it could not is told on standard error.
@@ -86,15 +94,14 @@ fn take_turn(edition: Edition, h: Handler, bytes: &mut [u8], rest: usize) -> Tur
 }
 
 // A proved loop has to end, and nothing says that the input does: so it counts its turns down, from a number that no run uses up.
-fn run(edition: Edition, h: Handler)
-    requires { ⌜ admits edition h ≡ true ⌝ }
+fn take_turns(edition: Edition, h: Handler, bytes: &mut [u8])
+    requires { ⌜ (admits edition h ≡ true) × (length (now bytes) ≡ 2048 * recordBytes edition) ⌝ }
 {
-    let mut bytes = [0u8; BYTES];
     let mut handler = h;
     let mut rest = 0;
     let mut turns = u64::MAX;
     while turns > 0 {
-        let next = take_turn(edition, handler, &mut bytes, rest);
+        let next = take_turn(edition, handler, bytes, rest);
         if !next.goes_on {
             return;
         }
@@ -104,7 +111,23 @@ fn run(edition: Edition, h: Handler)
     }
 }
 
-// A handler for N, the first byte.
+// The records of 24 bytes, from a buffer of a turn's bytes.
+fn run_24(h: Handler)
+    requires { ⌜ admits Edition.Bytes24 h ≡ true ⌝ }
+{
+    let mut bytes = [0u8; TURN * BYTES_24];
+    take_turns(Edition::Bytes24, h, &mut bytes);
+}
+
+// The records of 70 bytes.
+fn run_70(h: Handler)
+    requires { ⌜ admits Edition.Bytes70 h ≡ true ⌝ }
+{
+    let mut bytes = [0u8; TURN * BYTES_70];
+    take_turns(Edition::Bytes70, h, &mut bytes);
+}
+
+// A handler for N.
 fn make(n: u8) -> Made
     ensures { λ r. ⌜ r ≡ made n ⌝ }
 {
@@ -116,18 +139,55 @@ fn refuse() {
     print(b"refused\n");
 }
 
-fn main() {
-    let mut first = [0u8; 1];
-    let got = read_some(STDIN_FILENO, &mut first);
+// Old records, of 24 bytes, speak of at most 64 alerts.
+fn start_24(n: u8) {
+    if 64 < n {
+        refuse();
+        return;
+    }
+    let made = make(n);
+    if made.answer < 0 {
+        refuse();
+    } else {
+        run_24(made.handler);
+    }
+}
+
+// The newest records, of 70 bytes.
+fn start_70(n: u8) {
+    let made = make(n);
+    if made.answer < 0 {
+        refuse();
+    } else {
+        run_70(made.handler);
+    }
+}
+
+// One byte of the input. That none came, or a read failed, is told as a missing N is.
+fn read_byte() -> Byte {
+    let mut byte = [0u8; 1];
+    let got = read_some(STDIN_FILENO, &mut byte);
     if got.count == 0 {
         refuse();
         finish(0, got.failed);
-        return;
+        return Byte::Missing;
     }
-    let start = make(first[0]);
-    if start.answer < 0 {
-        refuse();
-        return;
+    Byte::Read(byte[0])
+}
+
+// The first byte is N, or 255: then N comes next, and the records are the newest.
+fn main() {
+    match read_byte() {
+        Byte::Missing => {}
+        Byte::Read(first) => {
+            if first == 255 {
+                match read_byte() {
+                    Byte::Missing => {}
+                    Byte::Read(n) => start_70(n),
+                }
+            } else {
+                start_24(first);
+            }
+        }
     }
-    run(Edition::Bytes24, start.handler);
 }

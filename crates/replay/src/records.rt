@@ -3,7 +3,6 @@ use batch::batch;
 use rules::Edition;
 use rules::Handler;
 use text::hex_lines;
-use trace::edition::BYTES_24;
 use trace::edition::record_bytes;
 ghost use mathlib.Core.Path.{_≡_};
 ghost use mathlib.Core.Bool.{true};
@@ -13,10 +12,8 @@ ghost use Rattle.rules.specs.Batch.{admits};
 ghost use Rattle.rules.specs.Record.{recordCount};
 ghost use Rattle.replay.specs.ReplayedBy.{ReplayedBy};
 
-// The records of a turn, and the bytes of that many records and of their lines.
-const TURN: usize = 2048;
-
-pub const BYTES: usize = TURN * BYTES_24;
+// The records of a turn, and the bytes of their lines.
+pub const TURN: usize = 2048;
 
 pub const TEXT: usize = TURN * 17;
 

@@ -32,18 +32,19 @@ numbers : (number (Answer.Value 4294967295) ≡ pos 4294967295)
 unfolding rules
 numbers = (refl, refl, refl, refl, refl, refl, refl, refl, refl, refl, refl, refl, refl, refl)
 
--- "N is 0 or over 64: a handler of no alerts, otherwise as new"
+-- "N is 0 or over 64: a handler of no alerts, otherwise as new"; request (iii): 6 reads 248
 makes : (made 0 ≡ record { handler = newHandler 0; answer = refused 6 })
     × (made 1 ≡ record { handler = newHandler 1; answer = pos 0 })
-    × (made 64 ≡ record { handler = newHandler 64; answer = pos 0 })
-    × (made 65 ≡ record { handler = newHandler 0; answer = refused 6 })
+    × (made 65 ≡ record { handler = newHandler 65; answer = pos 0 })
+    × (made 248 ≡ record { handler = newHandler 248; answer = pos 0 })
+    × (made 249 ≡ record { handler = newHandler 0; answer = refused 6 })
     × (made 256 ≡ record { handler = newHandler 0; answer = refused 6 })
     × (made (2 ^ 32) ≡ record { handler = newHandler 0; answer = refused 6 })
 unfolding rules
-makes = (refl, refl, refl, refl, refl, refl)
+makes = (refl, refl, refl, refl, refl, refl, refl)
 
 -- the handler that refusal 6 leaves takes its ticks
-no-alerts : gives (newHandler 0) (rest (Access.Read 321)) ≡ pos 0x393C
+no-alerts : gives (newHandler 0) (rest (Access.Read 1281)) ≡ pos 0x393C
 unfolding rules
 no-alerts = refl
 
@@ -51,7 +52,7 @@ no-alerts = refl
 new : newHandler 1
     ≡ record {
       n = 1;
-      receivers = record { armed = 18446744073709551615 ∷ [] };
+      receivers = record { armed = replicate 4 18446744073709551615 };
       classes =
           replicate 4
           (record {
@@ -65,7 +66,7 @@ new : newHandler 1
             clrwen = 1;
             state = 0;
           });
-      alerts = record { regwen = replicate 64 1; en = replicate 64 0; class = replicate 64 0; cause = replicate 64 0 };
+      alerts = record { regwen = replicate 248 1; en = replicate 248 0; class = replicate 248 0; cause = replicate 248 0 };
       locals = record { regwen = replicate 7 1; en = replicate 7 0; class = replicate 7 0; cause = replicate 7 0 };
       interrupts = record { state = 0; enable = 0 };
     }
@@ -74,31 +75,31 @@ new = refl
 
 -- "For an access the order is 7, 5, 1, 2, 4, 3"
 abbrev locked0 : Handler
-locked0 = then (newHandler 1) (Access.Write 320 0)
+locked0 = then (newHandler 1) (Access.Write 1280 0)
 
 abbrev bad : Handler
-bad = withClasses [] (newHandler 65)
+bad = withClasses [] (newHandler 249)
 
-order : (gives locked0 (rest (Access.Write 325 65536)) ≡ refused 4)
-    × (gives locked0 (rest (Access.Write 325 65535)) ≡ refused 3)
-    × (gives locked0 (rest (Access.Write 320 2)) ≡ refused 4)
-    × (gives locked0 (rest (Access.Write 320 1)) ≡ refused 3)
-    × (gives locked0 (rest (Access.Write 320 0)) ≡ pos 0)
-    × (gives locked0 (rest (Access.Write 324 1)) ≡ refused 2)
-    × (gives locked0 (rest (Access.Write 324 4294967295)) ≡ refused 2)
-    × (gives locked0 (rest (Access.Write 333 4294967295)) ≡ refused 1)
+order : (gives locked0 (rest (Access.Write 1285 65536)) ≡ refused 4)
+    × (gives locked0 (rest (Access.Write 1285 65535)) ≡ refused 3)
+    × (gives locked0 (rest (Access.Write 1280 2)) ≡ refused 4)
+    × (gives locked0 (rest (Access.Write 1280 1)) ≡ refused 3)
+    × (gives locked0 (rest (Access.Write 1280 0)) ≡ pos 0)
+    × (gives locked0 (rest (Access.Write 1284 1)) ≡ refused 2)
+    × (gives locked0 (rest (Access.Write 1284 4294967295)) ≡ refused 2)
+    × (gives locked0 (rest (Access.Write 1293 4294967295)) ≡ refused 1)
     × (gives locked0 (rest Access.Malformed) ≡ refused 5)
     × (gives bad (rest Access.Malformed) ≡ refused 7)
 unfolding rules
 order = (refl, refl, refl, refl, refl, refl, refl, refl, refl, refl)
 
--- "Read 333: -1. Read 323, write 324: -2. Write 16 to 1: -4."
-cases : (gives (newHandler 1) (rest (Access.Read 333)) ≡ refused 1)
-    × (gives (newHandler 1) (rest (Access.Read 323)) ≡ refused 2)
+-- "Read 333: -1. Read 323, write 324: -2. Write 16 to 1: -4.", in the numbers of request (iii)
+cases : (gives (newHandler 1) (rest (Access.Read 1293)) ≡ refused 1)
+    × (gives (newHandler 1) (rest (Access.Read 1283)) ≡ refused 2)
     × (gives (newHandler 1) (rest (Access.Read 2)) ≡ refused 2)
-    × (gives (newHandler 1) (rest (Access.Write 324 0)) ≡ refused 2)
-    × (gives (newHandler 1) (rest (Access.Write 331 0)) ≡ refused 2)
-    × (gives (newHandler 1) (rest (Access.Write 332 0)) ≡ refused 2)
+    × (gives (newHandler 1) (rest (Access.Write 1284 0)) ≡ refused 2)
+    × (gives (newHandler 1) (rest (Access.Write 1291 0)) ≡ refused 2)
+    × (gives (newHandler 1) (rest (Access.Write 1292 0)) ≡ refused 2)
     × (gives (newHandler 1) (rest (Access.Write 1 16)) ≡ refused 4)
     × (gives (newHandler 1) (rest (Access.Write 1 15)) ≡ pos 0)
     × (gives (newHandler 1) (rest Access.Nothing) ≡ pos 0)

@@ -1,14 +1,15 @@
 -- Worked examples that pin step 2, the samples, by computation.
 -- Assumes nothing.
-use Prim.Native.Nat.{ℕ, _+_, _-_, _^_}
+use Prim.Native.Nat.{ℕ, suc, _+_, _-_, _^_}
 use mathlib.Core.Path.{_≡_, refl}
-use mathlib.Core.Bool.{false}
-use mathlib.Core.List.{List, [], _∷_}
+use mathlib.Core.Bool.{Bool, true, false}
+use mathlib.Core.List.{List, [], _∷_, _++_, map}
 use lib.IntN.{pos}
 use lib.ListN.{set, replicate}
 use Rattle.rules.specs.Access.{value}
 use Rattle.rules.specs.Run.{run}
-use Rattle.rules.specs.State.{newHandler, armed, withLocals}
+use Rattle.rules.specs.State.{newHandler, local, alert, armed, withLocals}
+use Rattle.rules.specs.Tick.{after}
 use Rattle.rules.specs.declared.Access.{Access}
 use Rattle.rules.specs.declared.Field.{Field}
 use Rattle.rules.specs.declared.Handler.{Handler}
@@ -18,6 +19,10 @@ use Rattle.rules.specs.declared.Register.the-variants.{IntrState, Local,
 use Rattle.rules.specs.declared.Setting.the-variants.{AccumCnt}
 use Rattle.rules.specs.Scenes.{ones, wired, wire, rest, raise, bothHigh, bothLow, none, write, gives}
 use Rattle.rules.proofs.Scenes.{rules, settings, zeros, station, ready}
+
+-- a word of 64 ones
+abbrev most64 : ℕ
+most64 = 2 ^ 64 - 1
 
 abbrev holds : Handler → List Input → Register → ℕ
 holds h xs q = value (run h xs) q
@@ -38,7 +43,7 @@ arming = (refl, refl, refl, refl, refl, refl, refl)
 
 -- a disabled alert at (1,0) disarms, so enabling it with the wire still high gives no event
 abbrev off : Handler
-off = station 1 (replicate 64 0) (replicate 64 0) 0 (settings 0x393F 0 0 zeros)
+off = station 1 (replicate 248 0) (replicate 248 0) 0 (settings 0x393F 0 0 zeros)
 
 disabled : (armed (run off (raise 0 none ∷ [])) 0 ≡ false)
     × (holds off (raise 0 none ∷ raise 0 (write (Alert Field.En 0) 1) ∷ []) (Alert Field.Cause 0) ≡ 0)
@@ -61,18 +66,28 @@ class-off : (holds (newHandler 1) (raise 0 (write (Alert Field.En 0) 1) ∷ []) 
 unfolding rules
 class-off = (refl, refl, refl)
 
--- N = 64: alert 63 is at the last bit, positive wires first; the two swapped are a fall
-abbrev last : Handler
-last = station 64 (set (replicate 64 0) 63 1) (set (replicate 64 0) 63 2) 2 (settings 5 0 0 zeros)
+-- N = 248: each alert is at its own place of its own word, positive wires first; the two swapped are a fall. Every alert is enabled in class 2;
+-- steps 1 to 4 alone, since refusal 7's look at 248 entries is no matter here
+abbrev every : Handler
+every = station 248 (replicate 248 1) (replicate 248 2) 2 (settings 5 0 0 zeros)
 
-places : (holds last (wired 1 (ones - 1) none ∷ []) (Alert Field.Cause 63) ≡ 1)
-    × (holds last (wired 1 (ones - 1) none ∷ []) IntrState ≡ 4)
-    × (holds last (wired (ones - 1) 1 none ∷ []) (Alert Field.Cause 63) ≡ 0)
-    × (holds last (wired 2 (ones - 2) none ∷ []) (Alert Field.Cause 63) ≡ 0)
-    × (holds last (wired (2 ^ 63) (ones - 2 ^ 63) none ∷ []) (Alert Field.Cause 63) ≡ 0)
-    × (run last (wired 1 (ones - 1) none ∷ []) .receivers .armed ≡ (ones - 1) ∷ [])
+abbrev risen : ℕ → Handler
+risen i = after every (raise i none)
+
+-- what a rise of alert i leaves: its own cause and arming, those of the alerts beside it, and the class's interrupt
+abbrev marks : ℕ → List ℕ
+marks i = let h = risen i in map (λ (k : ℕ). alert h Field.Cause k) ((i - 1) ∷ i ∷ suc i ∷ []) ++ (h .interrupts .state ∷ [])
+
+abbrev arms : ℕ → List Bool
+arms i = let h = risen i in map (armed h) ((i - 1) ∷ i ∷ suc i ∷ [])
+
+places : (map marks (63 ∷ 64 ∷ 127 ∷ 128 ∷ 191 ∷ 192 ∷ 247 ∷ []) ≡ replicate 7 (0 ∷ 1 ∷ 0 ∷ 4 ∷ []))
+    × (map arms (63 ∷ 64 ∷ 127 ∷ 128 ∷ 191 ∷ 192 ∷ 247 ∷ []) ≡ replicate 7 (true ∷ false ∷ true ∷ []))
+    × (alert (after every (wired (ones - wire 247) (wire 247) none)) Field.Cause 247 ≡ 0)
+    × (risen 247 .receivers .armed ≡ most64 ∷ most64 ∷ most64 ∷ (most64 - 2 ^ 8) ∷ [])
+    × (risen 64 .receivers .armed ≡ most64 ∷ (most64 - 2 ^ 63) ∷ most64 ∷ most64 ∷ [])
 unfolding rules
-places = (refl, refl, refl, refl, refl, refl)
+places = (refl, refl, refl, refl, refl)
 
 -- the state with local 2 enabled in class k
 abbrev locals2 : ℕ → Handler → Handler
@@ -81,22 +96,28 @@ locals2 k h =
 
 -- "Samples at N and above count for nothing", and a new handler's arming is all ones for every N
 abbrev two : Handler
-two = locals2 0 (station 2 (replicate 64 1) (replicate 64 0) 0 (settings 5 0 0 zeros))
+two = locals2 0 (station 2 (replicate 248 1) (replicate 248 0) 0 (settings 5 0 0 zeros))
 
-above : (run two (wired ones 0 none ∷ []) .receivers .armed ≡ (ones - 2 ^ 63 - 2 ^ 62) ∷ [])
+above : (run two (wired ones 0 none ∷ []) .receivers .armed ≡ (most64 - 2 ^ 63 - 2 ^ 62) ∷ most64 ∷ most64 ∷ most64 ∷ [])
     × (run two (wired (wire 2) (ones - wire 2) none ∷ []) ≡ run two (rest none ∷ []))
     × (run two (wired (ones - wire 0 - wire 1) ones none ∷ []) ≡ run two (rest none ∷ []))
-    × (newHandler 0 .receivers .armed ≡ ones ∷ [])
-    × (newHandler 64 .receivers .armed ≡ ones ∷ [])
+    × (newHandler 0 .receivers .armed ≡ replicate 4 most64)
+    × (newHandler 248 .receivers .armed ≡ replicate 4 most64)
 unfolding rules
 above = (refl, refl, refl, refl, refl)
 
 -- "If any enabled alert has equal wires and local 2 is enabled, local 2 occurs and sets its cause. A disabled local alert never occurs."
 abbrev integrity : Handler
-integrity = locals2 1 (station 2 (0 ∷ 1 ∷ replicate 62 0) (replicate 64 0) 0 (settings 0x393C 0 0 zeros))
+integrity = locals2 1 (station 2 (0 ∷ 1 ∷ replicate 246 0) (replicate 248 0) 0 (settings 0x393C 0 0 zeros))
 
 abbrev on1 : Handler
-on1 = locals2 1 (station 2 (0 ∷ 1 ∷ replicate 62 0) (replicate 64 0) 1 (settings 5 0 0 zeros))
+on1 = locals2 1 (station 2 (0 ∷ 1 ∷ replicate 246 0) (replicate 248 0) 1 (settings 5 0 0 zeros))
+
+-- equal wires of any alert raise local 2
+broken : map (λ (i : ℕ). local (after (locals2 1 every) (bothHigh i none)) Field.Cause 2) (0 ∷ 63 ∷ 64 ∷ 127 ∷ 128 ∷ 191 ∷ 192 ∷ 247 ∷ [])
+    ≡ replicate 8 1
+unfolding rules
+broken = refl
 
 locals : (holds integrity (bothHigh 1 none ∷ []) (Local Field.Cause 2) ≡ 1)
     × (holds integrity (bothLow 1 none ∷ []) (Local Field.Cause 2) ≡ 1)
@@ -114,7 +135,7 @@ locals = (refl, refl, refl, refl, refl, refl, refl, refl, refl)
 abbrev all7 : Handler
 all7 =
     withLocals (record { regwen = replicate 7 1; en = replicate 7 1; class = replicate 7 0; cause = replicate 7 0 })
-    (station 1 (1 ∷ replicate 63 0) (replicate 64 0) 0 (settings 5 0 0 zeros))
+    (station 1 (1 ∷ replicate 247 0) (replicate 248 0) 0 (settings 5 0 0 zeros))
 
 only-2 : run all7 (bothHigh 0 none ∷ []) .locals .cause ≡ 0 ∷ 0 ∷ 1 ∷ 0 ∷ 0 ∷ 0 ∷ 0 ∷ []
 unfolding rules
@@ -122,7 +143,7 @@ only-2 = refl
 
 -- P11: "Wires (1,1) on enabled alert 0, local 2 enabled in enabled class 1: register 42 reads 1 next tick"
 abbrev seal : Handler
-seal = locals2 1 (station 1 (1 ∷ replicate 63 0) (replicate 64 0) 1 (settings 5 0 0 zeros))
+seal = locals2 1 (station 1 (1 ∷ replicate 247 0) (replicate 248 0) 1 (settings 5 0 0 zeros))
 
 next-tick : (gives seal (bothHigh 0 (Access.Read 42)) ≡ pos 0) × (gives (run seal (bothHigh 0 none ∷ [])) (rest (Access.Read 42)) ≡ pos 1)
 unfolding rules

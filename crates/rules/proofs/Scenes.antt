@@ -18,6 +18,7 @@ use Rattle.rules.specs.Access.{value, locked, verdict, store, acted, ans
 use Rattle.rules.specs.Samples.{alertEvent, alertBroken, rearmed, raised, occurs, sampled, assigned}
 use Rattle.rules.specs.Tick.{event, interruptNow, signals, stepped, interrupts, lines, outputOf, after, tick, ticked}
 use Rattle.rules.specs.Run.{run, ticks}
+use Rattle.rules.specs.Edition.{carried24}
 use Rattle.rules.specs.Record.{accessOf, heldIn, inputOf, recordOf, recordable, inputsOf}
 use Rattle.rules.specs.Word
 use Rattle.rules.specs.Batch.{admits, batchVerdict, batchOf, batch}
@@ -28,7 +29,7 @@ use Rattle.rules.specs.declared.Handler.{Handler}
 
 -- names every definition that an example computes with: `unfolding rules` opens them all
 unfoldable pub rules : ℕ → ℕ
-unfolding bit bitsOf wordOf eachFrom anyTo allTo pack unpack stateOf drives classFits counted startsFrom movedFrom classStep number firstOf put newHandler made blockAt decode numberOf bits writeOnly readOnly guard isLock valid value locked verdict store acted answerTo effects clears accessed alertEvent alertBroken rearmed raised occurs sampled assigned event interruptNow signals stepped interrupts lines outputOf after tick ticked run ticks accessOf heldIn inputOf Word.wordOf recordOf recordable inputsOf admits batchVerdict batchOf batch recordsOf anyUnrecordable writeVerdict writeOf Writer.write
+unfolding bit bitsOf wordOf eachFrom anyTo allTo pack unpack stateOf drives classFits counted startsFrom movedFrom classStep number firstOf put newHandler made blockAt decode numberOf carried24 bits writeOnly readOnly guard isLock valid value locked verdict store acted answerTo effects clears accessed alertEvent alertBroken rearmed raised occurs sampled assigned event interruptNow signals stepped interrupts lines outputOf after tick ticked run ticks accessOf heldIn inputOf Word.wordOf recordOf recordable inputsOf admits batchVerdict batchOf batch recordsOf anyUnrecordable writeVerdict writeOf Writer.write
 rules n = n
 
 -- the state after an access with all wires at (0,1)
@@ -49,11 +50,11 @@ zeros = replicate 4 0
 abbrev pub station : ℕ → List ℕ → List ℕ → ℕ → Class → Handler
 station n ens classes k c =
     withClasses (set (replicate 4 resetClass) k c)
-    (withAlerts (record { regwen = replicate 64 1; en = ens; class = classes; cause = replicate 64 0 }) (newHandler n))
+    (withAlerts (record { regwen = replicate 248 1; en = ens; class = classes; cause = replicate 248 0 }) (newHandler n))
 
 -- two alerts, both enabled in class 0, which has EN, LOCK, all lines and these settings
 abbrev pub pair : ℕ → ℕ → List ℕ → Handler
-pair thresh timeout lengths = station 2 (1 ∷ 1 ∷ replicate 62 0) (replicate 64 0) 0 (settings 0x393F thresh timeout lengths)
+pair thresh timeout lengths = station 2 (1 ∷ 1 ∷ replicate 246 0) (replicate 248 0) 0 (settings 0x393F thresh timeout lengths)
 
 abbrev pub ready : ℕ → Handler
 ready thresh = pair thresh 0 zeros

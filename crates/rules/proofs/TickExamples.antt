@@ -50,7 +50,7 @@ third = (refl, refl, refl, refl, refl)
 
 -- one line enable is enough: CTRL 0x21 has EN and line 3, mapped to Phase 0; LOCK is not set
 abbrev lone : Handler
-lone = station 1 (1 ∷ replicate 63 0) (replicate 64 0) 0 (settings 0x21 0 0 zeros)
+lone = station 1 (1 ∷ replicate 247 0) (replicate 248 0) 0 (settings 0x21 0 0 zeros)
 
 one-line : (state lone (raise 0 none ∷ []) ≡ 4) × (ticked lone (raise 0 none) .output .lines ≡ 8) × (holds lone (raise 0 none ∷ []) (Block ClrRegwen 0) ≡ 1)
 unfolding rules
@@ -61,7 +61,7 @@ abbrev noLines : ℕ
 noLines = 0x3903
 
 abbrev lineless : Handler
-lineless = station 2 (1 ∷ 1 ∷ replicate 62 0) (replicate 64 0) 0 (settings noLines 0 1 zeros)
+lineless = station 2 (1 ∷ 1 ∷ replicate 246 0) (replicate 248 0) 0 (settings noLines 0 1 zeros)
 
 no-lines : (holds lineless (raise 0 none ∷ []) (Alert Field.Cause 0) ≡ 1)
     × (holds lineless (raise 0 none ∷ []) IntrState ≡ 0)
@@ -168,7 +168,7 @@ outputs = (refl, refl, refl)
 abbrev both : Handler
 both =
     withClasses (settings 0x393F 0 0 (9 ∷ 0 ∷ 0 ∷ 0 ∷ []) ∷ resetClass ∷ resetClass ∷ settings 0x25F 0 0 (9 ∷ 0 ∷ 0 ∷ 0 ∷ []) ∷ [])
-    (station 2 (1 ∷ 1 ∷ replicate 62 0) (0 ∷ 3 ∷ replicate 62 0) 0 resetClass)
+    (station 2 (1 ∷ 1 ∷ replicate 246 0) (0 ∷ 3 ∷ replicate 246 0) 0 resetClass)
 
 apart : (ticked both (raise 1 none) .output .lines ≡ 4)
     × (holds both (raise 1 none ∷ []) IntrState ≡ 8)
@@ -181,7 +181,7 @@ apart = (refl, refl, refl, refl, refl)
 -- "access does nothing, tick runs": a refused access and a malformed record still take their samples
 refused-ticks : (holds (ready 9) (raise 0 Access.Malformed ∷ []) (Block AccumCnt 0) ≡ 1)
     × (holds (ready 9) (raise 0 Access.Malformed ∷ []) (Alert Field.Cause 0) ≡ 1)
-    × (holds (ready 9) (raise 0 (Access.Write 333 1) ∷ []) (Block AccumCnt 0) ≡ 1)
+    × (holds (ready 9) (raise 0 (Access.Write 1293 1) ∷ []) (Block AccumCnt 0) ≡ 1)
     × (gives (ready 9) (raise 0 Access.Malformed) ≡ refused 5)
 unfolding rules
 refused-ticks = (refl, refl, refl, refl)

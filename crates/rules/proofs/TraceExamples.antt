@@ -7,11 +7,12 @@ use lib.IntN.{ℤ, pos}
 use lib.ListN.{replicate}
 use Rattle.bits.specs.Fields.{toBytes}
 use Rattle.rules.specs.Batch.{Batched, batch}
+use Rattle.rules.specs.Edition.{carry}
 use Rattle.rules.specs.Record.{inputOf}
 use Rattle.rules.specs.State.{newHandler}
 use Rattle.rules.specs.declared.Access.{Access}
 use Rattle.rules.specs.declared.Answer.{Answer}
-use Rattle.rules.specs.declared.Edition.the-variants.{Bytes24}
+use Rattle.rules.specs.declared.Edition.the-variants.{Bytes24, Bytes70}
 use Rattle.rules.specs.declared.Refusal.the-variants.{NoRegister, BadRecord}
 use Rattle.rules.specs.Scenes.{refused}
 use Rattle.rules.specs.Word.{wordOf}
@@ -28,11 +29,11 @@ accessIn a b = inputOf Bytes24 (bytes a b 0 0) .access
 
 -- "2 bits kind (0 none, 1 read, 2 write), 10 bits register, 20 zero bits, 32 bits value"
 kinds : (accessIn 0 0 ≡ Access.Nothing)
-    × (accessIn 0x54100000 0 ≡ Access.Read 321)
-    × (accessIn 0x7FF00000 0 ≡ Access.Read 1023)
-    × (accessIn 0x94500000 0x10000 ≡ Access.Write 325 65536)
+    × (accessIn 0x54100000 0 ≡ Access.Read (carry Bytes24 321))
+    × (accessIn 0x7FF00000 0 ≡ Access.Read (carry Bytes24 1023))
+    × (accessIn 0x94500000 0x10000 ≡ Access.Write (carry Bytes24 325) 65536)
     × (accessIn 0x80000000 0 ≡ Access.Write 0 0)
-    × (accessIn 0xBFF00000 0xFFFFFFFF ≡ Access.Write 1023 4294967295)
+    × (accessIn 0xBFF00000 0xFFFFFFFF ≡ Access.Write (carry Bytes24 1023) 4294967295)
 unfolding rules
 kinds = (refl, refl, refl, refl, refl, refl)
 
@@ -50,9 +51,49 @@ unfolding rules
 malformed-values = (refl, refl, refl, refl)
 
 -- "64 positive wires with alert 0 first, 64 negative wires"
-wires : (inputOf Bytes24 (bytes 0 0 5 9) .sample .alerts .pos ≡ 5 ∷ []) × (inputOf Bytes24 (bytes 0 0 5 9) .sample .alerts .neg ≡ 9 ∷ [])
+wires : (inputOf Bytes24 (bytes 0 0 5 9) .sample .alerts .pos ≡ 5 ∷ 0 ∷ 0 ∷ 0 ∷ [])
+    × (inputOf Bytes24 (bytes 0 0 5 9) .sample .alerts .neg ≡ 9 ∷ 0 ∷ 0 ∷ 0 ∷ [])
 unfolding rules
 wires = (refl, refl)
+
+-- request (iii): "their register numbers carried over, numbers unassigned then still refused with 1", at both ends of every range; 3 is unassigned
+carried : (map (carry Bytes24) (0 ∷ 1 ∷ 2 ∷ 3 ∷ 16 ∷ 46 ∷ 47 ∷ 63 ∷ []) ≡ 0 ∷ 1 ∷ 2 ∷ 3 ∷ 16 ∷ 46 ∷ 47 ∷ 63 ∷ [])
+    × (map (carry Bytes24) (64 ∷ 127 ∷ 128 ∷ 191 ∷ 192 ∷ 255 ∷ 256 ∷ 319 ∷ []) ≡ 256 ∷ 319 ∷ 512 ∷ 575 ∷ 768 ∷ 831 ∷ 1024 ∷ 1087 ∷ [])
+    × (map (carry Bytes24) (320 ∷ 333 ∷ 383 ∷ 384 ∷ 512 ∷ 768 ∷ 1023 ∷ []) ≡ 1280 ∷ 1293 ∷ 1343 ∷ 3 ∷ 3 ∷ 3 ∷ 3 ∷ [])
+    × (map (carry Bytes70) (0 ∷ 64 ∷ 320 ∷ 384 ∷ 2047 ∷ []) ≡ 0 ∷ 64 ∷ 320 ∷ 384 ∷ 2047 ∷ [])
+unfolding rules
+carried = (refl, refl, refl, refl)
+
+-- ── the record of 70 bytes ──
+
+abbrev bytes70 : ℕ → ℕ → ℕ → ℕ → List ℕ
+bytes70 a b p m = toBytes 70 (((a * 2 ^ 32 + b) * 2 ^ 248 + p) * 2 ^ 248 + m)
+
+abbrev accessIn70 : ℕ → ℕ → Access
+accessIn70 a b = inputOf Bytes70 (bytes70 a b 0 0) .access
+
+-- "The new record has an 11-bit register, 19 zero bits, 31 bytes for each wire set"
+kinds70 : (accessIn70 0 0 ≡ Access.Nothing)
+    × (accessIn70 0x68080000 0 ≡ Access.Read 1281)
+    × (accessIn70 0x7FF80000 0 ≡ Access.Read 2047)
+    × (accessIn70 0xA8280000 0x10000 ≡ Access.Write 1285 65536)
+    × (accessIn70 0x80000000 0 ≡ Access.Write 0 0)
+    × (accessIn70 0xBFF80000 0xFFFFFFFF ≡ Access.Write 2047 4294967295)
+unfolding rules
+kinds70 = (refl, refl, refl, refl, refl, refl)
+
+malformed70 : map (λ (n : ℕ). accessIn70 n 0) (0xC0000000 ∷ 0x80040000 ∷ 0x80000001 ∷ 0x00040000 ∷ 0x00000001 ∷ 0x00080000 ∷ [])
+    ≡ replicate 6 Access.Malformed
+unfolding rules
+malformed70 = refl
+
+-- alert 0 first, at the highest bit of the first word; alert 247 last
+wires70 : (inputOf Bytes70 (bytes70 0 0 (2 ^ 247) 1) .sample .alerts .pos ≡ 2 ^ 63 ∷ 0 ∷ 0 ∷ 0 ∷ [])
+    × (inputOf Bytes70 (bytes70 0 0 (2 ^ 247) 1) .sample .alerts .neg ≡ 0 ∷ 0 ∷ 0 ∷ 2 ^ 8 ∷ [])
+    × (inputOf Bytes70 (bytes70 0 0 (2 ^ 183) (2 ^ 184)) .sample .alerts .pos ≡ 0 ∷ 2 ^ 63 ∷ 0 ∷ 0 ∷ [])
+    × (inputOf Bytes70 (bytes70 0 0 (2 ^ 183) (2 ^ 184)) .sample .alerts .neg ≡ 1 ∷ 0 ∷ 0 ∷ 0 ∷ [])
+unfolding rules
+wires70 = (refl, refl, refl, refl)
 
 -- ── words ──
 
@@ -109,3 +150,20 @@ refusals : (batch Bytes24 (newHandler 1) [] (7 ∷ []) ≡ record { handler = ne
     × (batch Bytes24 (newHandler 1) (replicate 48 0) (7 ∷ []) ≡ record { handler = newHandler 1; answer = refused 9; out = 7 ∷ [] })
 unfolding rules
 refusals = (refl, refl, refl, refl, refl, refl, refl)
+
+-- request (iii): "8 reads 70"; "an old batch answers 7 to a handler of more than 64 alerts"
+refusals70 : (given (batch Bytes70 (newHandler 65) [] []) ≡ pos 0)
+    × (given (batch Bytes24 (newHandler 64) [] []) ≡ pos 0)
+    × (given (batch Bytes24 (newHandler 248) (replicate 24 0) (7 ∷ [])) ≡ refused 7)
+    × (given (batch Bytes70 (newHandler 249) [] []) ≡ refused 7)
+    × (given (batch Bytes70 (newHandler 1) (replicate 24 0) []) ≡ refused 8)
+    × (given (batch Bytes70 (newHandler 1) (replicate 71 0) []) ≡ refused 8)
+    × (given (batch Bytes24 (newHandler 1) (replicate 70 0) []) ≡ refused 8)
+    × (batch Bytes70 (newHandler 1) (replicate 70 0) [] ≡ record { handler = newHandler 1; answer = refused 9; out = [] })
+unfolding rules
+refusals70 = (refl, refl, refl, refl, refl, refl, refl, refl)
+
+-- a batch of new records runs: CTRL of class 0 is read, and a number that the map does not assign is refused with 1
+run-on70 : batch Bytes70 (newHandler 65) (bytes70 0x68080000 0 0 0 ++ bytes70 0x7FF80000 0 0 0) (7 ∷ 8 ∷ 9 ∷ []) .out ≡ 0x393C ∷ 0x0010000000000000 ∷ 9 ∷ []
+unfolding rules
+run-on70 = refl

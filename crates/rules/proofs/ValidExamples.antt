@@ -24,7 +24,7 @@ abbrev localHolds : Field → ℕ → ℕ → Handler
 localHolds f j v = withLocals (withLocalColumn f (set (replicate 7 0) j v) (newHandler 5 .locals)) (newHandler 5)
 
 abbrev alertHolds : Field → ℕ → ℕ → Handler
-alertHolds f i v = withAlerts (withAlertColumn f (set (replicate 64 0) i v) (newHandler 5 .alerts)) (newHandler 5)
+alertHolds f i v = withAlerts (withAlertColumn f (set (replicate 248 0) i v) (newHandler 5 .alerts)) (newHandler 5)
 
 -- class k has this STATE and count
 abbrev classHolds : ℕ → ℕ → ℕ → Handler
@@ -34,8 +34,8 @@ classHolds k state count =
     (record { lengths = replicate 4 0; timeout = 0; count = count; ctrl = 0; accum = 0; thresh = 0; regwen = 1; clrwen = 1; state = state }))
     (newHandler 5)
 
--- "N over 64"; N = 0 is accepted
-count : (valid (newHandler 0) ≡ true) × (valid (newHandler 64) ≡ true) × (valid (newHandler 65) ≡ false)
+-- "N over 64", which request (iii) reads as 248; N = 0 is accepted
+count : (valid (newHandler 0) ≡ true) × (valid (newHandler 248) ≡ true) × (valid (newHandler 249) ≡ false)
 unfolding rules
 count = (refl, refl, refl)
 
@@ -59,7 +59,7 @@ registers = (refl, refl, refl, refl, refl, refl, refl, refl, refl, refl, refl, r
 -- "Stored entries at N and above are no registers: .. refusal 7 does not look at them"
 above : (valid (alertHolds Field.Class 5 9) ≡ true)
     × (valid (alertHolds Field.Regwen 5 255) ≡ true)
-    × (valid (alertHolds Field.En 63 255) ≡ true)
+    × (valid (alertHolds Field.En 247 255) ≡ true)
     × (valid (alertHolds Field.Cause 5 255) ≡ true)
 unfolding rules
 above = (refl, refl, refl, refl)

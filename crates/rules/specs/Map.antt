@@ -19,7 +19,7 @@ use Rattle.rules.specs.declared.Way.the-variants.{Both, OneClears, ReadO
 
 -- field f of alert i is at (1 + f) strides and i; the classes follow the four fields, 16 numbers each
 abbrev pub stride : ℕ
-stride = 64
+stride = 256
 
 abbrev pub classBase : ℕ
 classBase = 5 * stride

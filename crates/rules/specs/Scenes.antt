@@ -1,10 +1,12 @@
 -- Ticks as the examples and the cases of document 01 write them: inputs, and what is seen of them.
 -- Assumes nothing.
 use Prim.Native.Nat.{ℕ, _-_, _^_}
-use mathlib.Core.List.{[], _∷_}
 use lib.IntN.{ℤ, pos, negℤ}
+use lib.ListN.{replicate}
+use Rattle.bits.specs.Fields.{unpack}
 use Rattle.rules.specs.Answer.{number}
 use Rattle.rules.specs.Map.{numberOf}
+use Rattle.rules.specs.State.{words}
 use Rattle.rules.specs.Tick.{ticked}
 use Rattle.rules.specs.declared.Access.{Access}
 use Rattle.rules.specs.declared.Handler.{Handler}
@@ -14,15 +16,15 @@ use Rattle.rules.specs.declared.Register.{Register}
 -- ── inputs ──
 
 abbrev pub ones : ℕ
-ones = 2 ^ 64 - 1
+ones = 2 ^ 256 - 1
 
--- an access with these positive and negative wires
+-- an access with these positive and negative wires, each set as one number, alert 0 highest
 abbrev pub wired : ℕ → ℕ → Access → Input
-wired p m x = record { access = x; sample = record { alerts = record { pos = p ∷ []; neg = m ∷ [] } } }
+wired p m x = record { access = x; sample = record { alerts = record { pos = unpack (replicate words 64) p; neg = unpack (replicate words 64) m } } }
 
--- alert i's place in a word of wires
+-- alert i's place in a set of wires
 abbrev pub wire : ℕ → ℕ
-wire i = 2 ^ (63 - i)
+wire i = 2 ^ (255 - i)
 
 -- all wires at (0,1)
 abbrev pub rest : Access → Input

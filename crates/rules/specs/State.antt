@@ -23,10 +23,10 @@ use Rattle.rules.specs.declared.Refusal.the-variants.{BadCount}
 
 -- the most alerts, and the words of 64 that hold a bit of each
 abbrev pub most : ℕ
-most = 64
+most = 248
 
 abbrev pub words : ℕ
-words = 1
+words = 4
 
 -- local alerts and classes
 abbrev pub localCount : ℕ

@@ -25,7 +25,7 @@ columnsFit column n =
     && (columnFits (fieldBits Field.Class) (column Field.Class) n
     && columnFits (fieldBits Field.Cause) (column Field.Cause) n))
 
--- Refusal 7 means: N over 64, any register holding more than its field's bits, a STATE of 2, or a class count that is not 0
+-- Refusal 7 means: N over 248 (request (iii); 64 in document 01), any register holding more than its field's bits, a STATE of 2, or a class count that is not 0
 -- in Idle or Terminal or is 0 in Timeout or a phase. This is its opposite. It does not look at entries at N and above.
 unfoldable pub valid : Handler → Bool
 valid h =

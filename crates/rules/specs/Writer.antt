@@ -8,9 +8,10 @@ use lib.Dec.{ltb}
 use lib.IntN.{ℤ, pos}
 use lib.ListN.{getD, length, drop, replicate}
 use Rattle.bits.specs.Fields.{Fit}
+use Rattle.bits.specs.Index.{placeIn}
 use Rattle.rules.specs.Answer.{Case, firstOf, number}
 use Rattle.rules.specs.Access.{malformed}
-use Rattle.rules.specs.Edition.{recordBytes}
+use Rattle.rules.specs.Edition.{recordBytes, alerts}
 use Rattle.rules.specs.Record.{heldIn, recordOf, recordable, recordCount, recordAt}
 use Rattle.rules.specs.State.{words}
 use Rattle.rules.specs.declared.Access.{Access}
@@ -73,6 +74,17 @@ HeldBy e a = (bytes : List ℕ) × (length bytes ≡ recordBytes e) × WellForme
 pub record Wired (x : Input) : Type 0 where
   pub positive : Fit (replicate words 64) (x .sample .alerts .pos)
   pub negative : Fit (replicate words 64) (x .sample .alerts .neg)
+
+-- y is x as an edition's record gives it back: the same access, and the same pair of wires of each alert that the edition speaks of
+pub record SameRead (e : Edition) (x y : Input) : Type 0 where
+  pub access : y .access ≡ x .access
+  pub positive : (i : ℕ) → i < alerts e → placeIn (y .sample .alerts .pos) i ≡ placeIn (x .sample .alerts .pos) i
+  pub negative : (i : ℕ) → i < alerts e → placeIn (y .sample .alerts .neg) i ≡ placeIn (x .sample .alerts .neg) i
+
+-- the same of each of a list
+pub data AllSame (e : Edition) : List Input → List Input → Type 0 where
+  no-more : AllSame e [] []
+  and : {x y : Input} {xs ys : List Input} → SameRead e x y → AllSame e xs ys → AllSame e (x ∷ xs) (y ∷ ys)
 
 pub data AllWired : List Input → Type 0 where
   none : AllWired []

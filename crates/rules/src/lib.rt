@@ -2,9 +2,9 @@
 use class_rules::Class;
 
 // The most alerts that a handler is made for, and the words of 64 that hold a bit of each.
-pub const MOST: usize = 64;
+pub const MOST: usize = 248;
 
-pub const WORDS: usize = 1;
+pub const WORDS: usize = 4;
 
 // ---- The state. Integers alone, so that any bytes that come in are a value and refusal 7 judges them. ----
 
@@ -112,6 +112,7 @@ pub struct Row {
 // The form of a trace, named by the bytes of its record.
 pub enum Edition {
     Bytes24,
+    Bytes70,
 }
 
 pub enum Access {

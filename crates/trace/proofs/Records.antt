@@ -17,7 +17,7 @@ use Rattle.rules.specs.Edition.{recordBytes, alerts}
 use Rattle.rules.specs.Record.{layout, wireWords, inputOfFields, heldIn, carried, inputOf}
 use Rattle.rules.specs.declared.Access.{Access}
 use Rattle.rules.specs.declared.Edition.{Edition}
-use Rattle.rules.specs.declared.Edition.the-variants.{Bytes24}
+use Rattle.rules.specs.declared.Edition.the-variants.{Bytes24, Bytes70}
 use Rattle.rules.specs.declared.Input.{Input}
 use Rattle.trace.specs.Parts.{wireBytes, accessOfWord}
 
@@ -34,6 +34,11 @@ pub four-bytes : (at : ℕ) (xs : List ℕ) → at + 4 ≤ length xs
 unfolding pack eachFrom
 four-bytes at xs h = ap ofBytes (part-each 4 at xs h) ∙ rw (add-zero at) (omega arith)
 
+-- one byte
+pub getD-byte : (at : ℕ) (xs : List ℕ) → at + 1 ≤ length xs → ofBytes (take 1 (drop at xs)) ≡ getD xs at 0
+unfolding pack eachFrom
+getD-byte at xs h = ap ofBytes (part-each 1 at xs h) ∙ rw (add-zero at) (omega arith)
+
 -- bytes that begin at a place, as a first and a second part
 pub part-bytes : (m n at : ℕ) (xs : List ℕ) → at + (m + n) ≤ length xs
     → ofBytes (take (m + n) (drop at xs)) ≡ ofBytes (take m (drop at xs)) * 2 ^ (8 * n) + ofBytes (take n (drop (at + m) xs))
@@ -43,19 +48,18 @@ part-bytes m n at xs h =
 
 -- ── by editions ──
 
--- there is one edition
-pub only : (e : Edition) → e ≡ Edition.Bytes24
-only Bytes24 = refl
-
 -- a record is its first eight bytes, its positive wires and its negative wires
 pub record-parts : (e : Edition) → recordBytes e ≡ 8 + (wireBytes e + wireBytes e)
 record-parts Bytes24 = refl
+record-parts Bytes70 = refl
 
 wire-bits : (e : Edition) → alerts e ≡ 8 * wireBytes e
 wire-bits Bytes24 = refl
+wire-bits Bytes70 = refl
 
 first-bits : (e : Edition) → total (take 4 (layout e)) ≡ 64
 first-bits Bytes24 = refl
+first-bits Bytes70 = refl
 
 -- the first n of some bytes are bytes
 byte-taken : (n : ℕ) (xs : List ℕ) → ((i : ℕ) → getD xs i 0 < 2 ^ 8) → (i : ℕ) → getD (take n xs) i 0 < 2 ^ 8

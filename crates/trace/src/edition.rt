@@ -10,12 +10,20 @@ pub const REGISTERS_24: u16 = 1024;
 
 pub const REGISTER_AT_24: u32 = 52;
 
+// The same of the record of 70 bytes.
+pub const BYTES_70: usize = 70;
+
+pub const REGISTERS_70: u16 = 2048;
+
+pub const REGISTER_AT_70: u32 = 51;
+
 // The bytes of a record.
 pub fn record_bytes(edition: Edition) -> usize
     ensures { λ r. ⌜ r ≡ rules.recordBytes edition ⌝ }
 {
     match edition {
         Edition::Bytes24 => BYTES_24,
+        Edition::Bytes70 => BYTES_70,
     }
 }
 
@@ -25,6 +33,22 @@ pub fn alerts(edition: Edition) -> usize
 {
     match edition {
         Edition::Bytes24 => 64,
+        Edition::Bytes70 => 248,
+    }
+}
+
+// Document 01's numbers carried to the map's. What was unassigned then stays so: 3 names nothing.
+fn carry_24(register: u16) -> u16
+    ensures { λ r. ⌜ r ≡ rules.carried24 register ⌝ }
+{
+    if register < 64 {
+        register
+    } else if register < 320 {
+        register / 64 * 256 + register % 64
+    } else if register < 384 {
+        1280 + (register - 320)
+    } else {
+        3
     }
 }
 
@@ -33,6 +57,7 @@ pub fn carry(edition: Edition, register: u16) -> u16
     ensures { λ r. ⌜ r ≡ rules.carry edition register ⌝ }
 {
     match edition {
-        Edition::Bytes24 => register,
+        Edition::Bytes24 => carry_24(register),
+        Edition::Bytes70 => register,
     }
 }

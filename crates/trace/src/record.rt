@@ -1,8 +1,10 @@
 // "Traces": the access and sample of a record. Most significant bit first.
 use crate::edition;
-use crate::edition::BYTES_24;
+use crate::edition::BYTES_70;
 use crate::edition::REGISTER_AT_24;
+use crate::edition::REGISTER_AT_70;
 use crate::edition::REGISTERS_24;
+use crate::edition::REGISTERS_70;
 use crate::edition::carry;
 use rules::Access;
 use rules::Edition;
@@ -11,15 +13,14 @@ use rules::Sample;
 use rules::WORDS;
 use rules::Wires;
 ghost use mathlib.Core.Path.{_≡_};
-ghost use Prim.Native.Nat.{_+_, _*_, _≤_};
-ghost use lib.ListN.{length, take, drop, replicate};
-ghost use Rattle.bits.specs.Fields.{unpack, ofBytes};
+ghost use Prim.Native.Nat.{_+_, _*_, _^_, _≤_};
+ghost use lib.ListN.{length, take, drop};
+ghost use Rattle.bits.specs.Fields.{ofBytes};
 ghost use mathlib.Core.Bool.{false};
 ghost use Rattle.rules.specs.Access.{malformed};
 ghost use Rattle.rules.specs.Edition.{newest, recordBytes, alerts};
 ghost use Rattle.rules.specs.Record as rules;
 ghost use Rattle.rules.specs.Record.{accessOf, accessIn, wireWords, inputOf, recordOf};
-ghost use Rattle.rules.specs.State.{words};
 ghost use Rattle.trace.specs.Parts.{wireBytes, accessOfWord};
 
 // Four bytes as one number.
@@ -79,18 +80,35 @@ fn access_in(kind: u8, register: u16, zeros: u32, value: u32) -> Access
     }
 }
 
-// The first 64 bits of a record: 2 bits kind, the register, zero bits, 32 bits value.
+// The first 64 bits of a record of 24 bytes: 2 bits kind, 10 bits register, 20 zero bits, 32 bits value.
+fn first_24(first: u64) -> Access
+    ensures { λ r. ⌜ r ≡ accessOfWord Edition.Bytes24 first ⌝ }
+{
+    let kind = (first >> 62) as u8;
+    let register = ((first >> REGISTER_AT_24) % REGISTERS_24 as u64) as u16;
+    let zeros = ((first >> 32) % 1048576) as u32;
+    let value = (first % 4294967296) as u32;
+    access_in(kind, register, zeros, value)
+}
+
+// Of one of 70 bytes: 11 bits register, 19 zero bits.
+fn first_70(first: u64) -> Access
+    ensures { λ r. ⌜ r ≡ accessOfWord Edition.Bytes70 first ⌝ }
+{
+    let kind = (first >> 62) as u8;
+    let register = ((first >> REGISTER_AT_70) % REGISTERS_70 as u64) as u16;
+    let zeros = ((first >> 32) % 524288) as u32;
+    let value = (first % 4294967296) as u32;
+    access_in(kind, register, zeros, value)
+}
+
+// The access in the first 64 bits of a record.
 fn first_access(edition: Edition, first: u64) -> Access
     ensures { λ r. ⌜ r ≡ accessOfWord edition first ⌝ }
 {
-    let kind = (first >> 62) as u8;
-    let value = (first % 4294967296) as u32;
     match edition {
-        Edition::Bytes24 => {
-            let register = ((first >> REGISTER_AT_24) % REGISTERS_24 as u64) as u16;
-            let zeros = ((first >> 32) % 1048576) as u32;
-            access_in(kind, register, zeros, value)
-        }
+        Edition::Bytes24 => first_24(first),
+        Edition::Bytes70 => first_70(first),
     }
 }
 
@@ -106,16 +124,37 @@ fn carried(edition: Edition, access: Access) -> Access
     }
 }
 
-// Words of eight bytes each, one after another.
-fn words_at(bytes: &[u8], at: usize) -> [u64; WORDS]
-    requires { ⌜ at + 8 * words ≤ length (now bytes) ⌝ }
-    ensures { λ r. ⌜ r ≡ unpack (replicate words 64) (ofBytes (take (8 * words) (drop at (now (bytes .entry))))) ⌝ }
+// Seven bytes at the top of a word.
+fn seven_at(bytes: &[u8], at: usize) -> u64
+    requires { ⌜ at + 7 ≤ length (now bytes) ⌝ }
+    ensures { λ r. ⌜ r ≡ ofBytes (take 7 (drop at (now (bytes .entry)))) * 2 ^ 8 ⌝ }
 {
-    let mut found: [u64; WORDS] = [0; WORDS];
-    for v in 0..WORDS {
-        found[v] = word_at(bytes, at + 8 * v);
-    }
-    found
+    let high = half_at(bytes, at) as u64;
+    let e = bytes[at + 4] as u64;
+    let f = bytes[at + 5] as u64;
+    let g = bytes[at + 6] as u64;
+    (high << 32) + (e << 24) + (f << 16) + (g << 8)
+}
+
+// 64 wires, of alerts 0 to 63.
+fn wires_24(bytes: &[u8], at: usize) -> [u64; WORDS]
+    requires { ⌜ at + 8 ≤ length (now bytes) ⌝ }
+    ensures { λ r. ⌜ r ≡ wireWords 64 (ofBytes (take 8 (drop at (now (bytes .entry))))) ⌝ }
+{
+    let a = word_at(bytes, at);
+    [a, 0, 0, 0]
+}
+
+// 248 wires.
+fn wires_70(bytes: &[u8], at: usize) -> [u64; WORDS]
+    requires { ⌜ at + 31 ≤ length (now bytes) ⌝ }
+    ensures { λ r. ⌜ r ≡ wireWords 248 (ofBytes (take 31 (drop at (now (bytes .entry))))) ⌝ }
+{
+    let a = word_at(bytes, at);
+    let b = word_at(bytes, at + 8);
+    let c = word_at(bytes, at + 16);
+    let d = seven_at(bytes, at + 24);
+    [a, b, c, d]
 }
 
 // The wires of a record that begin at a place, the first one at the highest bit of the first word.
@@ -124,7 +163,8 @@ fn wires_at(edition: Edition, bytes: &[u8], at: usize) -> [u64; WORDS]
     ensures { λ r. ⌜ r ≡ wireWords (alerts edition) (ofBytes (take (wireBytes edition) (drop at (now (bytes .entry))))) ⌝ }
 {
     match edition {
-        Edition::Bytes24 => words_at(bytes, at),
+        Edition::Bytes24 => wires_24(bytes, at),
+        Edition::Bytes70 => wires_70(bytes, at),
     }
 }
 
@@ -144,10 +184,10 @@ pub fn input_at(edition: Edition, bytes: &[u8], at: usize) -> Input
     }
 }
 
-// The record of 24 bytes. Writing what was read gives the same bytes, if it is well-formed.
-pub fn input_of(bytes: [u8; BYTES_24]) -> Input
+// The newest record. Writing what was read gives the same bytes, if it is well-formed.
+pub fn input_of(bytes: [u8; BYTES_70]) -> Input
     ensures { λ r. ⌜ r ≡ inputOf newest bytes ⌝ }
     ensures written { λ r. ⌜ (malformed (r .access) ≡ false → recordOf newest r ≡ bytes) ⌝ }
 {
-    input_at(Edition::Bytes24, &bytes, 0)
+    input_at(Edition::Bytes70, &bytes, 0)
 }

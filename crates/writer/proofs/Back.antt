@@ -1,7 +1,7 @@
 -- Reading what was written and writing what was read, of the lent lists.
 -- Assumes nothing.
 use Prim.Native.Nat.{ℕ, _+_, _*_, _^_, _<_}
-use mathlib.Core.Path.{_≡_, sym, ap, _∙_}
+use mathlib.Core.Path.{_≡_, sym, ap, _∙_, subst}
 use mathlib.Core.Bool.{Bool, true, cond}
 use mathlib.Core.List.{List, []}
 use lib.IntN.{ℤ}
@@ -10,7 +10,7 @@ use borrow.Author.Tests.{not-false}
 use Rattle.bits.proofs.IndexLaws.{none-at}
 use Rattle.rules.specs.Edition.{newest, recordBytes}
 use Rattle.rules.specs.State.{words}
-use Rattle.rules.specs.Writer.{AllWired, writeVerdict, writeOf, write}
+use Rattle.rules.specs.Writer.{AllWired, AllSame, writeVerdict, writeOf, write}
 use Rattle.rules.specs.declared.Input.{Input}
 use Rattle.rules.specs.declared.Refusal.the-variants.{NoRecord}
 use Rattle.rules.specs.declared.Verdict.{Verdict}
@@ -44,9 +44,10 @@ module _ (l : Lent) where
 
     read-back : AllWired (listOf l) → ReadBack l buffer left
     read-back a e v = (
-      ap (λ (bs : List ℕ). inputsOf newest (take (length (l .kinds) * recordBytes newest) bs)) (bytes-left e)
-          ∙ ap (λ (n : ℕ). inputsOf newest (take (n * recordBytes newest) (write newest (listOf l) buffer .buffer))) (sym (length-list l))
-          ∙ read-written (listOf l) buffer a v,
+      subst (AllSame newest (listOf l))
+          (sym (ap (λ (bs : List ℕ). inputsOf newest (take (length (l .kinds) * recordBytes newest) bs)) (bytes-left e)
+          ∙ ap (λ (n : ℕ). inputsOf newest (take (n * recordBytes newest) (write newest (listOf l) buffer .buffer))) (sym (length-list l))))
+          (read-written (listOf l) buffer a v),
       numbers-back buffer v,
     )
 

@@ -2,7 +2,7 @@
 -- Assumes nothing.
 use Prim.Native.Nat.{ℕ}
 use mathlib.Core.Path.{_≡_, refl}
-use mathlib.Core.List.{List, [], _∷_}
+use mathlib.Core.List.{List, [], _∷_, _++_}
 use lib.IntN.{pos, negsuc}
 use lib.ListN.{drop, replicate}
 use Rattle.bits.specs.Fields.{pack, unpack}
@@ -12,40 +12,42 @@ use Rattle.rules.specs.Record.{accessOf, recordOf, recordable}
 use Rattle.rules.specs.Writer.{recordsOf, anyUnrecordable, writeVerdict, writeOf, write}
 use Rattle.writer.specs.Lent.{Lent, lent, listOf, writeLent}
 
+-- the words of an entry with no wire high
+abbrev low : List ℕ
+low = 0 ∷ 0 ∷ 0 ∷ 0 ∷ []
+
 -- one entry, with no wire high
 abbrev entry : ℕ → ℕ → ℕ → Lent
-entry kind register value = lent (kind ∷ []) (register ∷ []) (value ∷ []) (0 ∷ []) (0 ∷ [])
+entry kind register value = lent (kind ∷ []) (register ∷ []) (value ∷ []) low low
 
 -- a buffer for one record
 abbrev room : List ℕ
-room = 9 ∷ 9 ∷ 9 ∷ 9 ∷ 9 ∷ 9 ∷ 9 ∷ 9 ∷ 9 ∷ 9 ∷ 9 ∷ 9 ∷ 9 ∷ 9 ∷ 9 ∷ 9 ∷ 9 ∷ 9 ∷ 9 ∷ 9 ∷ 9 ∷ 9 ∷ 9 ∷ 9 ∷ []
+room = replicate 70 9
 
--- a read of 333 with alert 0's positive and alert 63's negative wire high; one byte stands behind the record
-read-333 : writeLent (record { kinds = 1 ∷ []; registers = 333 ∷ []; values = 0 ∷ []; positive = 0x8000000000000000 ∷ []; negative = 1 ∷ [] }) (7 ∷ room)
-    ≡ record {
-      answer = pos 24;
-      buffer = 0x54 ∷ 0xd0 ∷ 0 ∷ 0 ∷ 0 ∷ 0 ∷ 0 ∷ 0 ∷ 0x80 ∷ 0 ∷ 0 ∷ 0 ∷ 0 ∷ 0 ∷ 0 ∷ 0 ∷ 0 ∷ 0 ∷ 0 ∷ 0 ∷ 0 ∷ 0 ∷ 0 ∷ 1 ∷ 9 ∷ [];
-    }
+-- a read of 1293 with alert 0's positive and alert 247's negative wire high; one byte stands behind the record
+read-1293 : writeLent (lent (1 ∷ []) (1293 ∷ []) (0 ∷ []) (0x8000000000000000 ∷ 0 ∷ 0 ∷ 0 ∷ []) (0 ∷ 0 ∷ 0 ∷ 0x100 ∷ [])) (7 ∷ room)
+    ≡ record { answer = pos 70; buffer = 0x68 ∷ 0x68 ∷ replicate 6 0 ++ 0x80 ∷ replicate 60 0 ++ 1 ∷ 9 ∷ [] }
 unfolding writeLent write writeVerdict firstOf writeOf listOf eachFrom recordsOf anyUnrecordable recordable recordOf accessOf pack unpack
-read-333 = refl
+read-1293 = refl
 
--- a write of 0x01020304 to 1023
-write-1023 : writeLent (entry 2 1023 0x01020304) room
-    ≡ record {
-      answer = pos 24;
-      buffer = 0xbf ∷ 0xf0 ∷ 0 ∷ 0 ∷ 1 ∷ 2 ∷ 3 ∷ 4 ∷ 0 ∷ 0 ∷ 0 ∷ 0 ∷ 0 ∷ 0 ∷ 0 ∷ 0 ∷ 0 ∷ 0 ∷ 0 ∷ 0 ∷ 0 ∷ 0 ∷ 0 ∷ 0 ∷ [];
-    }
+-- a write of 0x01020304 to 2047
+write-2047 : writeLent (entry 2 2047 0x01020304) room ≡ record { answer = pos 70; buffer = 0xbf ∷ 0xf8 ∷ 0 ∷ 0 ∷ 1 ∷ 2 ∷ 3 ∷ 4 ∷ replicate 62 0 }
 unfolding writeLent write writeVerdict firstOf writeOf listOf eachFrom recordsOf anyUnrecordable recordable recordOf accessOf pack unpack
-write-1023 = refl
+write-2047 = refl
 
--- two entries: each has its own five numbers
-two-entries : writeLent (lent (2 ∷ 1 ∷ []) (3 ∷ 4 ∷ []) (5 ∷ 0 ∷ []) (6 ∷ 7 ∷ []) (8 ∷ 9 ∷ [])) (replicate 49 1)
+-- places 248 to 255 are no wires, whatever they hold
+no-wires : writeLent (lent (0 ∷ []) (0 ∷ []) (0 ∷ []) (0 ∷ 0 ∷ 0 ∷ 0xff ∷ []) (0 ∷ 0 ∷ 0 ∷ 0x81 ∷ [])) room ≡ record { answer = pos 70; buffer = replicate 70 0 }
+unfolding writeLent write writeVerdict firstOf writeOf listOf eachFrom recordsOf anyUnrecordable recordable recordOf accessOf pack unpack
+no-wires = refl
+
+-- two entries: each has its own numbers and words
+two-entries : writeLent (lent (2 ∷ 1 ∷ []) (3 ∷ 4 ∷ []) (5 ∷ 0 ∷ []) (0 ∷ 6 ∷ 0 ∷ 0 ∷ 0 ∷ 0 ∷ 7 ∷ 0 ∷ []) (8 ∷ 0 ∷ 0 ∷ 0 ∷ 0 ∷ 0 ∷ 0 ∷ 0x900 ∷ [])) (replicate 141 1)
     ≡ record {
-      answer = pos 48;
+      answer = pos 140;
       buffer =
-          0x80 ∷ 0x30 ∷ 0 ∷ 0 ∷ 0 ∷ 0 ∷ 0 ∷ 5 ∷ 0 ∷ 0 ∷ 0 ∷ 0 ∷ 0 ∷ 0 ∷ 0 ∷ 6 ∷ 0 ∷ 0 ∷ 0 ∷ 0 ∷ 0 ∷ 0 ∷ 0 ∷ 8
-          ∷ 0x40 ∷ 0x40 ∷ 0 ∷ 0 ∷ 0 ∷ 0 ∷ 0 ∷ 0 ∷ 0 ∷ 0 ∷ 0 ∷ 0 ∷ 0 ∷ 0 ∷ 0 ∷ 7 ∷ 0 ∷ 0 ∷ 0 ∷ 0 ∷ 0 ∷ 0 ∷ 0 ∷ 9
-          ∷ 1 ∷ [];
+          (0x80 ∷ 0x18 ∷ 0 ∷ 0 ∷ 0 ∷ 0 ∷ 0 ∷ 5 ∷ replicate 15 0 ++ 6 ∷ replicate 15 0 ++ replicate 7 0 ++ 8 ∷ replicate 23 0)
+          ++ (0x40 ∷ 0x20 ∷ replicate 6 0 ++ replicate 23 0 ++ 7 ∷ replicate 7 0 ++ replicate 30 0 ++ 9 ∷ [])
+          ++ (1 ∷ []);
     }
 unfolding writeLent write writeVerdict firstOf writeOf listOf eachFrom recordsOf anyUnrecordable recordable recordOf accessOf pack unpack
 two-entries = refl
@@ -83,9 +85,9 @@ none-with-value : RefusedBy10 (entry 0 0 1) room
 unfolding writeLent write writeVerdict firstOf writeOf listOf eachFrom anyUnrecordable recordable accessOf number
 none-with-value = refl
 
-register-1024 : RefusedBy10 (entry 2 1024 0) room
+register-2048 : RefusedBy10 (entry 2 2048 0) room
 unfolding writeLent write writeVerdict firstOf writeOf listOf eachFrom anyUnrecordable recordable accessOf number
-register-1024 = refl
+register-2048 = refl
 
 kind-5 : RefusedBy10 (entry 5 0 0) room
 unfolding writeLent write writeVerdict firstOf writeOf listOf eachFrom anyUnrecordable recordable accessOf number
@@ -95,7 +97,7 @@ kind-255 : RefusedBy10 (entry 255 0 0) room
 unfolding writeLent write writeVerdict firstOf writeOf listOf eachFrom anyUnrecordable recordable accessOf number
 kind-255 = refl
 
--- lists of unequal lengths: each of the four longer than the kinds, and shorter
+-- lists of unequal lengths: each of the four longer than the kinds, and shorter; an entry has four words of each
 abbrev lists : List ℕ → List ℕ → List ℕ → List ℕ → Lent
 lists registers values positive negative = lent (0 ∷ []) registers values positive negative
 
@@ -105,17 +107,17 @@ two = 0 ∷ 0 ∷ []
 abbrev one : List ℕ
 one = 0 ∷ []
 
-too-long : RefusedBy10 (lists two one one one) room
-    × RefusedBy10 (lists one two one one) room
-    × RefusedBy10 (lists one one two one) room
-    × RefusedBy10 (lists one one one two) room
+too-long : RefusedBy10 (lists two one low low) room
+    × RefusedBy10 (lists one two low low) room
+    × RefusedBy10 (lists one one (0 ∷ low) low) room
+    × RefusedBy10 (lists one one low (0 ∷ low)) room
 unfolding writeLent writeOf number
 too-long = (refl, refl, refl, refl)
 
-too-few : RefusedBy10 (lists [] one one one) room
-    × RefusedBy10 (lists one [] one one) room
-    × RefusedBy10 (lists one one [] one) room
-    × RefusedBy10 (lists one one one []) room
+too-few : RefusedBy10 (lists [] one low low) room
+    × RefusedBy10 (lists one [] low low) room
+    × RefusedBy10 (lists one one (drop 1 low) low) room
+    × RefusedBy10 (lists one one low (drop 1 low)) room
 unfolding writeLent writeOf number
 too-few = (refl, refl, refl, refl)
 
@@ -126,7 +128,7 @@ before-11 = refl
 
 -- ── -11 ──
 
--- 23 bytes
+-- 69 bytes
 no-room : RefusedBy11 (entry 0 0 0) (drop 1 room)
 unfolding writeLent write writeVerdict firstOf writeOf listOf eachFrom anyUnrecordable recordable accessOf number
 no-room = refl

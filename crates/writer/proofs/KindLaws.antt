@@ -53,7 +53,7 @@ other-recordable k r v h = ap (recordable newest) (kind-over k r v h)
 pub record Held (k r v : ℕ) : Type 0 where
   pub kind-fits : k < 4
   pub register-fits : r < 2 ^ registerBits newest
-  pub word : accessWord (accessOf k r v) ≡ k * 2 ^ 62 + r * 2 ^ 52 + v
+  pub word : accessWord (accessOf k r v) ≡ k * 2 ^ 62 + r * 2 ^ 51 + v
   pub kind : kindOf (accessOf k r v) ≡ k
   pub register : registerOf (accessOf k r v) ≡ r
   pub value : valueOf (accessOf k r v) ≡ v

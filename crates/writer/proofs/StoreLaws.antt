@@ -3,9 +3,10 @@
 use Prim.Native.Nat.{ℕ, zero, suc, _+_, _*_, _/_, _%_, _^_, _<_}
 use mathlib.Core.Path.{_≡_, refl, sym, ap, ap₂, subst, _∙_}
 use mathlib.Core.List.{List, [], _∷_, _++_}
-use native.Mathlib.Nat.{add-zero, add-suc, suc-add, zero-add, div-one}
+use native.Mathlib.Nat.{add-zero, add-suc, suc-add, zero-add, mul-add-div-right}
 use native.Mathlib.Omega.{arith}
 use lib.ListN.{length, replicate, set, length-replicate, replicate-append-replicate}
+use lib.Pow.{pow-pos}
 use lib.Seq.{sets}
 use Rattle.bits.specs.Fields.{total, pack, unpack, toBytes, Fit, none, one}
 use Rattle.bits.specs.Index.{each, eachFrom}
@@ -13,11 +14,12 @@ use Rattle.bits.proofs.ByteLaws.{length-bytes}
 use Rattle.bits.proofs.FieldLaws.{pack-lt}
 use Rattle.bits.proofs.IndexLaws.{length-each}
 use Rattle.bits.proofs.PackLaws.{pack-append, pack-two, unpack-parts, total-bytes}
-use Rattle.rules.specs.Edition.{newest}
-use Rattle.rules.specs.Record.{layout, accessOf, kindOf, registerOf, valueOf, recordOf}
+use Rattle.rules.specs.Edition.{newest, alerts}
+use Rattle.rules.specs.Record.{wiresOf, layout, accessOf, kindOf, registerOf, valueOf, recordOf}
 use Rattle.rules.specs.State.{words}
 use Rattle.rules.specs.declared.Input.{Input}
-use Rattle.writer.specs.Parts.{inputIn, accessLayout, accessWord, wordBytes}
+use Rattle.laws.proofs.WireLaws.{wires-lt}
+use Rattle.writer.specs.Parts.{inputIn, accessLayout, accessWord, wordBytes, setBytes}
 
 -- one run of stores behind another
 pub sets-append : (l : List ℕ) (i : ℕ) (xs ys : List ℕ) → sets (sets l i xs) (i + length xs) ys ≡ sets l i (xs ++ ys)
@@ -106,6 +108,61 @@ unfolding wordBytes
 put-word-next l out next at v f h p q =
     q ∙ ap₂ (λ (o : List ℕ) (n : ℕ). sets o (at + n) (toBytes 8 (f v))) p (sym (length-words f h v)) ∙ sets-append l at (wordBytes v f) (toBytes 8 (f v))
 
+-- ── seven bytes ──
+
+seven-parts : (w : ℕ) → w < 2 ^ 64 → toBytes 7 (w / 2 ^ 8) ≡ toBytes 4 (w / 2 ^ 32) ++ (w / 2 ^ 24 % 2 ^ 8 ∷ w / 2 ^ 16 % 2 ^ 8 ∷ w / 2 ^ 8 % 2 ^ 8 ∷ [])
+unfolding unpack
+seven-parts w h =
+    let z : ℕ = w / 2 ^ 8 in
+    let e : z ≡ z / 2 ^ 24 * 2 ^ 24 + z % 2 ^ 24 = omega arith in
+    let d : z / 2 ^ 24 ≡ w / 2 ^ 32 = omega arith in
+    let p : z % 2 ^ 24 / 2 ^ 16 % 2 ^ 8 ≡ w / 2 ^ 24 % 2 ^ 8 = omega arith in
+    let q : z % 2 ^ 24 / 2 ^ 8 % 2 ^ 8 ≡ w / 2 ^ 16 % 2 ^ 8 = omega arith in
+    let r : z % 2 ^ 24 / 2 ^ 0 % 2 ^ 8 ≡ w / 2 ^ 8 % 2 ^ 8 = omega arith in
+    ap (toBytes 7) e ∙ unpack-parts (replicate 4 8) (replicate 3 8) (z / 2 ^ 24) (z % 2 ^ 24) (omega arith) (omega arith)
+    ∙ ap₂ (λ (m : ℕ) (bs : List ℕ). toBytes 4 m ++ bs) d (ap₂ (λ (x : ℕ) (bs : List ℕ). x ∷ bs) p (ap₂ (λ (x : ℕ) (bs : List ℕ). x ∷ bs) q (ap (λ (x : ℕ). x ∷ []) r)))
+
+pub put-seven : (l m : List ℕ) (i w : ℕ) → w < 2 ^ 64 → m ≡ sets l i (toBytes 4 (w / 2 ^ 32))
+    → set (set (set m (i + 4) (w / 2 ^ 24 % 2 ^ 8)) (i + 5) (w / 2 ^ 16 % 2 ^ 8)) (i + 6) (w / 2 ^ 8 % 2 ^ 8) ≡ sets l i (toBytes 7 (w / 2 ^ 8))
+unfolding unpack
+put-seven l m i w h e =
+    let a : List ℕ = toBytes 4 (w / 2 ^ 32) in
+    let b : List ℕ = w / 2 ^ 24 % 2 ^ 8 ∷ w / 2 ^ 16 % 2 ^ 8 ∷ w / 2 ^ 8 % 2 ^ 8 ∷ [] in
+    let p : i + 5 ≡ suc (i + 4) = omega arith in
+    let q : i + 6 ≡ suc (suc (i + 4)) = omega arith in
+    rw (p, q) (ap (λ (k : List ℕ). sets k (i + 4) b) e ∙ sets-append l i a b ∙ ap (sets l i) (sym (seven-parts w h)))
+
+-- ── a wire set ──
+
+module _ (f : ℕ → ℕ) (h : (i : ℕ) → f i < 2 ^ 64) where
+  abbrev set-wires : ℕ
+  set-wires = wiresOf (alerts newest) (each words f)
+
+  pub set-lt : set-wires < 2 ^ alerts newest
+  set-lt = wires-lt newest (each words f) (words-fit words f h)
+
+  shifted : (p x : ℕ) → (p * 2 ^ 64 + x) / 2 ^ 8 ≡ p * 2 ^ 56 + x / 2 ^ 8
+  shifted p x =
+      let e : p * 2 ^ 64 + x ≡ (p * 2 ^ 56) * 2 ^ 8 + x = omega arith in
+      ap (λ (n : ℕ). n / 2 ^ 8) e ∙ mul-add-div-right (pow-pos 8) (p * 2 ^ 56) x
+
+  pub set-bytes : toBytes 31 set-wires ≡ setBytes f
+  set-bytes =
+      let n : set-wires ≡ packed f h 3 * 2 ^ 56 + f 3 / 2 ^ 8 = ap (λ (m : ℕ). m / 2 ^ 8) (packed-next f h 3) ∙ shifted (packed f h 3) (f 3) in
+      let l : f 3 < 2 ^ 64 = h 3 in
+      ap (toBytes 31) n ∙ unpack-parts (replicate 24 8) (replicate 7 8) (packed f h 3) (f 3 / 2 ^ 8) (packed-lt f h 3) (omega arith)
+      ∙ ap (λ (bs : List ℕ). bs ++ toBytes 7 (f 3 / 2 ^ 8)) (sym (words-bytes f h 3))
+
+  pub length-set-bytes : length (setBytes f) ≡ 31
+  length-set-bytes = ap length (sym set-bytes) ∙ length-bytes 31 set-wires
+
+-- the words, and behind them the seven bytes
+pub put-set : (l m n : List ℕ) (at : ℕ) (f : ℕ → ℕ) → ((i : ℕ) → f i < 2 ^ 64) → m ≡ sets l at (wordBytes 3 f) → n ≡ sets m (at + 24) (toBytes 7 (f 3 / 2 ^ 8))
+    → n ≡ sets l at (setBytes f)
+put-set l m n at f h p q =
+    let t : List ℕ = toBytes 7 (f 3 / 2 ^ 8) in
+    q ∙ ap₂ (λ (o : List ℕ) (k : ℕ). sets o (at + k) t) p (sym (length-words f h 3)) ∙ sets-append l at (wordBytes 3 f) t
+
 -- ── a record: the access and two wire sets ──
 
 module _ (k r v : ℕ) (f g : ℕ → ℕ) (p : (i : ℕ) → f i < 2 ^ 64) (q : (i : ℕ) → g i < 2 ^ 64) where
@@ -115,29 +172,28 @@ module _ (k r v : ℕ) (f g : ℕ → ℕ) (p : (i : ℕ) → f i < 2 ^ 64) (q :
   abbrev entry : Input
   entry = inputIn k r v (each words f) (each words g)
 
-  record-parts : word < 2 ^ 64 → recordOf newest entry ≡ toBytes 8 word ++ (wordBytes words f ++ wordBytes words g)
+  record-parts : word < 2 ^ 64 → recordOf newest entry ≡ toBytes 8 word ++ (setBytes f ++ setBytes g)
   unfolding recordOf accessWord
   record-parts h =
       let x = accessOf k r v in
       let fs : List ℕ = kindOf x ∷ registerOf x ∷ 0 ∷ valueOf x ∷ [] in
-      let a : ℕ = pack (replicate words 64) (each words f) in
-      let b : ℕ = pack (replicate words 64) (each words g) in
-      let al : a < 2 ^ 64 = packed-lt f p words in
-      let bl : b < 2 ^ 64 = packed-lt g q words in
-      ap₂ (λ (m n : ℕ). toBytes 24 (pack (layout newest) (kindOf x ∷ registerOf x ∷ 0 ∷ valueOf x ∷ m ∷ n ∷ []))) (div-one a) (div-one b)
-      ∙ ap (toBytes 24) (pack-append accessLayout (64 ∷ 64 ∷ []) fs (a ∷ b ∷ []) refl)
-      ∙ unpack-parts (replicate 8 8) (replicate 16 8) word (pack (64 ∷ 64 ∷ []) (a ∷ b ∷ [])) h (pack-lt (one al (one bl none)))
+      let a : ℕ = set-wires f p in
+      let b : ℕ = set-wires g q in
+      ap (toBytes 70) (pack-append accessLayout (248 ∷ 248 ∷ []) fs (a ∷ b ∷ []) refl)
+      ∙ unpack-parts (replicate 8 8) (replicate 62 8) word (pack (248 ∷ 248 ∷ []) (a ∷ b ∷ [])) h (pack-lt (one (set-lt f p) (one (set-lt g q) none)))
       ∙ ap (λ (l : List ℕ). toBytes 8 word ++ l)
-      (ap (toBytes 16) (pack-two 64 64 a b) ∙ unpack-parts (replicate 8 8) (replicate 8 8) a b al bl ∙ ap₂ (λ (l m : List ℕ). l ++ m) (sym (words-bytes f p words)) (sym (words-bytes g q words)))
+      (ap (toBytes 62) (pack-two 248 248 a b) ∙ unpack-parts (replicate 31 8) (replicate 31 8) a b (set-lt f p) (set-lt g q)
+      ∙ ap₂ (λ (l m : List ℕ). l ++ m) (set-bytes f p) (set-bytes g q))
 
-  pub put-parts : (l m n o : List ℕ) (i a : ℕ) → a < 2 ^ 64 → a ≡ word → m ≡ sets l i (toBytes 8 a) → n ≡ sets m (i + 8) (wordBytes words f)
-      → o ≡ sets n (i + 8 + 8 * words) (wordBytes words g) → o ≡ sets l i (recordOf newest entry)
+  pub put-parts : (l m n o : List ℕ) (i a : ℕ) → a < 2 ^ 64 → a ≡ word → m ≡ sets l i (toBytes 8 a) → n ≡ sets m (i + 8) (setBytes f)
+      → o ≡ sets n (i + 39) (setBytes g) → o ≡ sets l i (recordOf newest entry)
   unfolding unpack
   put-parts l m n o i a h e x y z =
       let b : word < 2 ^ 64 = omega arith in
       let w : List ℕ = toBytes 8 word in
-      z ∙ ap (λ (k : List ℕ). sets k (i + 8 + 8 * words) (wordBytes words g)) (y ∙ ap (λ (k : List ℕ). sets k (i + 8) (wordBytes words f)) (x ∙ ap (λ (k : ℕ). sets l i (toBytes 8 k)) e))
-      ∙ ap (λ (k : ℕ). sets (sets (sets l i w) (i + 8) (wordBytes words f)) (i + 8 + k) (wordBytes words g)) (sym (length-words f p words))
-      ∙ sets-append (sets l i w) (i + 8) (wordBytes words f) (wordBytes words g)
-      ∙ sets-append l i w (wordBytes words f ++ wordBytes words g)
+      let j : i + 39 ≡ i + 8 + length (setBytes f) = let k : length (setBytes f) ≡ 31 = length-set-bytes f p in omega arith in
+      z ∙ ap (λ (k : List ℕ). sets k (i + 39) (setBytes g)) (y ∙ ap (λ (k : List ℕ). sets k (i + 8) (setBytes f)) (x ∙ ap (λ (k : ℕ). sets l i (toBytes 8 k)) e))
+      ∙ ap (λ (k : ℕ). sets (sets (sets l i w) (i + 8) (setBytes f)) k (setBytes g)) j
+      ∙ sets-append (sets l i w) (i + 8) (setBytes f) (setBytes g)
+      ∙ sets-append l i w (setBytes f ++ setBytes g)
       ∙ ap (sets l i) (sym (record-parts b))

@@ -11,7 +11,7 @@ use Rattle.bits.specs.Index.{each}
 use Rattle.rules.specs.Edition.{newest, recordBytes}
 use Rattle.rules.specs.Record.{accessOf, kindOf, registerOf, valueOf, inputsOf}
 use Rattle.rules.specs.State.{words}
-use Rattle.rules.specs.Writer.{Written, WellFormed, writeVerdict, writeOf, write}
+use Rattle.rules.specs.Writer.{Written, WellFormed, AllSame, writeVerdict, writeOf, write}
 use Rattle.rules.specs.declared.Input.{Input}
 use Rattle.rules.specs.declared.Refusal.the-variants.{NoRecord}
 use Rattle.rules.specs.declared.Verdict.{Verdict}
@@ -68,11 +68,11 @@ Numbers l =
     × (registerOf (inputAt l i .access) ≡ getD (l .registers) i 0)
     × (valueOf (inputAt l i .access) ≡ getD (l .values) i 0)
 
--- reading what was written gives the same accesses and samples, for every list that is not refused
+-- reading what was written gives the same accesses and the same 248 pairs of wires, for every list that is not refused
 abbrev pub ReadBack : Lent → List ℕ → List ℕ → Type 0
 ReadBack l buffer left =
     even l ≡ true → writeVerdict newest (listOf l) buffer ≡ Verdict.Accepted
-    → (inputsOf newest (take (length (l .kinds) * recordBytes newest) left) ≡ listOf l) × Numbers l
+    → AllSame newest (listOf l) (inputsOf newest (take (length (l .kinds) * recordBytes newest) left)) × Numbers l
 
 -- writing what was read gives the same bytes, for all well-formed records
 abbrev pub WrittenBack : Lent → List ℕ → List ℕ → Type 0

@@ -1,6 +1,6 @@
 -- What the writer's functions put together: an entry's access and sample, a record's first word, and what all entries need.
 -- Assumes nothing.
-use Prim.Native.Nat.{ℕ, zero, suc, _*_, _≤_}
+use Prim.Native.Nat.{ℕ, zero, suc, _*_, _/_, _^_, _≤_}
 use mathlib.Core.Path.{_≡_}
 use mathlib.Core.Bool.{Bool, false, not}
 use mathlib.Core.List.{List, [], _∷_, _++_}
@@ -36,6 +36,10 @@ accessWord a = pack accessLayout (kindOf a ∷ registerOf a ∷ 0 ∷ valueOf a 
 unfoldable pub wordBytes : ℕ → (ℕ → ℕ) → List ℕ
 wordBytes zero f = []
 wordBytes (suc n) f = wordBytes n f ++ toBytes 8 (f n)
+
+-- the bytes of a wire set of four words: three of them whole, and seven bytes of the last
+abbrev pub setBytes : (ℕ → ℕ) → List ℕ
+setBytes f = wordBytes 3 f ++ toBytes 7 (f 3 / 2 ^ 8)
 
 -- entry i has an access that no well-formed record holds
 abbrev pub unrecordableAt : List ℕ → List ℕ → List ℕ → ℕ → Bool

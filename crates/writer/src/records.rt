@@ -1,8 +1,9 @@
 // Records in the lent buffer, of accesses and samples that well-formed records hold.
+use crate::bytes::put_seven;
 use crate::bytes::put_word;
 use rules::WORDS;
-use trace::edition::BYTES_24;
-use trace::edition::REGISTER_AT_24;
+use trace::edition::BYTES_70;
+use trace::edition::REGISTER_AT_70;
 ghost use mathlib.Core.Path.{_≡_};
 ghost use mathlib.Core.Bool.{true};
 ghost use mathlib.Core.List.{_++_};
@@ -14,26 +15,38 @@ ghost use Rattle.rules.specs.Record.{accessOf, recordOf, recordable};
 ghost use Rattle.rules.specs.State.{words};
 ghost use Rattle.rules.specs.Writer.{recordsOf};
 ghost use Rattle.writer.specs.Lent.{lent, wordAt, wordsAt, listOf};
-ghost use Rattle.writer.specs.Parts.{inputIn, accessWord, wordBytes, Ready};
+ghost use Rattle.writer.specs.Parts.{inputIn, accessWord, wordBytes, setBytes, Ready};
 
-// 2 bits kind, 10 bits register, 20 zero bits, 32 bits value.
+// 2 bits kind, 11 bits register, 19 zero bits, 32 bits value.
 fn first_word(kind: u8, register: u16, value: u32) -> u64
     requires { ⌜ recordable newest (accessOf kind register value) ≡ true ⌝ }
     ensures { λ r. ⌜ r ≡ accessWord (accessOf kind register value) ⌝ }
 {
     let kind_bits = kind as u64;
     let register_bits = register as u64;
-    (kind_bits << 62) + (register_bits << REGISTER_AT_24) + value as u64
+    (kind_bits << 62) + (register_bits << REGISTER_AT_70) + value as u64
 }
 
-// The words of entry i of a list, eight bytes each.
+// The words that a wire set has whole; of the last one it has seven bytes.
+const WHOLE: usize = WORDS - 1;
+
+// The words of entry i of a list that a wire set has whole, eight bytes each.
 fn put_words(out: &mut [u8], at: usize, list: &[u64], i: usize)
-    requires { ⌜ (at + 8 * words ≤ length (now out)) × (i * words + words ≤ length (now list)) ⌝ }
-    ensures { λ _. ⌜ now (out .exit) ≡ sets (now (out .entry)) at (wordBytes words (wordAt (now (list .entry)) i)) ⌝ }
+    requires { ⌜ (at + 24 ≤ length (now out)) × (i * words + words ≤ length (now list)) ⌝ }
+    ensures { λ _. ⌜ now (out .exit) ≡ sets (now (out .entry)) at (wordBytes 3 (wordAt (now (list .entry)) i)) ⌝ }
 {
-    for v in 0..WORDS {
+    for v in 0..WHOLE {
         put_word(out, at + 8 * v, list[i * WORDS + v]);
     }
+}
+
+// The wires of entry i of a list: alert 0 first, 248 of them.
+fn put_wires(out: &mut [u8], at: usize, list: &[u64], i: usize)
+    requires { ⌜ (at + 31 ≤ length (now out)) × (i * words + words ≤ length (now list)) ⌝ }
+    ensures { λ _. ⌜ now (out .exit) ≡ sets (now (out .entry)) at (setBytes (wordAt (now (list .entry)) i)) ⌝ }
+{
+    put_words(out, at, list, i);
+    put_seven(out, at + 24, list[i * WORDS + WHOLE]);
 }
 
 // The record of entry i: the access, the positive wires with alert 0 first, the negative wires.
@@ -51,8 +64,8 @@ fn put_record(
     ensures { λ _. ⌜ now (out .exit) ≡ sets (now (out .entry)) at (recordOf newest (inputIn kind register value (wordsAt (now (positive .entry)) i) (wordsAt (now (negative .entry)) i))) ⌝ }
 {
     put_word(out, at, first_word(kind, register, value));
-    put_words(out, at + 8, positive, i);
-    put_words(out, at + 8 + 8 * WORDS, negative, i);
+    put_wires(out, at + 8, positive, i);
+    put_wires(out, at + 39, negative, i);
 }
 
 // The records of all entries, from the start of the buffer.
@@ -71,7 +84,7 @@ pub fn put_all(
     while i < kinds.len() {
         put_record(
             out,
-            i * BYTES_24,
+            i * BYTES_70,
             kinds[i],
             registers[i],
             values[i],

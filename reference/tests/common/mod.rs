@@ -1,12 +1,40 @@
-//! What the tests share: a handler, single ticks, and wires.
+//! What the tests share: a handler, single ticks with today's register
+//! numbers, and wires.
 #![allow(dead_code)] // no test file uses all of it
 
-use reference::{Access, Handler, Ticked};
+pub mod records;
+
+use reference::{Access, Handler, Ticked, Wires};
+
+/// The positive and the negative wires.
+pub type Sample = (Wires, Wires);
 
 /// Every alert at rest: (0,1).
-pub const REST: (u64, u64) = (0, u64::MAX);
+pub const REST: Sample = ([0; 4], [u64::MAX; 4]);
 /// Alert 0 at (1,0), the others at rest.
-pub const ALERT0: (u64, u64) = (1 << 63, !(1 << 63));
+pub const ALERT0: Sample = (
+    [1 << 63, 0, 0, 0],
+    [!(1 << 63), u64::MAX, u64::MAX, u64::MAX],
+);
+/// Numbers of alerts on both sides of every word, and the most.
+pub const COUNTS: [u64; 10] = [1, 63, 64, 65, 127, 128, 191, 192, 247, 248];
+
+/// A sample with this place at this pair.
+pub fn with(mut sample: Sample, place: usize, pair: (u64, u64)) -> Sample {
+    let shift = 63 - place % 64;
+    for (set, wire) in [(&mut sample.0, pair.0), (&mut sample.1, pair.1)] {
+        set[place / 64] &= !(1 << shift);
+        set[place / 64] |= wire << shift;
+    }
+    sample
+}
+
+/// These alerts at (1,0), the others at rest.
+pub fn raised(alerts: &[usize]) -> Sample {
+    alerts
+        .iter()
+        .fold(REST, |sample, i| with(sample, *i, (1, 0)))
+}
 
 pub fn new(n: u64) -> Handler {
     let (handler, answer) = Handler::new(n);
@@ -14,8 +42,8 @@ pub fn new(n: u64) -> Handler {
     handler
 }
 
-pub fn tick(h: &mut Handler, access: Access, wires: (u64, u64)) -> Ticked {
-    h.tick(access, wires.0, wires.1)
+pub fn tick(h: &mut Handler, access: Access, wires: Sample) -> Ticked {
+    h.tick(access, &wires.0, &wires.1)
 }
 
 pub fn read(h: &mut Handler, register: u16) -> i64 {
@@ -39,8 +67,29 @@ pub fn event(h: &mut Handler) -> Ticked {
 pub fn ready(n: u64, ctrl: u32) -> Handler {
     let mut h = new(n);
     for i in 0..n as u16 {
-        assert_eq!(write(&mut h, 128 + i, 1), 0);
+        assert_eq!(write(&mut h, 512 + i, 1), 0);
     }
-    assert_eq!(write(&mut h, 321, ctrl), 0);
+    assert_eq!(write(&mut h, 1281, ctrl), 0);
     h
+}
+
+/// Numbers that look random (xorshift).
+pub struct Numbers(pub u64);
+
+impl Numbers {
+    pub fn next(&mut self) -> u64 {
+        self.0 ^= self.0 << 13;
+        self.0 ^= self.0 >> 7;
+        self.0 ^= self.0 << 17;
+        self.0
+    }
+
+    pub fn below(&mut self, bound: u64) -> u64 {
+        // The lower bits are the weaker ones.
+        (self.next() >> 20) % bound
+    }
+
+    pub fn wires(&mut self) -> Wires {
+        std::array::from_fn(|_| self.next())
+    }
 }

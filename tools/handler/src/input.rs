@@ -26,7 +26,7 @@ impl Access {
     }
 }
 
-/// The wires of a tick: those of alert i stand at bit 63 - i % 64 of words i / 64.
+/// The wires of a tick: those of alert i stand at bit 63 - i % 64 of words i / 64. Places 248 to 255 are no wires.
 #[repr(C)]
 #[derive(Clone, Copy, Debug, PartialEq, Eq)]
 pub struct Wires {

@@ -5,6 +5,7 @@
 #![deny(missing_docs)]
 
 mod answer;
+mod edition;
 mod input;
 mod library;
 pub mod registers;
@@ -13,6 +14,7 @@ mod word;
 mod writer;
 
 pub use answer::{Answer, Refusal};
+pub use edition::Edition;
 pub use input::{Access, Input, Wires};
 pub use state::{
     Alerts, Class, Handler, Interrupts, Locals, Output, Receivers, ALERTS, CLASSES, LOCALS, PHASES,
@@ -20,9 +22,6 @@ pub use state::{
 };
 pub use word::Word;
 pub use writer::{record, record_numbers};
-
-/// The bytes of a trace record.
-pub const RECORD: usize = 24;
 
 /// What a tick gives.
 #[derive(Clone, Copy, Debug, PartialEq, Eq)]
@@ -36,13 +35,13 @@ pub struct Ticked {
 }
 
 impl Handler {
-    /// A handler for `n` alerts, 1 to 64. Refusal 6 leaves a handler of no alerts, otherwise as new.
+    /// A handler for `n` alerts, 1 to 248. Refusal 6 leaves a handler of no alerts, otherwise as new.
     pub fn new(n: usize) -> (Handler, Answer) {
         let made = library::new(n);
         (made.handler, Answer(made.answer))
     }
 
-    /// One tick. Refusal 7: state unchanged, tick not run, no outputs. Refusals 1 to 5: the access does nothing, the tick runs.
+    /// One tick; the access has the register numbers of `registers::MAP`. Refusal 7: state unchanged, tick not run, no outputs. Refusals 1 to 5: the access does nothing, the tick runs.
     pub fn tick(self, access: Access, wires: Wires) -> Ticked {
         let (kind, register, value) = access.numbers();
         let given = library::tick(self, kind, register, value, wires);
@@ -53,9 +52,10 @@ impl Handler {
         }
     }
 
-    /// A tick for each record of 24 bytes, a word for each. Refusals 7, 8 and 9 leave state and list unchanged.
-    pub fn batch(self, bytes: &[u8], out: &mut [Word]) -> (Handler, Answer) {
-        let given = library::batch(self, bytes, out);
+    /// A tick for each record of the edition, a word for each. Refusals 7, 8 and 9 leave state and list unchanged; 7 also
+    /// where the handler has more alerts than the edition.
+    pub fn batch(self, edition: Edition, bytes: &[u8], out: &mut [Word]) -> (Handler, Answer) {
+        let given = library::batch(self, edition, bytes, out);
         (given.handler, Answer(given.answer))
     }
 }

@@ -1,4 +1,5 @@
 //! The functions of `libboundary.a`. The only unsafe lines of the tools.
+use crate::edition::Edition;
 use crate::input::Wires;
 use crate::state::{Handler, Output};
 use crate::word::Word;
@@ -25,7 +26,14 @@ pub struct Batched {
 extern "C" {
     fn tarravane_new(n: usize) -> Made;
     fn tarravane_tick(h: Handler, kind: u8, register: u16, value: u32, wires: Wires) -> Answered;
-    fn tarravane_batch(
+    fn tarravane_batch_24(
+        h: Handler,
+        bytes: *const u8,
+        length: usize,
+        out: *mut Word,
+        words: usize,
+    ) -> Batched;
+    fn tarravane_batch_70(
         h: Handler,
         bytes: *const u8,
         length: usize,
@@ -58,9 +66,15 @@ pub fn tick(h: Handler, kind: u8, register: u16, value: u32, wires: Wires) -> An
     unsafe { tarravane_tick(h, kind, register, value, wires) }
 }
 
-pub fn batch(h: Handler, bytes: &[u8], out: &mut [Word]) -> Batched {
+pub fn batch(h: Handler, edition: Edition, bytes: &[u8], out: &mut [Word]) -> Batched {
+    let (from, length, to, words) = (bytes.as_ptr(), bytes.len(), out.as_mut_ptr(), out.len());
     // Safe: both slices are as long as said, not null, aligned, and apart; a Word is a u64.
-    unsafe { tarravane_batch(h, bytes.as_ptr(), bytes.len(), out.as_mut_ptr(), out.len()) }
+    unsafe {
+        match edition {
+            Edition::Bytes24 => tarravane_batch_24(h, from, length, to, words),
+            Edition::Bytes70 => tarravane_batch_70(h, from, length, to, words),
+        }
+    }
 }
 
 pub fn record(

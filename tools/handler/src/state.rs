@@ -2,9 +2,9 @@
 use std::mem::{offset_of, size_of};
 
 /// The most alerts that a handler is made for.
-pub const ALERTS: usize = 64;
+pub const ALERTS: usize = 248;
 /// The words of 64 that hold a bit of each alert.
-pub const WORDS: usize = 1;
+pub const WORDS: usize = 4;
 /// Local alerts.
 pub const LOCALS: usize = 7;
 /// Classes.
@@ -114,10 +114,10 @@ const _: () = {
     assert!(size_of::<Class>() == 36);
     assert!(offset_of!(Class, ctrl) == 24);
     assert!(offset_of!(Class, state) == 32);
-    assert!(size_of::<Handler>() == 448);
-    assert!(offset_of!(Handler, classes) == 16);
-    assert!(offset_of!(Handler, alerts) == 160);
-    assert!(offset_of!(Handler, locals) == 416);
-    assert!(offset_of!(Handler, interrupts) == 444);
+    assert!(size_of::<Handler>() == 1208);
+    assert!(offset_of!(Handler, classes) == 40);
+    assert!(offset_of!(Handler, alerts) == 184);
+    assert!(offset_of!(Handler, locals) == 1176);
+    assert!(offset_of!(Handler, interrupts) == 1204);
     assert!(size_of::<Output>() == 2);
 };

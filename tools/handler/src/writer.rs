@@ -3,9 +3,9 @@ use crate::answer::Answer;
 use crate::input::Input;
 use crate::library;
 
-/// Writes a record of 24 bytes for each input, one after another, and answers the bytes written; later bytes stay.
-/// Refusal 10: an access that no well-formed record holds, a register over 1023 or `Malformed`. Refusal 11: `out` is too
-/// short. 10 comes first; either leaves `out` as it was.
+/// Writes a record of the newest edition for each input, one after another, and answers the bytes written; later bytes stay.
+/// Refusal 10: an access that no well-formed record holds, a register over 2047 or `Malformed`. Refusal 11: `out` is too
+/// short. 10 comes first; either leaves `out` as it was. Places 248 to 255 of the wires are left out.
 pub fn record(inputs: &[Input], out: &mut [u8]) -> Answer {
     let numbers = || inputs.iter().map(|input| input.access.numbers());
     let kinds: Vec<u8> = numbers().map(|(kind, _, _)| kind).collect();
@@ -17,8 +17,8 @@ pub fn record(inputs: &[Input], out: &mut [u8]) -> Answer {
 }
 
 /// The same of five lists of numbers, of which entry i is tick i's: kind (0 none, 1 read, 2 write), register, value, and the
-/// positive and negative wires, `WORDS` words for each entry. Refusal 10 also for lists of unequal lengths, a kind over 2, a read with a value, and kind 0 with a
-/// register or value.
+/// positive and negative wires, `WORDS` words for each entry. Refusal 10 also for lists of unequal lengths, a kind over 2,
+/// a read with a value, and kind 0 with a register or value.
 pub fn record_numbers(
     kinds: &[u8],
     registers: &[u16],

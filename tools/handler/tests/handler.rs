@@ -1,12 +1,8 @@
 //! The wrapper asks the library and loses nothing on the way.
-use handler::{Access, Answer, Handler, Refusal, Wires, Word, RECORD};
-use harness::record::record;
+use handler::registers::{Field, Setting, INTR_ENABLE, MAP};
+use handler::{Access, Answer, Handler, Refusal, Wires, ALERTS, WORDS};
 
 const REST: Wires = Wires::REST;
-const RAISE: Wires = Wires {
-    pos: [1 << 63],
-    neg: [u64::MAX >> 1],
-};
 
 fn made(n: usize) -> Handler {
     let (handler, answer) = Handler::new(n);
@@ -14,10 +10,24 @@ fn made(n: usize) -> Handler {
     handler
 }
 
+/// Alert i at (1,0), the others at rest.
+fn raised(i: usize) -> Wires {
+    let mut wires = REST;
+    wires.pos[i / 64] |= 1 << (63 - i % 64);
+    wires.neg[i / 64] &= !wires.pos[i / 64];
+    wires
+}
+
 #[test]
-fn a_handler_is_made_for_1_to_64_alerts() {
-    assert_eq!(made(64).n, 64);
-    for n in [0, 65, usize::MAX] {
+fn a_handler_is_made_for_1_to_248_alerts() {
+    for n in [1, 64, 65, 247, 248] {
+        let h = made(n);
+        assert_eq!(h, Handler { n, ..made(1) });
+        assert_eq!(h.receivers.armed, [u64::MAX; WORDS]);
+        assert_eq!(h.alerts.regwen, [1; ALERTS]);
+        assert_eq!(h.alerts.class, [0; ALERTS]);
+    }
+    for n in [0, 249, usize::MAX] {
         let (handler, answer) = Handler::new(n);
         assert_eq!(answer.value(), Err(Refusal(6)));
         assert_eq!(handler, Handler { n: 0, ..made(1) });
@@ -26,91 +36,58 @@ fn a_handler_is_made_for_1_to_64_alerts() {
 
 #[test]
 fn an_answer_is_a_value_or_a_refusal() {
+    let read = |setting| Access::Read(MAP.class(0, setting));
+    let write = |setting, value| Access::Write(MAP.class(0, setting), value);
     let h = made(1);
-    assert_eq!(h.tick(Access::Read(321), REST).answer.value(), Ok(0x393C));
-    assert_eq!(
-        h.tick(Access::Read(333), REST).answer.value(),
-        Err(Refusal(1))
-    );
-    assert_eq!(
-        h.tick(Access::Write(324, 0), REST).answer.value(),
-        Err(Refusal(2))
-    );
-    assert_eq!(
-        h.tick(Access::Write(325, 65536), REST).answer.value(),
-        Err(Refusal(4))
-    );
-    assert_eq!(
-        h.tick(Access::Malformed, REST).answer.value(),
-        Err(Refusal(5))
-    );
-    let h = h.tick(Access::Write(326, u32::MAX), REST).handler;
-    assert_eq!(h.tick(Access::Read(326), REST).answer.value(), Ok(u32::MAX));
-    let h = h.tick(Access::Write(320, 0), REST).handler;
-    assert_eq!(
-        h.tick(Access::Write(321, 1), REST).answer.value(),
-        Err(Refusal(3))
-    );
+    let answer = |h: Handler, access| h.tick(access, REST).answer.value();
+    assert_eq!(answer(h, read(Setting::Ctrl)), Ok(0x393C));
+    assert_eq!(answer(h, Access::Read(333)), Err(Refusal(1)));
+    assert_eq!(answer(h, write(Setting::AccumCnt, 0)), Err(Refusal(2)));
+    let wide = write(Setting::AccumThresh, 65536);
+    assert_eq!(answer(h, wide), Err(Refusal(4)));
+    assert_eq!(answer(h, Access::Malformed), Err(Refusal(5)));
+    let h = h.tick(write(Setting::TimeoutCyc, u32::MAX), REST).handler;
+    assert_eq!(answer(h, read(Setting::TimeoutCyc)), Ok(u32::MAX));
+    let h = h.tick(write(Setting::Regwen, 0), REST).handler;
+    assert_eq!(answer(h, write(Setting::Ctrl, 1)), Err(Refusal(3)));
+}
+
+#[test]
+fn the_wires_and_registers_of_every_alert_are_its_own() {
+    for i in [0, 1, 63, 64, 127, 128, 191, 192, 247] {
+        let number = |field| MAP.alert(field, i);
+        let mut h = made(248);
+        for (register, value) in [
+            (number(Field::En), 1),
+            (number(Field::Class), 3),
+            (MAP.class(3, Setting::Ctrl), 0x393F),
+            (INTR_ENABLE, 15),
+        ] {
+            h = h.tick(Access::Write(register, value), REST).handler;
+        }
+        assert_eq!((h.alerts.en[i], h.alerts.class[i]), (1, 3));
+        let t = h.tick(Access::Nothing, raised(i));
+        assert_eq!((t.output.interrupts, t.output.lines), (8, 1));
+        let mut wanted = [u64::MAX; WORDS];
+        wanted[i / 64] &= !(1 << (63 - i % 64));
+        assert_eq!(t.handler.receivers.armed, wanted);
+        let cause = |j| Access::Read(MAP.alert(Field::Cause, j));
+        for (j, value) in [(i, 1), ((i + 1) % 248, 0), ((i + 64) % 248, 0)] {
+            assert_eq!(t.handler.tick(cause(j), REST).answer, Answer(value));
+        }
+    }
 }
 
 #[test]
 fn a_damaged_state_is_refused_and_unchanged() {
-    let mut h = made(3);
-    h.classes[2].state = 2;
-    let t = h.tick(Access::Nothing, RAISE);
-    assert_eq!(t.answer.value(), Err(Refusal(7)));
-    assert_eq!(t.handler, h);
-    assert_eq!((t.output.interrupts, t.output.lines), (0, 0));
-}
-
-#[test]
-fn a_batch_is_its_ticks() {
-    let on = [
-        (2, 128, 1),
-        (2, 321, 0x393F),
-        (2, 1, 1),
-        (0, 0, 0),
-        (1, 256, 0),
-        (1, 333, 0),
-    ];
-    let mut bytes = Vec::new();
-    let mut one = made(2);
-    let mut given = Vec::new();
-    for (i, (kind, register, value)) in on.into_iter().enumerate() {
-        let wires = if i == 3 { RAISE } else { REST };
-        bytes.extend(record(kind, register, value, (wires.pos[0], wires.neg[0])));
-        let access = match kind {
-            0 => Access::Nothing,
-            1 => Access::Read(register as u16),
-            _ => Access::Write(register as u16, value as u32),
-        };
-        let t = one.tick(access, wires);
-        one = t.handler;
-        given.push(t);
+    let mut one = made(3);
+    one.classes[2].state = 2;
+    let mut last = made(248);
+    last.alerts.cause[247] = 2;
+    for h in [one, last, Handler { n: 249, ..made(1) }] {
+        let t = h.tick(Access::Nothing, raised(0));
+        assert_eq!(t.answer.value(), Err(Refusal(7)));
+        assert_eq!(t.handler, h);
+        assert_eq!((t.output.interrupts, t.output.lines), (0, 0));
     }
-    let mut words = [Word(7); 8];
-    let (all, answer) = made(2).batch(&bytes, &mut words);
-    assert_eq!((all, answer), (one, Answer(0)));
-    for (word, t) in words.iter().zip(&given) {
-        for b in 0..4 {
-            assert_eq!(word.interrupt(b), t.output.interrupts >> b & 1 == 1);
-            assert_eq!(word.line(b), t.output.lines >> b & 1 == 1);
-        }
-        assert_eq!(
-            word.refusal().map_or(Ok(word.value()), Err),
-            t.answer.value()
-        );
-    }
-    assert!(words[3].interrupt(0) && words[3].line(0));
-    assert_eq!(words[6..], [Word(7); 2]);
-}
-
-#[test]
-fn a_refused_batch_leaves_state_and_list() {
-    let h = made(1);
-    let mut words = [Word(7); 1];
-    assert_eq!(h.batch(&[0; 2 * RECORD], &mut words), (h, Answer(-9)));
-    assert_eq!(h.batch(&[0; RECORD + 1], &mut words), (h, Answer(-8)));
-    assert_eq!(h.batch(&[], &mut []), (h, Answer(0)));
-    assert_eq!(words, [Word(7)]);
 }

@@ -1,37 +1,56 @@
 //! The writer's wrapper hands over each part of each input, and what it is refused.
-use handler::{record, Access, Answer, Input, Refusal, Wires, RECORD};
+use handler::{record, Access, Answer, Edition, Input, Refusal, Wires, WORDS};
 use harness::record::record as packed;
 
-fn input(access: Access, pos: u64, neg: u64) -> Input {
-    Input {
-        access,
-        wires: Wires {
-            pos: [pos],
-            neg: [neg],
-        },
-    }
+const EDITION: Edition = Edition::NEWEST;
+const RECORD: usize = EDITION.bytes();
+
+/// Wires in which every word differs. Places 248 to 255 are 0, as the packed record has them.
+const SOME: [u64; WORDS] = [
+    0x0123_4567_89AB_CDEF,
+    0x0011_2233_4455_6677,
+    0x8899_AABB_CCDD_EEFF,
+    0xFEDC_BA98_7654_3200,
+];
+const ALL: [u64; WORDS] = [u64::MAX; WORDS];
+const NO: [u64; WORDS] = [0; WORDS];
+
+fn input(access: Access, pos: [u64; WORDS], neg: [u64; WORDS]) -> Input {
+    let wires = Wires { pos, neg };
+    Input { access, wires }
 }
 
 #[test]
 fn a_record_for_each_input() {
-    let (a, b) = (0x0123_4567_89AB_CDEF, 0x0011_2233_4455_6677);
     let inputs = [
-        input(Access::Nothing, a, b),
-        input(Access::Read(1023), b, a),
-        input(Access::Write(345, u32::MAX), u64::MAX, 0),
-        input(Access::Write(0, 1), 0, u64::MAX),
+        input(Access::Nothing, SOME, NO),
+        input(Access::Read(2047), NO, SOME),
+        input(Access::Write(1345, u32::MAX), ALL, NO),
+        input(Access::Write(0, 1), NO, ALL),
     ];
     let mut wanted = [
-        packed(0, 0, 0, (a, b)),
-        packed(1, 1023, 0, (b, a)),
-        packed(2, 345, 0xFFFF_FFFF, (u64::MAX, 0)),
-        packed(2, 0, 1, (0, u64::MAX)),
+        packed(EDITION, 0, 0, 0, (SOME, NO)),
+        packed(EDITION, 1, 2047, 0, (NO, SOME)),
+        packed(EDITION, 2, 1345, 0xFFFF_FFFF, (ALL, NO)),
+        packed(EDITION, 2, 0, 1, (NO, ALL)),
     ]
     .concat();
     wanted.extend([7; 5]);
     let mut out = vec![7; 4 * RECORD + 5];
     assert_eq!(record(&inputs, &mut out).bytes(), Ok(4 * RECORD));
     assert_eq!(out, wanted);
+}
+
+#[test]
+fn places_past_the_wires_are_left_out() {
+    let mut other = SOME;
+    other[WORDS - 1] |= 255;
+    let mut out = [[7; RECORD]; 2];
+    for (out, wires) in out.iter_mut().zip([SOME, other]) {
+        let inputs = [input(Access::Nothing, wires, wires)];
+        assert_eq!(record(&inputs, out).bytes(), Ok(RECORD));
+    }
+    assert_eq!(out[0], out[1]);
 }
 
 #[test]
@@ -44,13 +63,13 @@ fn no_inputs_no_bytes() {
 
 #[test]
 fn a_refusal_leaves_the_buffer() {
-    let good = input(Access::Read(1023), 0, 0);
+    let good = input(Access::Read(2047), NO, NO);
     for bad in [
-        Access::Read(1024),
+        Access::Read(2048),
         Access::Write(u16::MAX, 0),
         Access::Malformed,
     ] {
-        let inputs = [good, input(bad, 0, 0)];
+        let inputs = [good, input(bad, NO, NO)];
         for length in [0, 2 * RECORD] {
             let mut out = vec![7; length];
             let answer = record(&inputs, &mut out);

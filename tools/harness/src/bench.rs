@@ -11,9 +11,12 @@ pub use rounds::time;
 pub use start::start;
 pub use timed::{Timed, TITLE};
 
+use crate::record::Side;
+use handler::Wires;
+
 /// The records of a timed batch.
 pub const RECORDS: usize = 100_000;
 /// The rounds; the best one of each side counts.
 pub const ROUNDS: usize = 7;
 /// The wires of a quiet tick.
-const QUIET: (u64, u64) = (0, u64::MAX);
+const QUIET: (Side, Side) = (Wires::REST.pos, Wires::REST.neg);

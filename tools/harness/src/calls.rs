@@ -7,11 +7,11 @@ mod twin;
 
 pub use input::{access, record, register, wires};
 pub use odd::Odd;
-pub use twin::{handler_of, reference_access, reference_of};
+pub use twin::{handler_of, reference_access, reference_edition, reference_of, with_spare};
 
-use handler::{Access, Answer, Handler, Ticked, Wires, Word};
+use handler::{Access, Answer, Edition, Handler, Ticked, Wires, Word};
 
 /// A call of one tick.
 pub type Tick = fn(Handler, Access, Wires) -> Ticked;
 /// A call of a batch.
-pub type Batch = fn(Handler, &[u8], &mut [Word]) -> (Handler, Answer);
+pub type Batch = fn(Handler, Edition, &[u8], &mut [Word]) -> (Handler, Answer);

@@ -11,7 +11,8 @@ pub use coverage::Coverage;
 pub use difference::Difference;
 pub use expected::expected;
 
-use program::{program, LIMIT};
+pub(crate) use program::{ended, program};
+
 use std::io;
 use std::path::Path;
 
@@ -43,12 +44,7 @@ fn once(
     let bytes = case.bytes();
     let wanted = expected(&bytes, coverage);
     let ran = program(path, &bytes)?;
-    let ended = match ran.status {
-        None => Some(format!("stopped after {} seconds", LIMIT.as_secs())),
-        // The paper names no exit status, but a program must end by itself.
-        Some(status) if status.code().is_none() => Some(status.to_string()),
-        Some(_) => None,
-    };
+    let ended = ended(&ran);
     if ended.is_none() && ran.output == wanted {
         return Ok(None);
     }

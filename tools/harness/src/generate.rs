@@ -1,4 +1,4 @@
-//! Traces by kind and seed. The same kind and seed give the same bytes.
+//! Traces by edition, kind and seed. The same three give the same bytes.
 
 mod configure;
 mod damage;
@@ -11,14 +11,22 @@ mod refused;
 mod scene;
 mod steps;
 mod sweep;
+mod wires;
 
 pub use kind::{Kind, KINDS};
 
 use crate::rng::Rng;
-use handler::registers::MAP;
+use handler::registers::Map;
+use handler::Edition;
 
-/// The numbers of alerts that most traces use.
-const COUNTS: [u8; 7] = [1, 2, 7, 8, 9, 63, 64];
+/// The numbers of alerts that most traces use: both sides of each byte and
+/// word of wires, and the most.
+fn counts(edition: Edition) -> &'static [u8] {
+    match edition {
+        Edition::Bytes24 => &[1, 2, 7, 8, 9, 63, 64],
+        Edition::Bytes70 => &[1, 9, 64, 65, 127, 128, 191, 192, 247, 248],
+    }
+}
 
 /// Values on both sides of every width.
 pub const WRITTEN: [u32; 14] = [
@@ -40,22 +48,24 @@ pub const WRITTEN: [u32; 14] = [
 
 /// A number a little past the last register: the numbers from it on are all
 /// alike.
-pub const FAR: u16 = MAP.end() + 16;
+pub const fn far(map: Map) -> u16 {
+    map.end() + 16
+}
 
 /// The bytes of a trace.
-pub fn trace(kind: Kind, seed: u64) -> Vec<u8> {
-    // The kind goes in too, so that equal seeds of two kinds differ.
-    let mut rng = Rng::new(seed ^ ((kind as u64 + 1) << 56));
+pub fn trace(edition: Edition, kind: Kind, seed: u64) -> Vec<u8> {
+    // Edition and kind go in too, so that equal seeds of two kinds differ.
+    let mut rng = Rng::new(seed ^ ((kind as u64 + 1) << 56) ^ ((edition as u64) << 48));
     match kind {
-        Kind::Sweep => sweep::sweep(rng),
-        Kind::Ends => ends::ends(rng),
-        Kind::Full => long::long(rng, seed),
-        Kind::Noise => damage::noise(rng),
+        Kind::Sweep => sweep::sweep(edition, rng),
+        Kind::Ends => ends::ends(edition, rng),
+        Kind::Full => long::long(edition, rng, seed),
+        Kind::Noise => damage::noise(edition, rng),
         Kind::Damaged => {
             let inner = Kind::at(rng.below(9));
-            let whole = trace(inner, rng.bits());
+            let whole = trace(edition, inner, rng.bits());
             damage::damaged(rng, whole)
         }
-        _ => play::play(rng, kind),
+        _ => play::play(edition, rng, kind),
     }
 }

@@ -1,13 +1,16 @@
 //! Test harness of the alert handler: generated traces go through a program
 //! and through the reference, and both outputs are compared to the byte.
 //! Damaged states and lists for the trace writer go through the proved library
-//! and the reference in this process, and both are timed side by side.
+//! and the reference in this process, and both are timed side by side. Words
+//! that a program gave once are kept, and another one's are compared with them.
 
 pub mod bench;
 pub mod calls;
 pub mod compare;
 pub mod entries;
 pub mod generate;
+pub mod golden;
+pub mod opened;
 pub mod record;
 pub mod report;
 pub mod rng;

@@ -1,7 +1,7 @@
-//! Packs trace records. Written apart from the reference and from the proved
-//! writer, so that a slip in one of them is not repeated here.
+//! Packs trace records of either edition. Written apart from the reference and
+//! from the proved writer, so that a slip in one of them is not repeated here.
 
-pub use handler::RECORD;
+use handler::{Edition, ALERTS, WORDS};
 
 /// Kind bits of a record without access.
 pub const NONE: u8 = 0;
@@ -11,24 +11,40 @@ pub const READ: u8 = 1;
 pub const WRITE: u8 = 2;
 /// Kind bits that no record may have.
 pub const KIND3: u8 = 3;
-/// The largest register number that ten bits hold.
-pub const LARGEST: u16 = 1023;
+
+/// The bytes of a record that the trace writer writes.
+pub const WRITTEN_BYTES: usize = Edition::NEWEST.bytes();
+
+/// The positive or the negative wires of a sample: alert i at bit 63 - i % 64
+/// of word i / 64.
+pub type Side = [u64; WORDS];
+
+/// The largest register number that an edition's records hold.
+pub const fn largest(edition: Edition) -> u16 {
+    (1 << edition.register_bits()) - 1
+}
+
+/// The wires alone, with the places past the last one at 0.
+pub fn wires_of(mut side: Side) -> Side {
+    side[WORDS - 1] &= u64::MAX << (64 * WORDS - ALERTS);
+    side
+}
 
 /// The first 32 bits and the value of a record.
-#[derive(Clone, Copy)]
+#[derive(Clone, Copy, Debug, PartialEq, Eq)]
 pub struct Head {
     /// 2 bits.
     pub kind: u8,
-    /// 10 bits.
+    /// 10 or 11 bits.
     pub register: u16,
-    /// 20 bits, zero in a good record.
+    /// 20 or 19 bits, zero in a good record.
     pub rest: u32,
     /// 32 bits.
     pub value: u32,
 }
 
 impl Head {
-    /// The head of an access, with the 20 bits at zero.
+    /// The head of an access, with the bits behind the register at zero.
     pub fn new(kind: u8, register: u16, value: u32) -> Head {
         Head {
             kind,
@@ -37,22 +53,53 @@ impl Head {
             value,
         }
     }
+
+    /// The head of a record's bytes.
+    pub fn of(edition: Edition, record: &[u8]) -> Head {
+        let number = |bytes: &[u8]| {
+            bytes
+                .iter()
+                .fold(0, |all, byte| all << 8 | u32::from(*byte))
+        };
+        let first = number(&record[..4]);
+        let zeros = edition.zero_bits();
+        Head {
+            kind: (first >> 30) as u8,
+            register: (first >> zeros) as u16 & largest(edition),
+            rest: first & ((1 << zeros) - 1),
+            value: number(&record[4..8]),
+        }
+    }
 }
 
-/// The record's bytes; alert 0 is the highest bit of the wires.
-pub fn pack(head: Head, pos: u64, neg: u64) -> [u8; RECORD] {
+/// The record's bytes.
+pub fn pack(edition: Edition, head: Head, wires: (Side, Side)) -> Vec<u8> {
     let value = u64::from(head.rest) << 32 | u64::from(head.value);
-    record(head.kind.into(), head.register.into(), value, (pos, neg))
+    record(
+        edition,
+        head.kind.into(),
+        head.register.into(),
+        value,
+        wires,
+    )
 }
 
-/// The bytes of kind, register, value and wires. The value may run into the 20
-/// bits before it, and the register into the kind, for records that are not
-/// well formed.
-pub fn record(kind: u64, register: u64, value: u64, (pos, neg): (u64, u64)) -> [u8; RECORD] {
-    let mut record = [0; RECORD];
-    let words = [kind << 62 | register << 52 | value, pos, neg];
-    for (place, word) in record.chunks_exact_mut(8).zip(words) {
-        place.copy_from_slice(&word.to_be_bytes());
+/// The bytes of kind, register, value and positive and negative wires. The
+/// value may run into the zero bits before it, and the register into the kind,
+/// for records that are not well formed.
+pub fn record(
+    edition: Edition,
+    kind: u64,
+    register: u64,
+    value: u64,
+    (pos, neg): (Side, Side),
+) -> Vec<u8> {
+    let head = kind << 62 | register << (32 + edition.zero_bits()) | value;
+    let mut record = Vec::with_capacity(edition.bytes());
+    record.extend(head.to_be_bytes());
+    for side in [pos, neg] {
+        let bytes = side.into_iter().flat_map(u64::to_be_bytes);
+        record.extend(bytes.take(edition.wire_bytes()));
     }
     record
 }

@@ -1,6 +1,7 @@
 //! What the commands print. A reader that goes away is no failure; any other write that fails is told.
 
 use crate::bench::{time, LOADS, RECORDS, TITLE};
+use handler::Edition;
 use std::fmt::Display;
 use std::io::{self, ErrorKind, Write};
 use std::time::Instant;
@@ -46,9 +47,11 @@ pub fn times(out: &mut impl Write, equal: &mut bool) -> io::Result<()> {
     }
     writeln!(out, "{TITLE}")?;
     for (load, name) in LOADS {
-        let timed = time(load, name, RECORDS);
-        *equal &= timed.equal;
-        writeln!(out, "{timed}")?;
+        for edition in Edition::ALL {
+            let timed = time(edition, load, name, RECORDS);
+            *equal &= timed.equal;
+            writeln!(out, "{timed}")?;
+        }
     }
     writeln!(out, "{}", if *equal { "EQUAL" } else { "DIFFERENT" })
 }

@@ -81,8 +81,8 @@ fn over(places: &[Place], rng: &mut Rng, state: &mut Handler) {
 /// Another number of alerts.
 fn alerts(rng: &mut Rng) -> usize {
     let any = rng.bits() as usize;
-    let small = any % 65;
-    let low = [0, 1, 63, 64, 65, 66, 128, 255, 256, small, small];
+    let small = any % (ALERTS + 1);
+    let low = [0, 1, 64, 65, 247, 248, 249, 250, 255, 256, small, small];
     let high = [1 << 16, (1 << 32) | 1, 1 << 63, usize::MAX, any];
     if rng.once_in(3) {
         rng.pick(&high)
@@ -91,7 +91,7 @@ fn alerts(rng: &mut Rng) -> usize {
     }
 }
 
-/// Random bytes in the entries at N and above, with N below 64.
+/// Random bytes in the entries at N and above, with N below the most.
 fn above(places: &[Place], rng: &mut Rng, state: &mut Handler) {
     state.n = state.n.min(rng.index(ALERTS));
     let n = state.n;
@@ -100,6 +100,8 @@ fn above(places: &[Place], rng: &mut Rng, state: &mut Handler) {
             place.set(state, rng.bits());
         }
     }
-    let unused = u64::MAX >> n;
-    state.receivers.armed[0] ^= rng.bits() & unused;
+    for (w, word) in state.receivers.armed.iter_mut().enumerate() {
+        let used = n.saturating_sub(64 * w) as u32;
+        *word ^= rng.bits() & u64::MAX.checked_shr(used).unwrap_or(0);
+    }
 }

@@ -11,7 +11,7 @@ const COMMANDS: [&[&str]; 4] = [
     &["bench"],
     &["states", "--states", "10"],
     &["write", "--lists", "10"],
-    &["trace", "escalate", "1"],
+    &["trace", "escalate", "1", "--edition", "70"],
 ];
 
 /// A program that prints nothing, so that fuzz finds a difference at once.

@@ -1,8 +1,11 @@
 //! What the default set must reach, and that traces are what they say.
 
+use handler::registers::Field;
+use handler::{Edition, Wires, WORDS};
 use harness::compare::{damage, expected, generated, Case, Coverage, DEFAULT_SEED, DEFAULT_TRACES};
 use harness::generate::{Kind, KINDS};
-use harness::record::{pack, Head, READ, RECORD, WRITE};
+use harness::opened::opened;
+use harness::record::{pack, Head, READ, WRITE};
 
 fn reached(cases: impl Iterator<Item = Case>) -> Coverage {
     let mut coverage = Coverage::default();
@@ -12,9 +15,12 @@ fn reached(cases: impl Iterator<Item = Case>) -> Coverage {
     coverage
 }
 
-#[test]
-fn the_default_set_reaches_every_state_refusal_and_line() {
-    let coverage = reached(generated(DEFAULT_SEED).take(DEFAULT_TRACES as usize));
+/// What the default set of an edition reaches.
+fn default_set(edition: Edition) -> Coverage {
+    reached(generated(edition, DEFAULT_SEED).take(DEFAULT_TRACES as usize))
+}
+
+fn reaches_every_state_refusal_and_line(coverage: &Coverage) {
     for states in coverage.states {
         for state in [0, 1, 3, 4, 5, 6, 7] {
             assert!(states[state] > 1000, "state {state}");
@@ -27,14 +33,24 @@ fn the_default_set_reaches_every_state_refusal_and_line() {
     assert!(on.into_iter().all(|ticks| ticks > 1000));
     assert!(coverage.no_handler > 10 && coverage.cut > 30);
     assert!(coverage.full > 100 && coverage.locked_starts > 100);
-    for n in [0, 1, 2, 7, 8, 9, 63, 64, 65, 255] {
-        assert!(coverage.counts.contains(&n), "N {n}");
-    }
 }
 
-#[test]
-fn the_default_set_makes_every_move() {
-    let coverage = reached(generated(DEFAULT_SEED).take(DEFAULT_TRACES as usize));
+/// Every alert has a cause in some trace, and every assigned register is accessed.
+fn reaches_every_alert_and_register(edition: Edition, coverage: &Coverage) {
+    let alerts: Vec<usize> = coverage.causes.iter().copied().collect();
+    assert_eq!(alerts, (0..edition.alerts()).collect::<Vec<_>>());
+    let map = edition.registers();
+    let assigned: Vec<u16> = (0..u16::MAX)
+        .filter(|n| map.register(*n).is_some())
+        .collect();
+    let own = coverage
+        .registers
+        .iter()
+        .filter(|at| at.0 == edition.bytes());
+    assert_eq!(own.map(|at| at.1).collect::<Vec<_>>(), assigned);
+}
+
+fn makes_every_move(coverage: &Coverage) {
     // Each arrow of step 4, and no other.
     let arrows = [
         (0, 4),
@@ -60,13 +76,60 @@ fn the_default_set_makes_every_move() {
 }
 
 #[test]
+fn the_default_set_of_old_records_reaches_all() {
+    let coverage = default_set(Edition::Bytes24);
+    reaches_every_state_refusal_and_line(&coverage);
+    reaches_every_alert_and_register(Edition::Bytes24, &coverage);
+    makes_every_move(&coverage);
+    for n in [0, 1, 2, 7, 8, 9, 63, 64, 65] {
+        assert!(coverage.counts.contains(&n), "N {n}");
+    }
+}
+
+#[test]
+fn the_default_set_of_new_records_reaches_all() {
+    let coverage = default_set(Edition::Bytes70);
+    reaches_every_state_refusal_and_line(&coverage);
+    reaches_every_alert_and_register(Edition::Bytes70, &coverage);
+    makes_every_move(&coverage);
+    for n in [0, 1, 9, 64, 65, 127, 128, 191, 192, 247, 248, 249, 255] {
+        assert!(coverage.counts.contains(&n), "N {n}");
+    }
+}
+
+/// The numbers of accesses in sweeps of all the edition's alerts, refused or not.
+#[test]
+fn sweeps_go_to_both_ends_of_every_block() {
+    for edition in Edition::ALL {
+        let map = edition.registers();
+        let sweeps = generated(edition, DEFAULT_SEED).filter(|case| case.kind == Kind::Sweep);
+        let mut all = sweeps.take(40).map(|case| case.bytes());
+        let most = all.find(|bytes| opened(bytes).alerts() == edition.alerts() as u64);
+        let bytes = most.expect("one of all alerts");
+        let records = opened(&bytes).records.chunks_exact(edition.bytes());
+        let heads: Vec<Head> = records.map(|record| Head::of(edition, record)).collect();
+        for field in Field::ALL {
+            for i in [0, map.alerts - 1, usize::from(map.stride) - 1] {
+                let number = map.alert(field, i);
+                for kind in [READ, WRITE] {
+                    let to = |head: &&Head| head.kind == kind && head.register == number;
+                    assert!(heads.iter().find(to).is_some(), "{number}");
+                }
+            }
+        }
+    }
+}
+
+#[test]
 fn short_traces_show_something_in_most_ticks() {
-    let short = generated(DEFAULT_SEED).filter(|case| case.kind != Kind::Full);
-    let coverage = reached(short.take(300));
-    // A read's value or a refusal, whatever the interrupts and lines show.
-    let refused: u64 = coverage.answers[1..].iter().sum();
-    assert!((coverage.reads + refused) * 100 > coverage.ticks * 70);
-    assert!(coverage.showing * 100 > coverage.ticks * 80);
+    for edition in Edition::ALL {
+        let short = generated(edition, DEFAULT_SEED).filter(|case| case.kind != Kind::Full);
+        let coverage = reached(short.take(300));
+        // A read's value or a refusal, whatever the interrupts and lines show.
+        let refused: u64 = coverage.answers[1..].iter().sum();
+        assert!((coverage.reads + refused) * 100 > coverage.ticks * 70);
+        assert!(coverage.showing * 100 > coverage.ticks * 80);
+    }
 }
 
 #[test]
@@ -74,32 +137,75 @@ fn the_same_seed_gives_the_same_bytes() {
     for (kind, name) in KINDS {
         assert_eq!(Kind::named(name), Some(kind));
         assert_eq!(kind.name(), name);
-        let case = |seed| Case {
-            kind,
-            seed,
-            records: None,
+        let bytes = |edition, seed| {
+            let records = None;
+            let case = Case {
+                edition,
+                kind,
+                seed,
+                records,
+            };
+            case.bytes()
         };
-        assert_eq!(case(5).bytes(), case(5).bytes());
-        assert_ne!(case(5).bytes(), case(6).bytes());
+        for edition in Edition::ALL {
+            assert_eq!(bytes(edition, 5), bytes(edition, 5));
+            assert_ne!(bytes(edition, 5), bytes(edition, 6));
+        }
+        assert_ne!(bytes(Edition::Bytes24, 5), bytes(Edition::Bytes70, 5));
     }
 }
 
 #[test]
 fn records_are_packed_as_the_paper_shows() {
-    let hex = |record: [u8; RECORD]| record.map(|byte| format!("{byte:02x}")).concat();
-    assert_eq!(
-        hex(pack(Head::new(READ, 321, 0), 0, 1 << 63)),
-        "541000000000000000000000000000008000000000000000"
-    );
-    assert_eq!(
-        hex(pack(Head::new(WRITE, 1023, 0), 0, 1 << 63)),
-        "bff000000000000000000000000000008000000000000000"
-    );
+    let hex = |edition, head| {
+        let neg = std::array::from_fn(|w| u64::from(w == 0) << 63);
+        let record = pack(edition, head, ([0; WORDS], neg));
+        let digits = record.iter().map(|byte| format!("{byte:02x}"));
+        digits.collect::<String>()
+    };
+    for (register, kind, wanted) in [
+        (
+            321,
+            READ,
+            "541000000000000000000000000000008000000000000000",
+        ),
+        (
+            1023,
+            WRITE,
+            "bff000000000000000000000000000008000000000000000",
+        ),
+    ] {
+        assert_eq!(hex(Edition::Bytes24, Head::new(kind, register, 0)), wanted);
+    }
+    // Kind 2, register 1281, 19 zero bits.
+    let head = Head::new(WRITE, 1281, 0x393D);
+    let wanted = format!("a80800000000393d{}80{}", "00".repeat(31), "00".repeat(30));
+    assert_eq!(hex(Edition::Bytes70, head), wanted);
+}
+
+#[test]
+fn a_record_is_taken_apart_as_it_was_packed() {
+    for edition in Edition::ALL {
+        for head in [
+            Head::new(READ, 1023, 0),
+            Head::new(WRITE, 1 << (edition.register_bits() - 1), u32::MAX),
+            Head {
+                rest: 1 << (edition.zero_bits() - 1),
+                ..Head::new(3, 1, 2)
+            },
+        ] {
+            let record = pack(edition, head, (Wires::REST.pos, Wires::REST.neg));
+            assert_eq!(record.len(), edition.bytes());
+            assert_eq!(Head::of(edition, &record), head);
+        }
+    }
 }
 
 #[test]
 fn damaged_input_still_reaches_the_handler() {
-    let coverage = reached(damage(DEFAULT_SEED).take(DEFAULT_TRACES as usize));
-    assert!(coverage.no_handler > 20 && coverage.cut > 100);
-    assert!(coverage.answers.into_iter().all(|count| count > 500));
+    for edition in Edition::ALL {
+        let coverage = reached(damage(edition, DEFAULT_SEED).take(DEFAULT_TRACES as usize));
+        assert!(coverage.no_handler > 10 && coverage.cut > 100);
+        assert!(coverage.answers.into_iter().all(|count| count > 500));
+    }
 }

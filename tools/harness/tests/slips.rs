@@ -1,7 +1,8 @@
 //! Slips that look right, each put into a copy of the reference by replacing
 //! one piece of its text: the default set must find every one of them.
 
-use harness::compare::{compare_all, generated, Coverage, DEFAULT_SEED, DEFAULT_TRACES};
+use handler::Edition;
+use harness::compare::{compare_all, generated, Case, Coverage, DEFAULT_SEED, DEFAULT_TRACES};
 use std::fs;
 use std::path::{Path, PathBuf};
 use std::process::Command;
@@ -66,14 +67,17 @@ fn build(number: usize, slip: &Slip) -> PathBuf {
 
 /// Which trace of the default set finds the slip, if one does.
 fn finder(replay: &Path) -> Option<String> {
-    let cases = generated(DEFAULT_SEED).take(DEFAULT_TRACES as usize);
+    let old = generated(Edition::Bytes24, DEFAULT_SEED).take(DEFAULT_TRACES as usize);
+    // In turn, since a slip may show in one edition alone.
+    let cases = old.flat_map(|case| Edition::ALL.map(|edition| Case { edition, ..case }));
     let found = compare_all(replay, cases, &mut Coverage::default()).unwrap()?;
     let (kind, seed) = (found.case.kind.name(), found.case.seed);
+    let bytes = found.case.edition.bytes();
     let records = found
         .case
         .records
         .map_or(String::new(), |r| format!(" record {r}"));
-    Some(format!("{kind} seed {seed}{records}"))
+    Some(format!("{kind} seed {seed} of {bytes} bytes{records}"))
 }
 
 #[test]

@@ -2,25 +2,30 @@
 //! finds what it is there to find.
 
 use handler::registers::Setting;
-use handler::{Access, Answer, Handler, Ticked, Wires, Word, RECORD};
+use handler::{Access, Answer, Edition, Handler, Ticked, Wires, Word, ALERTS};
 use harness::bench::{load, start, time, LOADS};
-use harness::calls::{handler_of, reference_of};
+use harness::calls::{handler_of, reference_of, with_spare};
 use harness::rng::Rng;
 use harness::spoil::{Place, WAYS};
 use harness::states::{try_all, Found, Subject, Summary, PROVED};
+use std::sync::LazyLock;
 
-/// A configured state of n alerts.
+/// A configured state of all alerts.
+static START: LazyLock<Handler> = LazyLock::new(|| handler_of(&start(Edition::NEWEST)));
+
+/// The same of n alerts.
 fn state(n: usize) -> Handler {
-    let mut state = handler_of(&start());
-    state.n = n;
-    state
+    Handler { n, ..*START }
 }
 
-/// What a tick of the library answers; a batch of no records says the same.
+/// What a tick of the library answers; a batch of no records says the same, an
+/// old one only of up to 64 alerts.
 fn answer(state: &Handler) -> i64 {
     let given = state.tick(Access::Nothing, Wires::REST);
-    let (after, answer) = state.batch(&[], &mut []);
+    let (after, answer) = state.batch(Edition::NEWEST, &[], &mut []);
     assert_eq!((given.answer, after), (answer, *state));
+    let old = if state.n > 64 { Answer(-7) } else { answer };
+    assert_eq!(state.batch(Edition::Bytes24, &[], &mut []), (*state, old));
     if answer.0 == -7 {
         assert_eq!(given.handler, *state);
         assert_eq!((given.output.interrupts, given.output.lines), (0, 0));
@@ -36,7 +41,7 @@ fn unused(place: Place, n: usize) -> bool {
 #[test]
 fn every_register_over_its_field_gives_7() {
     let mut tried = 0;
-    for n in [1, 40, 64] {
+    for n in [1, 64, 65, 192, 248] {
         for place in Place::all() {
             // Registers of all the bits that are kept have nothing over them.
             let Some(bits) = place.bits().filter(|bits| *bits < place.kept()) else {
@@ -54,20 +59,20 @@ fn every_register_over_its_field_gives_7() {
         }
     }
     // Both interrupt registers, 4 of 12 in a class, all of the sources.
-    assert_eq!(tried, 3 * (2 + 16 + 4 * 71));
+    assert_eq!(tried, 5 * (2 + 16 + 4 * 255));
 }
 
 #[test]
 fn a_flipped_bit_over_a_field_gives_7() {
-    for n in [9, 64] {
+    for n in [9, 65, 248] {
         for place in Place::all() {
             for bit in 0..place.kept() {
                 let mut h = state(n);
                 let value = place.get(&h);
                 place.set(&mut h, value ^ (1 << bit));
                 let over = match place {
-                    Place::N => h.n > 64,
-                    Place::Armed => false,
+                    Place::N => h.n > ALERTS,
+                    Place::Armed(_) => false,
                     // All classes are Idle: the six other states are not one
                     // bit away or want a count, and a count another state.
                     Place::Class(_, Setting::State | Setting::EscCnt) => true,
@@ -99,14 +104,14 @@ fn state_and_count_must_fit() {
 }
 
 #[test]
-fn only_n_over_64_gives_7() {
-    for n in 0..=64 {
+fn only_n_over_248_gives_7() {
+    for n in 0..=248 {
         assert_eq!(answer(&state(n)), 0);
     }
     for n in [
-        65,
-        66,
-        128,
+        249,
+        250,
+        255,
         256,
         1 << 16,
         1 << 32,
@@ -122,8 +127,8 @@ fn only_n_over_64_gives_7() {
 fn both_sides_hold_the_same_state() {
     let mut rng = Rng::new(7);
     let places = Place::all();
-    assert_eq!(places.len(), 4 + 4 * 12 + 4 * 71);
-    let mut h = state(64);
+    assert_eq!(places.len(), 3 + 4 + 4 * 12 + 4 * 255);
+    let mut h = state(248);
     for _ in 0..100 {
         let values: Vec<u64> = places.iter().map(|_| rng.bits()).collect();
         for (place, value) in places.iter().zip(&values) {
@@ -134,7 +139,7 @@ fn both_sides_hold_the_same_state() {
             let kept = value & (u64::MAX >> (64 - place.kept()));
             assert_eq!(place.get(&h), kept, "{place}");
         }
-        assert_eq!(handler_of(&reference_of(&h)), h);
+        assert_eq!(with_spare(handler_of(&reference_of(&h)), &h), h);
     }
 }
 
@@ -150,9 +155,10 @@ fn every_way_gives_what_it_is_for() {
         assert_eq!(accepted == 0, ["random", "count"].contains(name), "{name}");
     }
     assert!(summary.ticks.iter().all(|count| *count > 100));
-    assert!([0, 7, 8, 9]
-        .iter()
-        .all(|number| summary.batches[*number] > 100));
+    for batches in summary.batches {
+        assert!([0, 7, 8, 9].iter().all(|number| batches[*number] > 100));
+    }
+    assert!(summary.over > 1000);
 }
 
 /// What is found with a wrong subject.
@@ -181,7 +187,7 @@ fn a_tick_that_takes_a_broken_state_is_found() {
 fn a_tick_that_looks_at_unused_entries_is_found() {
     fn tick(h: Handler, access: Access, wires: Wires) -> Ticked {
         let mut all = h;
-        all.n = all.n.max(64);
+        all.n = all.n.max(248);
         let mut given = h.tick(access, wires);
         if all.tick(access, wires).answer == Answer(-7) {
             given.answer = Answer(-7);
@@ -195,20 +201,20 @@ fn a_tick_that_looks_at_unused_entries_is_found() {
 fn a_tick_that_tidies_unused_entries_is_found() {
     fn tick(h: Handler, access: Access, wires: Wires) -> Ticked {
         let mut given = h.tick(access, wires);
-        if given.answer != Answer(-7) && h.n < 64 {
-            given.handler.alerts.cause[63] = 0;
+        if given.answer != Answer(-7) && h.n < 248 {
+            given.handler.alerts.cause[247] = 0;
         }
         given
     }
     let odd = found(Subject { tick, ..PROVED }).odd;
-    assert_eq!(odd.field, "alert 63 CAUSE");
+    assert_eq!(odd.field, "alert 247 CAUSE");
 }
 
 #[test]
 fn a_batch_that_writes_a_later_word_is_found() {
-    fn batch(h: Handler, bytes: &[u8], out: &mut [Word]) -> (Handler, Answer) {
-        let given = h.batch(bytes, out);
-        if let Some(word) = out.get_mut(bytes.len() / RECORD) {
+    fn batch(h: Handler, e: Edition, bytes: &[u8], out: &mut [Word]) -> (Handler, Answer) {
+        let given = h.batch(e, bytes, out);
+        if let Some(word) = out.get_mut(bytes.len() / e.bytes()) {
             *word = Word(0);
         }
         given
@@ -219,9 +225,35 @@ fn a_batch_that_writes_a_later_word_is_found() {
 }
 
 #[test]
+fn a_tick_that_changes_what_is_no_alert_is_found() {
+    fn tick(h: Handler, access: Access, wires: Wires) -> Ticked {
+        let mut given = h.tick(access, wires);
+        given.handler.receivers.armed[3] |= 1;
+        given
+    }
+    let odd = found(Subject { tick, ..PROVED }).odd;
+    assert_eq!(odd.field, "re-armed alerts, word 3");
+}
+
+#[test]
+fn an_old_batch_that_runs_on_65_alerts_is_found() {
+    fn batch(h: Handler, e: Edition, bytes: &[u8], out: &mut [Word]) -> (Handler, Answer) {
+        let mut few = h;
+        if e == Edition::Bytes24 && h.n == 65 {
+            few.n = 64;
+        }
+        few.batch(e, bytes, out)
+    }
+    assert_eq!(found(Subject { batch, ..PROVED }).odd.field, "answer 7");
+}
+
+#[test]
 fn the_bench_compares_every_word() {
-    for (kind, name) in LOADS {
-        assert_eq!(load(kind, 1000).len(), 1000 * RECORD);
-        assert!(time(kind, name, 1000).equal, "{name}");
+    for edition in Edition::ALL {
+        for (kind, name) in LOADS {
+            let bytes = load(edition, kind, 1000);
+            assert_eq!(bytes.len(), 1000 * edition.bytes());
+            assert!(time(edition, kind, name, 1000).equal, "{name}");
+        }
     }
 }

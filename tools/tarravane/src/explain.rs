@@ -7,7 +7,7 @@ use crate::progress::Progress;
 use crate::row::{row, wide_row, HEADER};
 use crate::say::say;
 use crate::summary::Summary;
-use crate::trace::{self, cut, made};
+use crate::trace::{self, cut, Start};
 use std::io::{Read, Write};
 
 /// The end of the trace: bytes that are left over make it a cut one.
@@ -63,7 +63,7 @@ fn rows(
 }
 
 fn summary(
-    n: usize,
+    title: &str,
     ticks: &mut Ticks<impl Read>,
     out: &mut dyn Write,
     progress: &mut Progress,
@@ -76,7 +76,7 @@ fn summary(
         }
     }
     progress.clear();
-    writeln!(out, "alerts: {n}; ticks: {}", ticks.number())?;
+    writeln!(out, "{title}; ticks: {}", ticks.number())?;
     for line in summary.lines() {
         writeln!(out, "{line}")?;
     }
@@ -85,35 +85,37 @@ fn summary(
 
 fn shown(
     asked: &Explain,
+    start: Start,
     from: &mut impl Read,
     out: &mut dyn Write,
     progress: &mut Progress,
 ) -> Result<End, Failure> {
-    let handler = match made(trace::alerts(from, &asked.trace)?) {
+    let handler = match start.made() {
         Ok(handler) => handler,
         Err(why) => {
             writeln!(out, "refused: {why}")?;
             return Ok(End::Damaged);
         }
     };
-    let mut ticks = Ticks::new(from, &asked.trace, handler);
+    let bytes = start.edition.bytes();
+    let title = format!("alerts: {}; records of {bytes} bytes", handler.n);
+    let mut ticks = Ticks::new(from, &asked.trace, start.edition, handler);
     match &asked.shown {
         Shown::Rows(asked) => {
-            let n = handler.n;
-            writeln!(
-                out,
-                "alerts: {n}; a class: its state, then ESC_CNT/ACCUM_CNT"
-            )?;
+            writeln!(out, "{title}; a class: its state, then ESC_CNT/ACCUM_CNT")?;
             rows(asked, &mut ticks, out, progress)
         }
-        Shown::Summary => summary(handler.n, &mut ticks, out, progress),
+        Shown::Summary => summary(&title, &mut ticks, out, progress),
     }
 }
 
 pub fn run(asked: &Explain) -> Result<End, String> {
-    let (mut from, all) = trace::opened(&asked.trace)?;
-    let mut progress = Progress::new("tick", all);
-    let end = output::write(None, |out| shown(asked, &mut from, out, &mut progress));
+    let (mut from, bytes) = trace::opened(&asked.trace)?;
+    let start = Start::read(&mut from, &asked.trace)?;
+    let mut progress = Progress::new("tick", bytes.map(|bytes| start.records(bytes)));
+    let end = output::write(None, |out| {
+        shown(asked, start, &mut from, out, &mut progress)
+    });
     progress.clear();
     end
 }

@@ -3,7 +3,10 @@
 pub const EXPLAIN: &str = "\
 usage: ./tarravane explain [OPTION..] [--] TRACE
 
-One readable row for each tick of a trace: a file, or standard input where it is -.
+One readable row for each tick of a trace: a file, or standard input where it is -. Either edition is
+read: 255, N and records of 70 bytes, or N and records of 24 bytes. The first line of the output says
+which. Registers have the same names in both; a number that is no register of the trace's edition is
+shown as it is.
 
   --from TICK      rows from this tick on; the first record is tick 1. Where the trace ends before
                    it, standard error says so; the status is 0, or 1 for a cut trace
@@ -26,12 +29,12 @@ causes that were 0 before the tick and are 1 after it. The answer is given befor
 interrupts, lines, states and counts are those after them.
 States: Idle, Tout (Timeout), Ph0 to Ph3 (the phases), Term (Terminal). A row that would be wider
 than 120 columns leaves its columns, and if need be counts the alerts that are off rest (wires ~12)
-or is in short form: r and w, states in two letters, counts as 12k, wires as ~12, causes as +3.
+or is in short form: r and w, states in two letters, counts as 12k or .3M, wires as ~12, causes as +3.
 
 Exit status:
   0  the trace was shown as asked, also where the reader of the output went away
-  1  the trace is cut, or its N is missing, 0 or over 64: the last line of standard output says so,
-     by `cut:` or `refused:`
+  1  the trace is cut, or its N is missing, 0 or over 248 (with records of 24 bytes over 64): the last
+     line of standard output says so, by `cut:` or `refused:`
   2  usage, a missing tool or file, a failed read or write: one line on standard error says which
 ";
 
@@ -49,19 +52,26 @@ has its positive wire at P, its negative at Q. Every other alert is at rest, 01.
 name, as CLASSA_CTRL, or its number; a number is decimal, or hex after 0x. What follows # is a
 comment; blank lines are skipped. A line has at most 4096 bytes before its comment.
 
+Such a text gives the newest edition: 255, N from 1 to 248, and records of 70 bytes, which the proved
+writer writes. A line before alerts names an edition:
+  edition 24  N from 1 to 64, and records of 24 bytes, which the tool packs itself: plain code, tested
+              and not proved. Alerts go up to 63, and register numbers are those of document 01
+  edition 70  the newest; --back names it too, so that its text stays right when a newer one comes
+
 Every trace has a text that gives the same bytes again:
-  raw HEX   a record by its 24 bytes; --back writes it where a record is not well-formed
-  cut HEX   the last line: 1 to 23 bytes after the last record
-  alerts N  N may be any byte, 0 to 255, though a handler is made for 1 to 64
-A text without a line gives a trace without a byte, and --back gives it for that trace.
+  raw HEX     a record by its 70 or 24 bytes; --back writes it where a record is not well-formed
+  cut HEX     the last line: the bytes after the last record, 1 to 69 or 1 to 23
+  alerts N    N may be any byte, though no handler is made for 0, and none over 248 or 64; with
+              edition 24 it may not be 255, by which edition 70 begins
+A text of nothing but edition 70 gives the byte 255 alone, one without a line a trace without a byte.
 
 A bad line is told by its number, and then nothing is written. Wires and registers of alerts at N
 and above count for nothing: standard error warns of the first 10 such lines, and counts the others.
 
 Exit status:
   0  the trace is whole
-  1  the trace is cut, or its N is missing, 0 or over 64: all of it is written, and standard error
-     says so, by `cut:` or `refused:`
+  1  the trace is cut, or its N is missing, 0 or over 248 (with records of 24 bytes over 64): all of
+     it is written, and standard error says so, by `cut:` or `refused:`
   2  usage, a bad line, a missing tool or file, a failed read or write: one line on standard error
      says which
 ";

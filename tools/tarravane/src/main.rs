@@ -1,4 +1,5 @@
 //! The command-line tool behind `./tarravane`. It decides nothing about a trace: it asks the proved library.
+mod alert_bits;
 mod args;
 mod back;
 mod end;

@@ -1,33 +1,33 @@
 //! Document 01's words for the numbers of a trace.
-use handler::registers::{Register, Setting, MAP};
-use handler::Refusal;
+use handler::registers::{Register, Setting};
+use handler::{Edition, Refusal};
 
-/// A register by its name; by its number where the map has none.
-pub fn register(number: u16) -> String {
-    match MAP.register(number) {
+/// A register by its name, which is the same in every edition; by its number where the edition has none.
+pub fn register(edition: Edition, number: u16) -> String {
+    match edition.registers().register(number) {
         Some(register) => register.to_string(),
         None => number.to_string(),
     }
 }
 
-/// The number of a register's name.
-pub fn number(register: &str) -> Option<u16> {
-    MAP.number(Register::named(register)?)
+/// The edition's number of a register's name.
+pub fn number(edition: Edition, register: &str) -> Option<u16> {
+    edition.registers().number(Register::named(register)?)
 }
 
 /// A value that is written: to CTRL in hex, to any other register in decimal.
-pub fn written(number: u16, value: u32) -> String {
-    match MAP.register(number) {
+pub fn written(edition: Edition, number: u16, value: u32) -> String {
+    match edition.registers().register(number) {
         Some(Register::Class(_, Setting::Ctrl)) => format!("{value:#x}"),
         _ => value.to_string(),
     }
 }
 
 /// A value that was read: STATE with its name.
-pub fn read(number: u16, value: u32) -> String {
-    match MAP.register(number) {
+pub fn read(edition: Edition, number: u16, value: u32) -> String {
+    match edition.registers().register(number) {
         Some(Register::Class(_, Setting::State)) => format!("{value} {}", state(value as u8)),
-        _ => written(number, value),
+        _ => written(edition, number, value),
     }
 }
 
@@ -78,27 +78,40 @@ pub fn refusal(refusal: Refusal, reads: bool) -> &'static str {
 mod tests {
     use super::*;
 
+    use Edition::{Bytes24, Bytes70};
+
     #[test]
     fn a_register_without_a_name_goes_by_its_number() {
-        for (number, name) in [
-            (2, "INTR_TEST"),
-            (3, "3"),
-            (321, "CLASSA_CTRL"),
-            (333, "333"),
+        for (edition, number, name) in [
+            (Bytes24, 2, "INTR_TEST"),
+            (Bytes24, 3, "3"),
+            (Bytes24, 321, "CLASSA_CTRL"),
+            (Bytes24, 333, "333"),
+            (Bytes24, 512, "512"),
+            (Bytes70, 2, "INTR_TEST"),
+            (Bytes70, 321, "ALERT65_REGWEN"),
+            (Bytes70, 1281, "CLASSA_CTRL"),
+            (Bytes70, 504, "504"),
         ] {
-            assert_eq!(register(number), name);
+            assert_eq!(register(edition, number), name);
         }
-        for n in 0..=u16::MAX {
-            let named = MAP.register(n).is_some();
-            assert_eq!(number(&register(n)), named.then_some(n));
+        for edition in Edition::ALL {
+            for n in 0..=u16::MAX {
+                let named = edition.registers().register(n).is_some();
+                let again = number(edition, &register(edition, n));
+                assert_eq!(again, named.then_some(n));
+            }
+            assert_eq!(number(edition, "CLASSA_CTL"), None);
         }
-        assert_eq!(number("CLASSA_CTL"), None);
     }
 
     #[test]
     fn values_are_told_by_register() {
-        assert_eq!(read(321, 0x393C), "0x393c");
-        assert_eq!(read(332, 7), "7 Ph3");
-        assert_eq!(written(326, u32::MAX), "4294967295");
+        for (edition, class_a) in [(Bytes24, 320), (Bytes70, 1280)] {
+            assert_eq!(read(edition, class_a + 1, 0x393C), "0x393c");
+            assert_eq!(read(edition, class_a + 12, 7), "7 Ph3");
+            assert_eq!(written(edition, class_a + 6, u32::MAX), "4294967295");
+        }
+        assert_eq!(written(Bytes70, 321, 1), "1");
     }
 }

@@ -7,20 +7,24 @@ use crate::end::End;
 use crate::output;
 use crate::progress::Progress;
 use crate::source::opened;
-use crate::text::{alerts, line, lines::Lines};
-use crate::trace::made;
+use crate::text::{alerts, edition, line, lines::Lines};
 use grown::Grown;
+use handler::Edition;
 use std::io::{stdout, BufRead, IsTerminal};
 use warnings::Warnings;
 
-/// The first line that says something gives N, each other one bytes or a tick.
+/// The first lines that say something give edition and N, each other one bytes or a tick.
 fn add(line: &str, number: u64, trace: &mut Grown, warnings: &mut Warnings) -> Result<(), String> {
     let at = |problem| format!("line {number}: {problem}");
+    let edition = trace.edition().unwrap_or(Edition::NEWEST);
     match trace.n() {
-        None => trace.begin(alerts::parse(line).map_err(at)?),
+        None if trace.edition().is_none() && edition::is_edition(line) => {
+            trace.begin(edition::parse(line).map_err(at)?, None);
+        }
+        None => trace.begin(edition, Some(alerts::parse(edition, line).map_err(at)?)),
         Some(n) => {
-            let given = line::parse(line).map_err(at)?;
-            warnings.look(number, n, &given);
+            let given = line::parse(edition, line).map_err(at)?;
+            warnings.look(number, edition, n, &given);
             trace.add(number, given)?;
         }
     }
@@ -63,7 +67,7 @@ fn grown(from: impl BufRead, name: &str, warnings: &mut Warnings) -> Result<Grow
 
 /// A trace that is written as the text has it may still be one that no replay reads to its end.
 fn judged(trace: &Grown, warnings: &mut Warnings) -> End {
-    let refused = made(trace.n()).err();
+    let refused = trace.start().made().err();
     let damaged = refused.is_some() || trace.is_cut();
     if let Some(why) = refused {
         warnings.add(format!("refused: {why}"));

@@ -1,5 +1,5 @@
 //! What a trace or a text is read from.
-use handler::RECORD;
+use handler::Edition;
 use std::fs::File;
 use std::io::{stdin, BufReader, ErrorKind, Read};
 
@@ -17,7 +17,8 @@ pub fn opened(name: &str) -> Result<(Source, Option<u64>), String> {
         let about = file.metadata().ok().filter(|about| about.is_file());
         (Box::new(file), about.map(|about| about.len()))
     };
-    Ok((BufReader::with_capacity(AT_ONCE * RECORD, from), bytes))
+    let at_once = AT_ONCE * Edition::NEWEST.bytes();
+    Ok((BufReader::with_capacity(at_once, from), bytes))
 }
 
 /// Fills as much of the buffer as there are bytes left.

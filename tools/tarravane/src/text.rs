@@ -1,9 +1,16 @@
-//! A trace as text: `alerts N`, then a line for each tick with its access and the wires that are off rest; `raw` and `cut` for
-//! bytes that are no well-formed record. Each part goes both ways: `parse` takes words, `words` gives them.
+//! A trace as text: `edition E` where it is not the newest, `alerts N`, then a line for each tick with its access and the
+//! wires that are off rest; `raw` and `cut` for bytes that are no well-formed record. Each part goes both ways: `parse` takes
+//! words, `words` gives them.
 pub mod access;
 pub mod alerts;
+pub mod edition;
 mod hex;
 pub mod line;
 pub mod lines;
 pub mod wires;
 mod word;
+
+/// Is it the first line of a text, good or bad?
+pub fn begins(line: &str) -> bool {
+    matches!(word::split(line).next(), Some("edition" | "alerts"))
+}

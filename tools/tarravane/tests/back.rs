@@ -2,9 +2,10 @@
 mod common;
 
 use common::random;
+use common::records::{all_at, apart, off_rest, record, record_24, record_70, start, REST};
 use common::round::{goes_round, text_of, trace_of};
-use common::{example, given, record, refused, REST};
-use handler::RECORD;
+use common::{example, given, refused};
+use handler::{Edition, Wires};
 use harness::rng::Rng;
 use std::fs;
 
@@ -12,14 +13,15 @@ use std::fs;
 fn the_words_of_each_record() {
     let bytes = [
         vec![2],
-        record(2, 321, 0x393F, (0b1000_0100 << 56, u64::MAX >> 1)),
-        record(1, 256, 0, REST),
-        record(0, 0, 0, (0xF << 60, u64::MAX >> 4)),
-        record(1, 1023, 0, (1, u64::MAX)),
-        record(2, 333, 0xFFFF_FFFF, (0, 0)),
+        record_24(2, 321, 0x393F, (0b1000_0100 << 56, u64::MAX >> 1)),
+        record_24(1, 256, 0, REST),
+        record_24(0, 0, 0, (0xF << 60, u64::MAX >> 4)),
+        record_24(1, 1023, 0, (1, u64::MAX)),
+        record_24(2, 333, 0xFFFF_FFFF, (0, 0)),
     ]
     .concat();
     let text = "\
+edition 24
 alerts 2
 write CLASSA_CTRL 0x393f wires 0=10 5=11
 read ALERT0_CAUSE
@@ -28,82 +30,123 @@ read 1023 wires 63=11
 write 333 4294967295 wires 0-63=00
 ";
     assert_eq!(text_of(&bytes), text);
-    assert_eq!(text_of(&[64]), "alerts 64\n");
+    assert_eq!(text_of(&[64]), "edition 24\nalerts 64\n");
+}
+
+#[test]
+fn the_words_of_each_record_of_70_bytes() {
+    let bytes = [
+        vec![255, 248],
+        record_70(2, 1281, 0x393F, off_rest(&[(0, 0b10), (247, 0b11)])),
+        record_70(1, 1024 + 247, 0, Wires::REST),
+        record_70(0, 0, 0, off_rest(&[(63, 0b10), (64, 0b10), (128, 0b00)])),
+        record_70(1, 2047, 0, all_at(Edition::Bytes70, 0b00)),
+        record_70(2, 321, 1, Wires::REST),
+    ]
+    .concat();
+    let text = "\
+edition 70
+alerts 248
+write CLASSA_CTRL 0x393f wires 0=10 247=11
+read ALERT247_CAUSE
+none wires 63-64=10 128=00
+read 2047 wires 0-247=00
+write ALERT65_REGWEN 1
+";
+    assert_eq!(text_of(&bytes), text);
+    assert_eq!(text_of(&[255, 64]), "edition 70\nalerts 64\n");
 }
 
 #[test]
 fn examples_go_round() {
-    for name in ["broken-seal", "handled-in-time", "refused-accesses"] {
+    for name in [
+        "broken-seal",
+        "handled-in-time",
+        "refused-accesses",
+        "far-alert",
+    ] {
         goes_round(&fs::read(example(&format!("{name}.trace"))).expect("the example"));
     }
-    let text = fs::read_to_string(example("broken-seal.txt")).expect("the example");
-    let canonical: String = text
-        .lines()
-        .map(|line| line.split('#').next().unwrap_or(line).trim())
-        .filter(|line| !line.is_empty())
-        .map(|line| format!("{line}\n"))
-        .collect();
-    assert_eq!(text_of(&trace_of(&text, 0)), canonical);
+    for name in ["broken-seal", "far-alert"] {
+        let text = fs::read_to_string(example(&format!("{name}.txt"))).expect("the example");
+        let canonical: String = text
+            .lines()
+            .map(|line| line.split('#').next().unwrap_or(line).trim())
+            .filter(|line| !line.is_empty())
+            .map(|line| format!("{line}\n"))
+            .collect();
+        assert_eq!(text_of(&trace_of(&text, 0)), canonical);
+    }
 }
 
 #[test]
 fn random_traces_go_round() {
     let mut rng = Rng::new(2);
-    for _ in 0..60 {
-        let bytes = random::trace(&mut rng);
-        let text = text_of(&bytes);
-        assert_eq!(text.lines().count(), 1 + bytes.len() / RECORD);
-        assert!(!text.contains("raw") && !text.contains("cut"));
-        assert_eq!(trace_of(&text, 0), bytes);
+    for edition in Edition::ALL {
+        for _ in 0..60 {
+            let bytes = random::trace(&mut rng, edition);
+            let text = text_of(&bytes);
+            assert_eq!(text.lines().count(), 2 + bytes.len() / edition.bytes());
+            assert!(!text.contains("raw") && !text.contains("cut"));
+            assert_eq!(trace_of(&text, 0), bytes);
+        }
     }
 }
 
 /// Every register that a record has room for, read and written.
 #[test]
 fn every_register_goes_round() {
-    let mut bytes = vec![64];
-    for register in 0..1024 {
-        bytes.extend(record(1, register, 0, REST));
-        bytes.extend(record(2, register, register << 20, REST));
+    for (edition, registers) in [(Edition::Bytes24, 1024), (Edition::Bytes70, 2048)] {
+        let mut bytes = start(edition, edition.alerts() as u8);
+        for register in 0..registers {
+            bytes.extend(record(edition, 1, register, 0, Wires::REST));
+            bytes.extend(record(edition, 2, register, register << 20, Wires::REST));
+        }
+        assert_eq!(given("record", &["-"], text_of(&bytes).as_bytes()), bytes);
     }
-    assert_eq!(given("record", &["-"], text_of(&bytes).as_bytes()), bytes);
 }
 
 #[test]
 fn a_text_is_no_trace() {
-    let said = refused("record", &["--back", "-"], b"# a seal\nalerts 2\nnone\n");
-    assert_eq!(
-        said,
-        "-: this is a text: ./tarravane record makes a trace of it"
-    );
+    for text in ["# a seal\nalerts 2\nnone\n", "edition 24\nalerts 2\n"] {
+        let said = refused("record", &["--back", "-"], text.as_bytes());
+        assert_eq!(
+            said,
+            "-: this is a text: ./tarravane record makes a trace of it"
+        );
+    }
 }
 
 /// A row of explain has the line of the text, after the tick's number: for wires that have room, and any in wide rows.
 #[test]
 fn explain_says_the_words_of_the_text() {
-    let wires = [REST, (1 << 63, u64::MAX >> 1), (0b111 << 40, u64::MAX)];
-    explain_has_text(&["-"], wires);
-    let apart = [
-        REST,
-        (0xAAAA_AAAA_AAAA_AAAA, 0),
-        (u64::MAX, 0x1234_5678 << 20),
-    ];
-    explain_has_text(&["-", "--wide"], apart);
+    for edition in Edition::ALL {
+        let last = edition.alerts() - 1;
+        let few = [
+            Wires::REST,
+            off_rest(&[(0, 0b10)]),
+            off_rest(&[(last - 1, 0b11), (last, 0b11)]),
+        ];
+        explain_has_text(edition, &["-"], few);
+        let many = [Wires::REST, apart(edition, 0b10), apart(edition, 0b00)];
+        explain_has_text(edition, &["-", "--wide"], many);
+    }
 }
 
-fn explain_has_text(words: &[&str], wires: [(u64, u64); 3]) {
-    let mut bytes = vec![64];
-    for register in 0..1024 {
-        bytes.extend(record(1, register, 0, wires[register as usize % 3]));
+fn explain_has_text(edition: Edition, words: &[&str], wires: [Wires; 3]) {
+    let mut bytes = start(edition, edition.alerts() as u8);
+    for register in 0..1 << edition.register_bits() {
+        let wires = wires[register as usize % 3];
+        bytes.extend(record(edition, 1, register, 0, wires));
         // A write that is refused: nothing is counted, and the rows have room.
-        bytes.extend(record(2, register, 0xFFFF_FFFF, REST));
-        bytes.extend(record(0, 0, 0, wires[register as usize % 3]));
+        bytes.extend(record(edition, 2, register, 0xFFFF_FFFF, Wires::REST));
+        bytes.extend(record(edition, 0, 0, 0, wires));
     }
     let text = text_of(&bytes);
     let rows = String::from_utf8(given("explain", words, &bytes)).expect("text");
     let rows: Vec<&str> = rows.lines().skip(2).collect();
-    assert_eq!(rows.len(), text.lines().count() - 1);
-    for (number, (row, line)) in (1..).zip(rows.into_iter().zip(text.lines().skip(1))) {
+    assert_eq!(rows.len(), text.lines().count() - 2);
+    for (number, (row, line)) in (1..).zip(rows.into_iter().zip(text.lines().skip(2))) {
         // A space after it in columns, a colon where the row left them.
         let rest = row.strip_prefix(&format!("{number:>6} {line}"));
         let parted = rest.is_some_and(|rest| rest.starts_with([' ', ':']));

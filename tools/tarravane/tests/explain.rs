@@ -1,7 +1,10 @@
 //! `explain` as a technician runs it.
 mod common;
 
-use common::{ended, example, explained, given, record, refused, REST};
+use common::records::{all_at, off_rest, record, record_24, start, REST};
+use common::{ended, example, explained, given, refused};
+use handler::registers::{Field, Setting};
+use handler::{Edition, Wires};
 
 /// The rows of a run that goes well, without the two lines above them.
 fn rows(words: &[&str], input: &[u8]) -> Vec<String> {
@@ -86,7 +89,7 @@ fn a_range_past_the_end_is_told() {
         assert_eq!(String::from_utf8_lossy(&rows).lines().count(), 2);
         assert_eq!(said, [why]);
     }
-    let one = [vec![1], record(0, 0, 0, REST)].concat();
+    let one = [vec![1], record_24(0, 0, 0, REST)].concat();
     for (bytes, why) in [
         (&one[..], "--from 2: the trace has only 1 tick"),
         (&[1], "--from 2: the trace has only 0 ticks"),
@@ -109,31 +112,33 @@ fn only_changes() {
 /// Every lock that falls is a change; a lock that has fallen and a 1 that is written to one that has not are none.
 #[test]
 fn each_lock_is_a_change() {
-    let locals = 16..=22;
-    let alerts = 64..=127;
-    let classes = (0..4).flat_map(|k| [320 + 16 * k, 322 + 16 * k]);
-    for register in locals.chain(alerts).chain(classes) {
-        let bytes = [
-            vec![64],
-            record(2, register, 1, REST),
-            record(2, register, 0, REST),
-            record(2, register, 0, REST),
-            record(1, register, 0, REST),
-        ]
-        .concat();
-        let rows = rows(&["--only-changes", "-"], &bytes);
-        assert_eq!(numbers(&rows), [2], "register {register}");
+    for edition in Edition::ALL {
+        let map = edition.registers();
+        let locals = (0..7).map(|j| map.local(Field::Regwen, j));
+        let alerts = [0, 1, 31, 63, 64, 191, 247].into_iter();
+        let alerts = alerts.filter(|i| *i < map.alerts);
+        let classes = (0..4)
+            .flat_map(|k| [Setting::Regwen, Setting::ClrRegwen].map(|lock| map.class(k, lock)));
+        let alerts = alerts.map(|i| map.alert(Field::Regwen, i));
+        for register in locals.chain(alerts).chain(classes) {
+            let one = |kind, value| record(edition, kind, register.into(), value, Wires::REST);
+            let records = [one(2, 1), one(2, 0), one(2, 0), one(1, 0)].concat();
+            let bytes = [start(edition, map.alerts as u8), records].concat();
+            let rows = rows(&["--only-changes", "-"], &bytes);
+            assert_eq!(numbers(&rows), [2], "register {register}");
+        }
     }
 }
 
 #[test]
 fn standard_input() {
     let mut bytes = vec![1];
-    bytes.extend(record(1, 321, 0, REST));
+    bytes.extend(record_24(1, 321, 0, REST));
     let one = rows(&["-"], &bytes);
     assert_eq!(one.len(), 1);
     assert!(one[0].contains("read CLASSA_CTRL") && one[0].contains("0x393c"));
     assert!(rows(&["-"], &[64]).is_empty());
+    assert!(rows(&["-"], &[255, 248]).is_empty());
 }
 
 #[test]
@@ -172,87 +177,96 @@ fn a_text_is_no_trace() {
     let said = refused("explain", &["-"], b"alerts 2\nnone\n");
     assert_eq!(said, format!("-: {why}"));
     // 35 is #, and a trace of 35 alerts is one.
-    let trace = [vec![35], record(1, 321, 0, REST)].concat();
+    let trace = [vec![35], record_24(1, 321, 0, REST)].concat();
     assert_eq!(rows(&["-"], &trace).len(), 1);
 }
 
-/// All 64 alerts at once, in every class, with long counts: each row fits, and the causes that do not are counted.
+/// All alerts at once, in every class, with long counts: each row fits, and the causes that do not are counted.
 #[test]
 fn a_crowded_tick_fits() {
-    let mut bytes = vec![64];
-    for i in 0..64 {
-        bytes.extend(record(2, 128 + i, 1, REST));
-        bytes.extend(record(2, 192 + i, i % 4, REST));
+    for edition in Edition::ALL {
+        let map = edition.registers();
+        let alerts = map.alerts;
+        let write =
+            |register: u16, value: u64, wires| record(edition, 2, register.into(), value, wires);
+        let mut bytes = start(edition, alerts as u8);
+        for i in 0..alerts {
+            bytes.extend(write(map.alert(Field::En, i), 1, Wires::REST));
+            bytes.extend(write(map.alert(Field::Class, i), i as u64 % 4, Wires::REST));
+        }
+        for k in 0..4 {
+            let long = u64::from(u32::MAX);
+            bytes.extend(write(map.class(k, Setting::Phase0Cyc), long, Wires::REST));
+            bytes.extend(write(map.class(k, Setting::Ctrl), 0x393F, Wires::REST));
+        }
+        let [thresh, count] = [Setting::AccumThresh, Setting::EscCnt].map(|s| map.class(0, s));
+        let raised = write(thresh, u64::from(u32::MAX), all_at(edition, 0b10));
+        let read = record(edition, 1, count.into(), 0, Wires::REST);
+        bytes.extend([raised, read].concat().repeat(11_000));
+        let (rows, first) = (rows(&["-"], &bytes), 2 * alerts + 8);
+        assert_eq!(rows.len(), first + 22_000);
+        assert!(rows[first].contains(" +"), "{}", rows[first]);
+        let last = &rows[first + 21_999];
+        assert!(last.contains("Ph0 22000/11000"), "{last}");
     }
-    for k in 0..4 {
-        bytes.extend(record(2, 327 + 16 * k, u64::from(u32::MAX), REST));
-        bytes.extend(record(2, 321 + 16 * k, 0x393F, REST));
-    }
-    for _ in 0..11_000 {
-        bytes.extend(record(2, 325, u64::from(u32::MAX), (u64::MAX, 0)));
-        bytes.extend(record(1, 331, 0, REST));
-    }
-    let rows = rows(&["-"], &bytes);
-    assert_eq!(rows.len(), 136 + 22_000);
-    assert!(rows[136].contains(" +"), "{}", rows[136]);
-    assert!(rows[22_135].contains("Ph0 22000/11000"), "{}", rows[22_135]);
 }
 
 /// Wires that have no room are counted: first beside whole words, then in short form.
 #[test]
 fn wires_that_do_not_fit_are_counted() {
-    let apart = (0xAAAA_AAAA_AAAA_AAAA, 0);
-    let mut bytes = vec![64];
-    bytes.extend(record(1, 321, 0, (1 << 63, u64::MAX)));
-    bytes.extend(record(1, 321, 0, apart));
-    for k in 0..4 {
-        bytes.extend(record(2, 326 + 16 * k, u64::from(u32::MAX), apart));
-        bytes.extend(record(2, 321 + 16 * k, 0x393F, apart));
+    for edition in Edition::ALL {
+        let (map, all) = (edition.registers(), edition.alerts());
+        let ctrl = u64::from(map.class(0, Setting::Ctrl));
+        // No two neighbours are at the same levels, and none is at rest.
+        let levels: Vec<(usize, u8)> = (0..all).map(|i| (i, [0b10, 0b00][i % 2])).collect();
+        let crowd = off_rest(&levels);
+        let write = |register: u16, value: u64| record(edition, 2, register.into(), value, crowd);
+        let mut bytes = start(edition, all as u8);
+        bytes.extend(record(edition, 1, ctrl, 0, off_rest(&[(all - 1, 0b11)])));
+        bytes.extend(record(edition, 1, ctrl, 0, crowd));
+        for k in 0..4 {
+            let long = u64::from(u32::MAX);
+            bytes.extend(write(map.class(k, Setting::TimeoutCyc), long));
+            bytes.extend(write(map.class(k, Setting::Ctrl), 0x393F));
+        }
+        bytes.extend(write(2, 15));
+        let thresh = map.class(3, Setting::AccumThresh);
+        bytes.extend(write(thresh, u64::from(u32::MAX)).repeat(20_000));
+        let rows = rows(&["-"], &bytes);
+        for (row, said) in [
+            (&rows[0], format!(" read CLASSA_CTRL wires {}=11 ", all - 1)),
+            (&rows[1], format!(" read CLASSA_CTRL wires ~{all} ")),
+            (
+                &rows[rows.len() - 1],
+                format!(" w CLASSD_ACCUM_THRESH 4294967295 ~{all}: too wide "),
+            ),
+            (&rows[rows.len() - 1], " To 20k/0 ".to_string()),
+        ] {
+            assert!(row.contains(&said), "{row}");
+        }
     }
-    bytes.extend(record(2, 2, 15, apart));
-    bytes.extend(record(2, 373, u64::from(u32::MAX), apart).repeat(20_000));
-    let rows = rows(&["-"], &bytes);
-    assert!(
-        rows[0].contains(" read CLASSA_CTRL wires 0=11 "),
-        "{}",
-        rows[0]
-    );
-    assert!(
-        rows[1].contains(" read CLASSA_CTRL wires ~64 "),
-        "{}",
-        rows[1]
-    );
-    let last = &rows[rows.len() - 1];
-    assert!(
-        last.contains(" w CLASSD_ACCUM_THRESH 4294967295 ~64: too wide "),
-        "{last}"
-    );
-    assert!(last.contains(" To 20k/0 "), "{last}");
+}
+
+/// Any way to ask gives the same text, which has these words and not the other command's.
+fn helps(command: &str, own: &[&str], other: &str) {
+    for words in [&["--help"][..], &["-h"], &["missing", "--help"]] {
+        let text = String::from_utf8(given(command, words, &[])).expect("text");
+        assert!(text.starts_with(&format!("usage: ./tarravane {command} ")));
+        assert!(text.contains("Exit status:") && !text.contains("tarravane-cli"));
+        own.iter()
+            .for_each(|word| assert!(text.contains(word), "{word}"));
+        assert!(!text.contains(other));
+    }
 }
 
 #[test]
 fn each_command_has_its_own_help() {
-    for (command, own, other) in [
-        (
-            "explain",
-            &["--from", "--to", "--only-changes", "--wide", "--summary"][..],
-            "--back",
-        ),
-        (
-            "record",
-            &["--back", "-o", "raw HEX", "cut HEX"],
-            "--only-changes",
-        ),
-    ] {
-        for words in [&["--help"][..], &["-h"], &["missing", "--help"]] {
-            let text = String::from_utf8(given(command, words, &[])).expect("text");
-            assert!(text.starts_with(&format!("usage: ./tarravane {command} ")));
-            assert!(text.contains("Exit status:") && !text.contains("tarravane-cli"));
-            own.iter()
-                .for_each(|word| assert!(text.contains(word), "{word}"));
-            assert!(!text.contains(other));
-        }
-    }
+    let options = ["--from", "--to", "--only-changes", "--wide", "--summary"];
+    helps("explain", &options, "--back");
+    let editions = ["records of 70 bytes", "records of 24 bytes"];
+    helps("explain", &editions, "-o TRACE");
+    helps("record", &["--back", "-o", "raw HEX", "cut HEX"], "--wide");
+    helps("record", &["edition 24", "edition 70"], "--only-changes");
     let help = String::from_utf8(given("explain", &["--help"], &[])).expect("text");
     let order = "The answer is given before the tick's events;";
     assert!(help.contains(order));

@@ -2,7 +2,7 @@
 mod common;
 
 use common::{given, repository};
-use handler::RECORD;
+use handler::Edition;
 use std::fs;
 
 fn readme() -> String {
@@ -45,5 +45,5 @@ fn record_takes_the_text_that_readme_shows() {
     let text = block("## Write a trace by hand");
     let ticks = text.lines().filter(|line| !line.starts_with('#')).count() - 1;
     let trace = given("record", &["-"], text.as_bytes());
-    assert_eq!(trace.len(), 1 + RECORD * ticks);
+    assert_eq!(trace.len(), 2 + Edition::NEWEST.bytes() * ticks);
 }

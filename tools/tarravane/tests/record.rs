@@ -2,8 +2,9 @@
 mod common;
 
 use common::folder::Folder;
-use common::{ended, example, given, record, refused, said_of, REST};
-use handler::RECORD;
+use common::records::{all_at, off_rest, record, record_70};
+use common::{ended, example, given, refused, said_of};
+use handler::{Edition, Wires};
 use std::fs;
 
 fn trace_of(text: &str) -> Vec<u8> {
@@ -16,40 +17,47 @@ fn said_of_line(line: &str) -> String {
 }
 
 #[test]
-fn the_example_text_gives_the_example_trace() {
-    let trace = fs::read(example("broken-seal.trace")).expect("the example");
-    assert_eq!(given("record", &[&example("broken-seal.txt")], &[]), trace);
+fn the_example_texts_give_the_example_traces() {
+    for name in ["broken-seal", "far-alert"] {
+        let [text, trace] = ["txt", "trace"].map(|end| example(&format!("{name}.{end}")));
+        let trace = fs::read(trace).expect("the example");
+        assert_eq!(given("record", &[&text], &[]), trace);
+    }
 }
 
+/// Without its edition a text is of the newest.
 #[test]
 fn each_line_is_a_record() {
     let text = "
         # a comment, and a blank line
 
-        alerts 64  # N
-        write CLASSA_CTRL 0x393f wires 0=10 5=11
-        read ALERT0_CAUSE
+        alerts 248  # N
+        write CLASSA_CTRL 0x393f wires 0=10 5=11 247=00
+        read ALERT247_CAUSE
         none wires 0-3=10
-        read 1023#at once
-        write 0 4294967295 wires 63=00
+        read 2047#at once
+        write 0 4294967295 wires 0-247=00
     ";
-    let top = |alert: u64| 1 << (63 - alert);
+    let range: Vec<(usize, u8)> = (0..=3).map(|i| (i, 0b10)).collect();
+    let some = off_rest(&[(0, 0b10), (5, 0b11), (247, 0b00)]);
     let wanted = [
-        vec![64],
-        record(2, 321, 0x393F, (top(0) | top(5), !top(0))),
-        record(1, 256, 0, REST),
-        record(0, 0, 0, (0xF << 60, u64::MAX >> 4)),
-        record(1, 1023, 0, REST),
-        record(2, 0, 0xFFFF_FFFF, (0, !1)),
+        vec![255, 248],
+        record_70(2, 1281, 0x393F, some),
+        record_70(1, 1271, 0, Wires::REST),
+        record_70(0, 0, 0, off_rest(&range)),
+        record_70(1, 2047, 0, Wires::REST),
+        record_70(2, 0, 0xFFFF_FFFF, all_at(Edition::Bytes70, 0b00)),
     ]
     .concat();
     assert_eq!(trace_of(text), wanted);
+    assert_eq!(trace_of(&format!("edition 70\n{text}")), wanted);
 }
 
 #[test]
 fn no_ticks_are_a_trace_too() {
-    assert_eq!(trace_of("alerts 64"), [64]);
-    assert_eq!(trace_of("alerts 1\n\n# nothing\n"), [1]);
+    assert_eq!(trace_of("alerts 248"), [255, 248]);
+    assert_eq!(trace_of("alerts 1\n\n# nothing\n"), [255, 1]);
+    assert_eq!(trace_of("edition 24\nalerts 64"), [64]);
 }
 
 #[test]
@@ -59,7 +67,7 @@ fn line_ends_and_spaces_make_no_difference() {
         "alerts 2\r\nread CLASSA_STATE wires 1=11\r\nnone\r\n",
         "alerts 2\nread CLASSA_STATE wires 1=11\nnone",
         "\u{FEFF}alerts 2\r\n\r\nread\tCLASSA_STATE   wires 1=11 \r\nnone\r",
-        "alerts 2#\r\nread 332 wires 1=11# \u{e9}\0\r\nnone #",
+        "alerts 2#\r\nread 1292 wires 1=11# \u{e9}\0\r\nnone #",
     ] {
         assert_eq!(trace_of(text), wanted, "{text:?}");
     }
@@ -69,39 +77,51 @@ fn line_ends_and_spaces_make_no_difference() {
 
 #[test]
 fn a_bad_first_line_is_told() {
-    let number = "alerts wants a number: 1 to 64, or another byte for a trace that is refused";
-    assert_eq!(
-        said_of("\nnone"),
-        "line 2: a text begins with alerts N, not with none"
-    );
-    assert_eq!(said_of("alerts"), format!("line 1: {number}"));
-    assert_eq!(
-        said_of("\n\nalerts 256"),
-        format!("line 3: {number}, not 256")
-    );
-    assert_eq!(said_of("alerts two"), format!("line 1: {number}, not two"));
-    assert_eq!(said_of("alerts 2 none"), "line 1: unexpected: none");
+    let number = "alerts wants a number: 1 to 248, or another byte for a trace that is refused";
+    for (text, problem) in [
+        (
+            "\nnone",
+            "line 2: a text begins with alerts N, not with none".to_string(),
+        ),
+        ("alerts", format!("line 1: {number}")),
+        ("\n\nalerts 256", format!("line 3: {number}, not 256")),
+        ("alerts two", format!("line 1: {number}, not two")),
+        ("alerts 2 none", "line 1: unexpected: none".to_string()),
+    ] {
+        assert_eq!(said_of(text), problem);
+    }
     let trace = fs::read(example("broken-seal.trace")).expect("the example");
     assert_eq!(said_of(trace), "line 1: not UTF-8 text: byte 0x88");
+    let trace = fs::read(example("far-alert.trace")).expect("the example");
+    assert_eq!(said_of(trace), "line 1: not UTF-8 text: byte 0xff");
 }
 
 /// What counts for nothing is written, and warned of.
 #[test]
 fn alerts_at_n_and_above_are_warned_of() {
-    let text =
-        "alerts 2\nnone wires 1=10 5=01\nread ALERT2_EN wires 2-9=11\nwrite 319 1\nread 1023\n";
-    let (trace, said) = ended("record", &["-"], text.as_bytes(), 0);
-    assert_eq!(trace.len(), 1 + 4 * RECORD);
-    assert_eq!(
-        said,
-        [
-            "line 3: alerts is 2: ALERT2_EN is no register, the wires of alert 2 count for nothing",
-            "line 4: alerts is 2: ALERT63_CAUSE is no register",
-        ]
-    );
-    let many = format!("alerts 63\n{}", "none wires 63=00\n".repeat(14));
+    for (edition, last, register) in [(Edition::Bytes24, 63, 319), (Edition::Bytes70, 247, 1271)] {
+        let bytes = edition.bytes();
+        let text = format!(
+            "edition {bytes}\nalerts 2\nnone wires 1=10 5=01\nread ALERT2_EN wires 2-9=11\nwrite {register} 1\nread 1023\n"
+        );
+        let (trace, said) = ended("record", &["-"], text.as_bytes(), 0);
+        assert_eq!(trace.len() / bytes, 4);
+        assert_eq!(
+            said,
+            [
+                "line 4: alerts is 2: ALERT2_EN is no register, the wires of alert 2 count for nothing"
+                    .to_string(),
+                format!("line 5: alerts is 2: ALERT{last}_CAUSE is no register"),
+            ]
+        );
+    }
+    let many = format!("alerts 247\n{}", "none wires 247=00\n".repeat(14));
     let (_, said) = ended("record", &["-"], many.as_bytes(), 0);
     assert_eq!(said.len(), 11);
+    assert_eq!(
+        said[9],
+        "line 11: alerts is 247: the wires of alert 247 count for nothing"
+    );
     assert_eq!(said[10], "4 more lines of such alerts");
 }
 
@@ -134,8 +154,8 @@ fn a_bad_line_is_told_by_its_number() {
             "no such register: CLASSA_CTL".to_string(),
         ),
         (
-            "read ALERT64_EN",
-            "no such register: ALERT64_EN".to_string(),
+            "read ALERT248_EN",
+            "no such register: ALERT248_EN".to_string(),
         ),
         ("read 65536", "no such register: 65536".to_string()),
         ("read -1", "no such register: -1".to_string()),
@@ -143,7 +163,7 @@ fn a_bad_line_is_told_by_its_number() {
             "read CLASSA\0CTRL",
             "no such register: CLASSA\\0CTRL".to_string(),
         ),
-        ("read 1024", "no record holds register 1024".to_string()),
+        ("read 2048", "no record holds register 2048".to_string()),
         (
             "write 65535 1",
             "no record holds register 65535".to_string(),
@@ -166,7 +186,10 @@ fn a_bad_line_is_told_by_its_number() {
             "none wires 0\u{2013}3=10",
             format!("{pair} is wanted, not 0\u{2013}3=10"),
         ),
-        ("none wires 64=10", "no such alert, 0 to 63: 64".to_string()),
+        (
+            "none wires 248=10",
+            "no such alert, 0 to 247: 248".to_string(),
+        ),
         ("none wires 3-1=10", "the range falls: 3-1=10".to_string()),
         (
             "none wires 0-5=10 3=11",
@@ -179,12 +202,12 @@ fn a_bad_line_is_told_by_its_number() {
 
 #[test]
 fn the_first_bad_line_is_the_one_that_is_told() {
-    let text = "alerts 1\nnone\nread 1024\nread X\nread 1025\n";
-    assert_eq!(said_of(text), "line 3: no record holds register 1024");
-    let text = "alerts 1\nnone\nread X\nread 1024\n";
+    let text = "alerts 1\nnone\nread 2048\nread X\nread 2049\n";
+    assert_eq!(said_of(text), "line 3: no record holds register 2048");
+    let text = "alerts 1\nnone\nread X\nread 2048\n";
     assert_eq!(said_of(text), "line 3: no such register: X");
-    let text = b"alerts 1\nread 1024\n\xFF\n";
-    assert_eq!(said_of(text), "line 2: no record holds register 1024");
+    let text = b"alerts 1\nread 2048\n\xFF\n";
+    assert_eq!(said_of(text), "line 2: no record holds register 2048");
 }
 
 #[test]
@@ -203,43 +226,47 @@ fn bytes_that_are_no_text_are_told() {
     let long = [&b"alerts 1\nnone "[..], &[b'x'; 10_000_000]].concat();
     assert_eq!(said_of(long), "line 2: longer than 4096 bytes");
     let comment = [&b"alerts 1\nnone #"[..], &[b'x'; 10_000_000]].concat();
-    assert_eq!(given("record", &["-"], &comment).len(), 25);
+    assert_eq!(given("record", &["-"], &comment).len(), 2 + 70);
 }
 
 /// More ticks than the writer is asked for at once; a bad one among them is found by its line.
 #[test]
 fn a_long_text() {
-    let line = |i: usize| format!("write {} {i} wires {}=10\n", i % 1024, i % 64);
-    let lines: Vec<String> = (0..20_000).map(line).collect();
-    let wanted: Vec<u8> = (0..20_000)
-        .flat_map(|i| {
-            let one = 1 << (63 - i % 64);
-            record(2, i % 1024, i, (one, !one))
-        })
-        .collect();
-    let text = format!("alerts 64\n{}", lines.concat());
-    assert_eq!(trace_of(&text)[1..], wanted);
-    let mut bad = lines;
-    bad[12_345] = "\nread 2000\n".to_string();
-    let text = format!("alerts 64\n{}", bad.concat());
-    assert_eq!(said_of(text), "line 12348: no record holds register 2000");
+    for (head, start, registers, alerts) in [
+        ("edition 24\nalerts 64\n", &[64][..], 1024, 64),
+        ("edition 70\nalerts 248\n", &[255, 248], 2048, 248),
+    ] {
+        let line = |i: usize| format!("write {} {i} wires {}=10\n", i % registers, i % alerts);
+        let lines: Vec<String> = (0..20_000).map(line).collect();
+        let records = (0..20_000).map(|i| {
+            let (wires, value) = (off_rest(&[(i % alerts, 0b10)]), i as u64);
+            let edition = Edition::of(start[0]);
+            record(edition, 2, (i % registers) as u64, value, wires)
+        });
+        let wanted: Vec<u8> = start.iter().copied().chain(records.flatten()).collect();
+        assert_eq!(trace_of(&format!("{head}{}", lines.concat())), wanted);
+        let mut bad = lines;
+        bad[12_345] = format!("\nread {registers}\n");
+        let problem = format!("line 12349: no record holds register {registers}");
+        assert_eq!(said_of(format!("{head}{}", bad.concat())), problem);
+    }
 }
 
 #[test]
 fn a_file_is_there_whole_or_not_at_all() {
     let folder = Folder::new("whole");
     let (text, trace) = (folder.path("a.txt"), folder.path("a.trace"));
-    fs::write(&text, "alerts 1\nread 1024\n").expect("a text");
+    fs::write(&text, "alerts 1\nread 2048\n").expect("a text");
     refused("record", &[&text, "-o", &trace], &[]);
     assert_eq!(folder.names(), ["a.txt"]);
     fs::write(&text, "alerts 1\nnone\n").expect("a text");
     assert!(given("record", &[&text, "-o", &trace], &[]).is_empty());
-    let whole = [vec![1], record(0, 0, 0, REST)].concat();
+    let whole = [vec![255, 1], record_70(0, 0, 0, Wires::REST)].concat();
     assert_eq!(fs::read(&trace).expect("the trace"), whole);
     refused("record", &["-", "-o", &trace], b"alerts 2\nnome\n");
     assert_eq!(fs::read(&trace).expect("the trace"), whole);
     given("record", &["-", "-o", &trace], b"alerts 2");
-    assert_eq!(fs::read(&trace).expect("the trace"), [2]);
+    assert_eq!(fs::read(&trace).expect("the trace"), [255, 2]);
     assert_eq!(folder.names(), ["a.trace", "a.txt"]);
 }
 

@@ -2,7 +2,10 @@
 mod common;
 
 use common::folder::Folder;
-use common::{ended, example, program, record, run, REST};
+use common::records::{record, record_24, record_70, start, REST};
+use common::{ended, example, program, run};
+use handler::registers::Setting;
+use handler::{Edition, Wires};
 use std::fs::{self, File, OpenOptions};
 use std::io::{BufRead, BufReader};
 use std::process::{Command, Stdio};
@@ -23,8 +26,12 @@ fn last_line(written: &[u8]) -> String {
 
 #[test]
 fn a_whole_trace_is_0() {
-    let malformed = record(3, 0, 0, REST);
-    for bytes in [vec![1], [vec![64], malformed].concat()] {
+    for bytes in [
+        vec![1],
+        [vec![64], record_24(3, 0, 0, REST)].concat(),
+        vec![255, 1],
+        [vec![255, 248], record_70(3, 0, 0, Wires::REST)].concat(),
+    ] {
         for (command, words) in READERS {
             let (_, said) = ended(command, words, &bytes, 0);
             assert!(said.is_empty(), "{said:?}");
@@ -35,28 +42,44 @@ fn a_whole_trace_is_0() {
 /// Explain says it on standard output, at its end; the text of record --back is no place for it.
 #[test]
 fn a_cut_trace_is_1() {
-    let bytes = [vec![1], record(1, 321, 0, REST), vec![0; 5]].concat();
-    let why = "cut: the last 5 bytes, after tick 1, make no whole record";
-    for (command, words) in READERS {
-        let (written, said) = ended(command, words, &bytes, 1);
-        match command {
-            "explain" => assert_eq!((&last_line(&written)[..], said), (why, vec![])),
-            _ => assert_eq!(said, [why]),
+    let why = "cut: 5 bytes after tick 1, too few for a record";
+    for edition in Edition::ALL {
+        let ctrl = edition.registers().class(0, Setting::Ctrl);
+        let read = record(edition, 1, ctrl.into(), 0, Wires::REST);
+        let bytes = [start(edition, 1), read, vec![0; 5]].concat();
+        for (command, words) in READERS {
+            let (written, said) = ended(command, words, &bytes, 1);
+            match command {
+                "explain" => assert_eq!((&last_line(&written)[..], said), (why, vec![])),
+                _ => assert_eq!(said, [why]),
+            }
         }
+        // What is not read is not judged.
+        ended("explain", &["-", "--to", "1"], &bytes, 0);
     }
-    // What is not read is not judged.
-    ended("explain", &["-", "--to", "1"], &bytes, 0);
 }
 
 #[test]
 fn a_refused_n_is_1() {
-    let asks = |n| format!("refused: the trace asks for {n} alerts: a handler is made for 1 to 64");
+    let asks = |n, bytes, most| {
+        format!(
+            "refused: the trace asks for {n} alerts: records of {bytes} bytes are for 1 to {most}"
+        )
+    };
     let empty = "refused: the trace is empty: it begins with the number of alerts";
+    let ends = "refused: the trace ends after 255: the number of alerts comes next";
     for (bytes, why) in [
         (vec![], empty.to_string()),
-        (vec![0], asks(0)),
-        ([vec![65], record(0, 0, 0, REST)].concat(), asks(65)),
-        (vec![255; 30], asks(255)),
+        (vec![0], asks(0, 24, 64)),
+        (
+            [vec![65], record_24(0, 0, 0, REST)].concat(),
+            asks(65, 24, 64),
+        ),
+        (vec![254; 25], asks(254, 24, 64)),
+        (vec![255], ends.to_string()),
+        (vec![255, 0], asks(0, 70, 248)),
+        (vec![255, 249], asks(249, 70, 248)),
+        (vec![255; 72], asks(255, 70, 248)),
     ] {
         for (command, words) in READERS {
             let (written, said) = ended(command, words, &bytes, 1);
@@ -137,7 +160,7 @@ fn a_full_standard_error_changes_nothing() {
 fn a_reader_that_goes_away_is_no_fault() {
     let folder = Folder::new("long");
     let name = folder.path("a.trace");
-    let bytes = [vec![1], record(1, 321, 0, REST).repeat(20_000)].concat();
+    let bytes = [vec![1], record_24(1, 321, 0, REST).repeat(20_000)].concat();
     fs::write(&name, bytes).expect("a trace");
     for (command, words) in [
         ("explain", &[&name[..]][..]),
@@ -171,5 +194,5 @@ fn rows_before_a_cut_stay() {
             .collect::<Vec<_>>()
     };
     assert_eq!(rows(&all), rows(&cut));
-    assert!(cut.ends_with("cut: the last 23 bytes, after tick 25, make no whole record\n"));
+    assert!(cut.ends_with("cut: 23 bytes after tick 25, too few for a record\n"));
 }

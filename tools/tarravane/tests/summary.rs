@@ -3,10 +3,16 @@ mod common;
 
 use common::{example, explained, given};
 
-/// The summary of a text's trace.
+/// The summary of a text's trace: the same in both editions, but for the title.
 fn summary(text: &str) -> Vec<String> {
-    let trace = given("record", &["-"], text.as_bytes());
-    explained(&["--summary", "-"], &trace)
+    let [old, new] = ["edition 24\n", ""].map(|edition| {
+        let text = format!("{edition}{text}");
+        let trace = given("record", &["-"], text.as_bytes());
+        explained(&["--summary", "-"], &trace)
+    });
+    assert_ne!(old[0], new[0]);
+    assert_eq!(old[1..], new[1..]);
+    new
 }
 
 /// The lines of class A, without the first.
@@ -25,7 +31,7 @@ fn the_broken_seal() {
     assert_eq!(
         of_example("broken-seal"),
         "\
-alerts: 2; ticks: 26
+alerts: 2; records of 24 bytes; ticks: 26
 class A: 1 start; clears accepted none, refused at 15
   start at 13 by ALERT0; locked, LOCK set; Ph0 13, Ph1 16, Ph2 19, Ph3 22, Term 25
     line 0 13-15, line 1 16-18, line 2 19-21, line 3 22-24
@@ -34,6 +40,25 @@ class C: no start; no clear
 class D: no start; no clear
 events:
   ALERT0: 3 events, first at 9, last at 13
+other refusals: none
+"
+    );
+}
+
+#[test]
+fn the_far_alert() {
+    assert_eq!(
+        of_example("far-alert"),
+        "\
+alerts: 248; records of 70 bytes; ticks: 25
+class A: no start; no clear
+class B: 1 start; clears accepted none, refused at 17
+  start at 16 by the timeout; locked, LOCK set; Ph0 16, Ph1 18, Ph2 20, Ph3 22, Term 24
+    line 0 16-17, line 1 18-19, line 2 20-21, line 3 22-23
+class C: no start; no clear
+class D: no start; no clear
+events:
+  ALERT247: 1 event, at 12
 other refusals: none
 "
     );

@@ -1,7 +1,10 @@
 //! `explain --wide`: rows that leave nothing out.
 mod common;
 
-use common::{example, explained, record, REST};
+use common::records::{all_at, apart, off_rest, record, record_24, record_70, start, REST};
+use common::{example, explained};
+use handler::registers::{Field, Setting};
+use handler::{Edition, Wires};
 
 /// The rows, without the two lines above them.
 fn rows(words: &[&str], input: &[u8]) -> Vec<String> {
@@ -11,26 +14,35 @@ fn rows(words: &[&str], input: &[u8]) -> Vec<String> {
 /// Every second alert, and no two of them neighbours: counted in a row of 120 columns, named in a wide one.
 #[test]
 fn every_wire_is_there() {
-    let apart = (0xAAAA_AAAA_AAAA_AAAA, u64::MAX);
-    let bytes = [vec![64], record(1, 321, 0, apart)].concat();
-    assert!(rows(&["-"], &bytes)[0].contains(" wires ~32 "));
-    let row = &rows(&["-", "--wide"], &bytes)[0];
-    let wires: String = (0..32).map(|i| format!(" {}=11", 2 * i)).collect();
-    let wanted = format!(" read CLASSA_CTRL wires{wires}: 0x393c ");
-    assert!(row.contains(&wanted), "{row}");
+    for edition in Edition::ALL {
+        let half = edition.alerts() / 2;
+        let ctrl = edition.registers().class(0, Setting::Ctrl);
+        let read = record(edition, 1, ctrl.into(), 0, apart(edition, 0b11));
+        let bytes = [start(edition, edition.alerts() as u8), read].concat();
+        assert!(rows(&["-"], &bytes)[0].contains(&format!(" wires ~{half} ")));
+        let row = &rows(&["-", "--wide"], &bytes)[0];
+        let wires: String = (0..half).map(|i| format!(" {}=11", 2 * i)).collect();
+        let wanted = format!(" read CLASSA_CTRL wires{wires}: 0x393c ");
+        assert!(row.contains(&wanted), "{row}");
+    }
 }
 
 #[test]
 fn every_cause_is_there() {
-    let mut bytes = vec![64];
-    for i in 0..64 {
-        bytes.extend(record(2, 128 + i, 1, REST));
+    for edition in Edition::ALL {
+        let alerts = edition.alerts();
+        let mut bytes = start(edition, alerts as u8);
+        for i in 0..alerts {
+            let en = edition.registers().alert(Field::En, i);
+            bytes.extend(record(edition, 2, en.into(), 1, Wires::REST));
+        }
+        bytes.extend(record(edition, 0, 0, 0, all_at(edition, 0b10)));
+        let all: Vec<String> = (0..alerts).map(|i| i.to_string()).collect();
+        let row = &rows(&["-", "--wide"], &bytes)[alerts];
+        let wires = format!(" none wires 0-{}=10 ", alerts - 1);
+        assert!(row.contains(&wires), "{row}");
+        assert!(row.ends_with(&format!(" ALERT{}", all.join(","))), "{row}");
     }
-    bytes.extend(record(0, 0, 0, (u64::MAX, 0)));
-    let all: Vec<String> = (0..64).map(|i| i.to_string()).collect();
-    let row = &rows(&["-", "--wide"], &bytes)[64];
-    assert!(row.contains(" none wires 0-63=10 "), "{row}");
-    assert!(row.ends_with(&format!(" ALERT{}", all.join(","))), "{row}");
 }
 
 /// All bytes of a malformed record, and the wires that its tick samples.
@@ -38,10 +50,10 @@ fn every_cause_is_there() {
 fn a_malformed_record_is_there_by_its_bytes() {
     let bytes = [
         vec![2],
-        record(1, 321, 0xABCD, (1 << 63, u64::MAX >> 1)),
-        record(2, 1 << 10 | 321, 0xFFFF_FFFF, REST),
-        record(2, 321, 1 << 32 | 5, REST),
-        record(2, 321, 5, REST),
+        record_24(1, 321, 0xABCD, (1 << 63, u64::MAX >> 1)),
+        record_24(2, 1 << 10 | 321, 0xFFFF_FFFF, REST),
+        record_24(2, 321, 1 << 32 | 5, REST),
+        record_24(2, 321, 5, REST),
     ]
     .concat();
     let wide = rows(&["-", "--wide"], &bytes);
@@ -52,6 +64,31 @@ fn a_malformed_record_is_there_by_its_bytes() {
         "write CLASSA_CTRL 0x5           done ",
     ]) {
         assert!(row.contains(said), "{row}");
+    }
+}
+
+/// The 19 zero bits begin a bit later than the old 20.
+#[test]
+fn a_malformed_record_of_70_bytes_is_there_by_its_bytes() {
+    let bytes = [
+        vec![255, 248],
+        record_70(1, 1281, 0xABCD, off_rest(&[(247, 0b10)])),
+        record_70(2, 1281, 1 << 50 | 5, Wires::REST),
+        record_70(2, 1281, 5, Wires::REST),
+    ]
+    .concat();
+    let wide = rows(&["-", "--wide"], &bytes);
+    let (zeros, ones) = ("0".repeat(62), "f".repeat(62));
+    for (row, said) in wide.iter().zip([
+        format!(
+            "raw 680800000000abcd{}1{}e wires 247=10: refused: malformed ",
+            "0".repeat(61),
+            "f".repeat(61)
+        ),
+        format!("raw a80c000000000005{zeros}{ones}: refused: malformed "),
+        "write CLASSA_CTRL 0x5           done ".to_string(),
+    ]) {
+        assert!(row.contains(&said), "{row}");
     }
 }
 

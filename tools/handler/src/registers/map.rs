@@ -30,8 +30,15 @@ pub struct Map {
     pub classes: u16,
 }
 
-/// The map of document 01.
+/// The map: that of ticks, and of records from request (iii) on.
 pub const MAP: Map = Map {
+    alerts: 248,
+    stride: 256,
+    classes: 1280,
+};
+
+/// That of document 01, and of its records of 24 bytes.
+pub const MAP_24: Map = Map {
     alerts: 64,
     stride: 64,
     classes: 320,
@@ -61,6 +68,11 @@ impl Map {
     /// The number after the last class's block: from it on none is assigned.
     pub const fn end(&self) -> u16 {
         self.block(CLASSES)
+    }
+
+    /// The map's number of the register that this edition numbers so; none where that is unassigned for every N.
+    pub fn carry(&self, number: u16) -> Option<u16> {
+        MAP.number(self.register(number)?)
     }
 
     /// The number of a register, where this edition has it.

@@ -1,12 +1,5 @@
-//! Numbers and names go both ways, in this edition and in one with other numbers.
-use super::{Field, Map, Register, Setting, MAP};
-
-/// An edition with room for more alerts, and numbers after them that its alert blocks leave free.
-const WIDER: Map = Map {
-    alerts: 248,
-    stride: 256,
-    classes: 1280,
-};
+//! Numbers and names go both ways, in both numberings, and each old number goes to the new one of its register.
+use super::{Field, Map, Register, Setting, MAP, MAP_24};
 
 fn name(map: &Map, number: u16) -> Option<String> {
     map.register(number).map(|register| register.to_string())
@@ -17,7 +10,7 @@ fn number(map: &Map, name: &str) -> Option<u16> {
 }
 
 #[test]
-fn registers_are_named_as_the_map_has_them() {
+fn registers_are_named_as_document_01_has_them() {
     for (number, wanted) in [
         (0, Some("INTR_STATE")),
         (1, Some("INTR_ENABLE")),
@@ -42,38 +35,82 @@ fn registers_are_named_as_the_map_has_them() {
         (380, Some("CLASSD_STATE")),
         (383, None),
         (384, None),
+        (512, None),
         (1023, None),
     ] {
-        assert_eq!(name(&MAP, number).as_deref(), wanted, "{number}");
+        assert_eq!(name(&MAP_24, number).as_deref(), wanted, "{number}");
     }
-    assert_eq!(MAP.end(), 384);
+    assert_eq!(MAP_24.end(), 384);
 }
 
 #[test]
-fn the_numbers_of_an_edition_follow_from_its_map() {
+fn registers_are_named_as_request_iii_has_them() {
     for (number, wanted) in [
         (2, Some("INTR_TEST")),
+        (3, None),
         (46, Some("LOC_ALERT6_CAUSE")),
         (64, None),
+        (255, None),
         (256, Some("ALERT0_REGWEN")),
+        (503, Some("ALERT247_REGWEN")),
+        (504, None),
+        (511, None),
+        (512, Some("ALERT0_EN")),
         (512 + 247, Some("ALERT247_EN")),
         (512 + 248, None),
+        (768, Some("ALERT0_CLASS")),
         (1024, Some("ALERT0_CAUSE")),
+        (1271, Some("ALERT247_CAUSE")),
         (1279, None),
         (1280, Some("CLASSA_REGWEN")),
+        (1292, Some("CLASSA_STATE")),
+        (1293, None),
         (1280 + 16 * 3 + 12, Some("CLASSD_STATE")),
         (1344, None),
+        (2047, None),
     ] {
-        assert_eq!(name(&WIDER, number).as_deref(), wanted, "{number}");
+        assert_eq!(name(&MAP, number).as_deref(), wanted, "{number}");
     }
-    assert_eq!(number(&MAP, "ALERT64_EN"), None);
-    assert_eq!(number(&WIDER, "ALERT64_EN"), Some(576));
-    assert_eq!(number(&WIDER, "ALERT248_EN"), None);
+    assert_eq!(MAP.end(), 1344);
+    assert_eq!(number(&MAP_24, "ALERT64_EN"), None);
+    assert_eq!(number(&MAP, "ALERT64_EN"), Some(576));
+    assert_eq!(number(&MAP, "ALERT248_EN"), None);
+}
+
+#[test]
+fn an_old_number_is_carried_to_the_same_register() {
+    let mut carried = Vec::new();
+    for n in 0..=u16::MAX {
+        assert_eq!(MAP.carry(n), MAP.register(n).map(|_| n));
+        let new = MAP_24.carry(n);
+        assert_eq!(new.and_then(|new| name(&MAP, new)), name(&MAP_24, n), "{n}");
+        carried.extend(new);
+    }
+    assert_eq!(carried.len(), 3 + 4 * (7 + 64) + 4 * 13);
+    assert!(carried.windows(2).all(|two| two[0] < two[1]));
+    for (old, new) in [
+        (2, Some(2)),
+        (3, None),
+        (46, Some(46)),
+        (64, Some(256)),
+        (127, Some(319)),
+        (128, Some(512)),
+        (255, Some(768 + 63)),
+        (319, Some(1024 + 63)),
+        (320, Some(1280)),
+        (333, None),
+        (380, Some(1340)),
+        (384, None),
+        (512, None),
+        (1023, None),
+    ] {
+        assert_eq!(MAP_24.carry(old), new, "{old}");
+    }
 }
 
 #[test]
 fn a_name_gives_its_number_and_nothing_else_does() {
-    for map in [MAP, WIDER] {
+    for map in [MAP, MAP_24] {
         let mut assigned = 0;
         for n in 0..=u16::MAX {
             if let Some(name) = name(&map, n) {
@@ -109,12 +146,14 @@ fn a_name_gives_its_number_and_nothing_else_does() {
 
 #[test]
 fn the_lists_are_in_the_order_of_the_numbers() {
-    for (at, setting) in Setting::ALL.into_iter().enumerate() {
-        assert_eq!(MAP.class(0, setting), MAP.block(0) + at as u16);
-    }
-    for (at, field) in Field::ALL.into_iter().enumerate() {
-        assert_eq!(MAP.local(field, 0), 16 + 8 * at as u16);
-        assert_eq!(MAP.alert(field, 0), 64 + 64 * at as u16);
+    for map in [MAP, MAP_24] {
+        for (at, setting) in Setting::ALL.into_iter().enumerate() {
+            assert_eq!(map.class(0, setting), map.block(0) + at as u16);
+        }
+        for (at, field) in Field::ALL.into_iter().enumerate() {
+            assert_eq!(map.local(field, 0), 16 + 8 * at as u16);
+            assert_eq!(map.alert(field, 0), map.stride * (1 + at as u16));
+        }
     }
     assert_eq!(Setting::PHASES[..], Setting::ALL[7..11]);
 }

@@ -1,10 +1,10 @@
 //! The records that are timed.
 
 use super::QUIET;
-use crate::record::{record, NONE, READ, RECORD};
+use crate::record::{record, NONE, READ};
 use crate::rng::Rng;
-use handler::registers::{Field, Setting, INTR_ENABLE, INTR_STATE, MAP};
-use handler::{CLASSES, LOCALS};
+use handler::registers::{Field, Map, Setting, INTR_ENABLE, INTR_STATE};
+use handler::{Edition, CLASSES, LOCALS};
 
 /// What the records of a batch do.
 #[derive(Clone, Copy, Debug, PartialEq, Eq)]
@@ -27,40 +27,49 @@ pub const LOADS: [(Load, &str); 4] = [
     (Load::Read, "a read each tick"),
 ];
 
-/// The bytes of a load.
-pub fn load(load: Load, records: usize) -> Vec<u8> {
+/// The bytes of a load, for as many alerts as the edition has.
+pub fn load(edition: Edition, load: Load, records: usize) -> Vec<u8> {
     let mut rng = Rng::new(1);
-    let registers = readable();
-    let mut bytes = Vec::with_capacity(records * RECORD);
+    let registers = readable(edition.registers());
+    let mut bytes = Vec::with_capacity(records * edition.bytes());
     for at in 0..records {
         let mut access = (NONE, 0);
         let mut wires = QUIET;
         match load {
             Load::Quiet => {}
             Load::Sparse if at.is_multiple_of(64) => {
-                let risen = 1 << (at / 64 % MAP.alerts);
-                wires = (risen, !risen);
+                // From the last alert down.
+                let alerts = edition.alerts();
+                let i = alerts - 1 - at / 64 % alerts;
+                let risen = 1 << (63 - i % 64);
+                wires.0[i / 64] = risen;
+                wires.1[i / 64] = !risen;
             }
             Load::Sparse => {}
-            Load::Random => wires = (rng.bits(), rng.bits()),
+            Load::Random => {
+                for (pos, neg) in wires.0.iter_mut().zip(&mut wires.1) {
+                    (*pos, *neg) = (rng.bits(), rng.bits());
+                }
+            }
             Load::Read => access = (READ, rng.pick(&registers)),
         }
-        bytes.extend(record(access.0.into(), access.1.into(), 0, wires));
+        let (kind, register) = access;
+        bytes.extend(record(edition, kind.into(), register.into(), 0, wires));
     }
     bytes
 }
 
 /// Every register that can be read where all alerts are there.
-fn readable() -> Vec<u16> {
+fn readable(map: Map) -> Vec<u16> {
     let mut all = vec![INTR_STATE, INTR_ENABLE];
     for field in Field::ALL {
-        all.extend((0..MAP.alerts).map(|i| MAP.alert(field, i)));
+        all.extend((0..map.alerts).map(|i| map.alert(field, i)));
     }
     for field in Field::ALL {
-        all.extend((0..LOCALS).map(|j| MAP.local(field, j)));
+        all.extend((0..LOCALS).map(|j| map.local(field, j)));
     }
     for k in 0..CLASSES {
-        all.extend(Setting::READABLE.map(|setting| MAP.class(k, setting)));
+        all.extend(Setting::READABLE.map(|setting| map.class(k, setting)));
     }
     all
 }

@@ -4,18 +4,19 @@ use super::load::{load, Load};
 use super::start::start;
 use super::timed::Timed;
 use super::ROUNDS;
-use crate::calls::handler_of;
-use handler::{Handler, Word};
+use crate::calls::{handler_of, reference_edition};
+use handler::{Edition, Handler, Word};
 use std::time::{Duration, Instant};
 
 /// Times one load, both sides in turn.
-pub fn time(kind: Load, name: &'static str, records: usize) -> Timed {
-    let bytes = load(kind, records);
-    let first = start();
+pub fn time(edition: Edition, kind: Load, name: &'static str, records: usize) -> Timed {
+    let bytes = load(edition, kind, records);
+    let first = start(edition);
     let mut words = vec![Word(0); records];
     let mut numbers = vec![0; records];
     let mut timed = Timed {
         name,
+        edition,
         records,
         proved: Duration::MAX,
         reference: Duration::MAX,
@@ -25,9 +26,9 @@ pub fn time(kind: Load, name: &'static str, records: usize) -> Timed {
         // Neither side may live on the words of the round before.
         words.fill(Word(u64::MAX));
         numbers.fill(0);
-        let (state, spent) = proved_round(handler_of(&first), &bytes, &mut words);
+        let (state, spent) = proved_round(handler_of(&first), edition, &bytes, &mut words);
         timed.proved = timed.proved.min(spent);
-        let (twin, spent) = reference_round(first.clone(), &bytes, &mut numbers);
+        let (twin, spent) = reference_round(first.clone(), edition, &bytes, &mut numbers);
         timed.reference = timed.reference.min(spent);
         let same = words
             .iter()
@@ -38,9 +39,14 @@ pub fn time(kind: Load, name: &'static str, records: usize) -> Timed {
     timed
 }
 
-fn proved_round(state: Handler, bytes: &[u8], words: &mut [Word]) -> (Handler, Duration) {
+fn proved_round(
+    state: Handler,
+    edition: Edition,
+    bytes: &[u8],
+    words: &mut [Word],
+) -> (Handler, Duration) {
     let begin = Instant::now();
-    let (state, answer) = state.batch(bytes, words);
+    let (state, answer) = state.batch(edition, bytes, words);
     let spent = begin.elapsed();
     assert_eq!(answer.0, 0);
     (state, spent)
@@ -48,11 +54,13 @@ fn proved_round(state: Handler, bytes: &[u8], words: &mut [Word]) -> (Handler, D
 
 fn reference_round(
     mut state: reference::Handler,
+    edition: Edition,
     bytes: &[u8],
     numbers: &mut [u64],
 ) -> (reference::Handler, Duration) {
+    let edition = reference_edition(edition);
     let begin = Instant::now();
-    let answer = reference::batch(&mut state, bytes, numbers);
+    let answer = reference::batch(&mut state, edition, bytes, numbers);
     let spent = begin.elapsed();
     assert_eq!(answer, 0);
     (state, spent)

@@ -1,5 +1,6 @@
 //! The times of a load, as they are shown.
 
+use handler::Edition;
 use std::fmt;
 use std::time::Duration;
 
@@ -7,6 +8,8 @@ use std::time::Duration;
 pub struct Timed {
     /// The load's name.
     pub name: &'static str,
+    /// The form of its records.
+    pub edition: Edition,
     /// The records of a batch.
     pub records: usize,
     /// Of the proved library.
@@ -18,17 +21,17 @@ pub struct Timed {
 }
 
 /// The line above the table.
-pub const TITLE: &str = "ns a tick, best of 7         proved  reference  proved/reference";
+pub const TITLE: &str = "ns a tick, best of 7    N   proved  reference  proved/reference";
 
 impl fmt::Display for Timed {
     fn fmt(&self, out: &mut fmt::Formatter) -> fmt::Result {
         let tick = |time: Duration| time.as_nanos() as f64 / self.records as f64;
         let (proved, reference) = (tick(self.proved), tick(self.reference));
         let ratio = proved / reference;
-        let name = self.name;
+        let (name, n) = (self.name, self.edition.alerts());
         write!(
             out,
-            "{name:<26} {proved:>8.1} {reference:>10.1} {ratio:>17.2}"
+            "{name:<21} {n:>3} {proved:>8.1} {reference:>10.1} {ratio:>17.2}"
         )?;
         if !self.equal {
             write!(out, "  DIFFERENT words")?;

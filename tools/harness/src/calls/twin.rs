@@ -1,7 +1,9 @@
 //! The same state and access on both sides. Each struct is written out whole,
 //! so that no field can be forgotten.
 
-use handler::{Access, Alerts, Class, Handler, Interrupts, Locals, Receivers};
+use handler::{
+    Access, Alerts, Class, Edition, Handler, Interrupts, Locals, Receivers, ALERTS, WORDS,
+};
 use reference::Source;
 use std::array::from_fn;
 
@@ -24,7 +26,7 @@ pub fn reference_of(state: &Handler) -> reference::Handler {
             class: alerts.class[i],
             cause: alerts.cause[i],
         }),
-        armed: from_fn(|i| (state.receivers.armed[0] >> (63 - i)) & 1 == 1),
+        armed: from_fn(|i| (state.receivers.armed[i / 64] >> (63 - i % 64)) & 1 == 1),
         classes: from_fn(|k| reference_class(&state.classes[k])),
     }
 }
@@ -43,14 +45,27 @@ fn reference_class(class: &Class) -> reference::Class {
     }
 }
 
-/// The library's state with the same registers.
+/// The bits of the last word of re-armed alerts that are no alert's.
+const SPARE: u64 = (1 << (64 * WORDS - ALERTS)) - 1;
+
+/// The state with those bits of another one: the reference has no such bits,
+/// and no call changes them.
+pub fn with_spare(mut state: Handler, other: &Handler) -> Handler {
+    let last = &mut state.receivers.armed[WORDS - 1];
+    *last = *last & !SPARE | other.receivers.armed[WORDS - 1] & SPARE;
+    state
+}
+
+/// The library's state with the same registers; bits that are no alert's are
+/// as in a new one.
 pub fn handler_of(state: &reference::Handler) -> Handler {
     let (locals, alerts) = (&state.locals, &state.alerts);
-    let armed = state.armed.iter();
+    let bit = |i: usize| u64::from(*state.armed.get(i).unwrap_or(&true));
+    let word = |w: usize| (0..64).fold(0, |word, at| word << 1 | bit(64 * w + at));
     Handler {
         n: state.n as usize,
         receivers: Receivers {
-            armed: [armed.fold(0, |word, bit| (word << 1) | u64::from(*bit))],
+            armed: from_fn(word),
         },
         classes: from_fn(|k| handler_class(&state.classes[k])),
         alerts: Alerts {
@@ -83,6 +98,14 @@ fn handler_class(class: &reference::Class) -> Class {
         regwen: class.regwen,
         clrwen: class.clr_regwen,
         state: class.state,
+    }
+}
+
+/// The reference's edition.
+pub fn reference_edition(edition: Edition) -> reference::Edition {
+    match edition {
+        Edition::Bytes24 => reference::Edition::First,
+        Edition::Bytes70 => reference::Edition::Second,
     }
 }
 

@@ -1,11 +1,14 @@
 //! The traces of a set.
 
 use crate::generate::{trace, Kind};
-use crate::record::RECORD;
+use crate::opened::opened;
+use handler::Edition;
 
 /// A trace by name, whole or only its first records.
 #[derive(Clone, Copy)]
 pub struct Case {
+    /// The form of its records.
+    pub edition: Edition,
     /// What it is about.
     pub kind: Kind,
     /// The seed.
@@ -17,9 +20,12 @@ pub struct Case {
 impl Case {
     /// The bytes.
     pub fn bytes(&self) -> Vec<u8> {
-        let mut bytes = trace(self.kind, self.seed);
+        let mut bytes = trace(self.edition, self.kind, self.seed);
         if let Some(records) = self.records {
-            bytes.truncate(1 + records * RECORD);
+            // Damage may have made it a trace of the other edition.
+            let input = opened(&bytes);
+            let before = bytes.len() - input.records.len();
+            bytes.truncate(before + records * input.edition.bytes());
         }
         bytes
     }
@@ -31,8 +37,9 @@ pub const DEFAULT_TRACES: u64 = 400;
 pub const DEFAULT_SEED: u64 = 1;
 
 /// The cases of a set: the seeds go up by one, the kinds take turns.
-pub fn generated(seed: u64) -> impl Iterator<Item = Case> {
+pub fn generated(edition: Edition, seed: u64) -> impl Iterator<Item = Case> {
     (0..).map(move |place| Case {
+        edition,
         kind: Kind::at(place),
         seed: seed.wrapping_add(place),
         records: None,
@@ -40,8 +47,9 @@ pub fn generated(seed: u64) -> impl Iterator<Item = Case> {
 }
 
 /// The cases of damaged input.
-pub fn damage(seed: u64) -> impl Iterator<Item = Case> {
+pub fn damage(edition: Edition, seed: u64) -> impl Iterator<Item = Case> {
     (0..).map(move |place: u64| Case {
+        edition,
         kind: [Kind::Noise, Kind::Damaged][(place % 2) as usize],
         seed: seed.wrapping_add(place),
         records: None,

@@ -1,5 +1,7 @@
 //! What a set of traces reached, taken from the reference while it runs.
 
+use crate::record::{Head, NONE, READ};
+use handler::Edition;
 use reference::handler::CLASSES;
 use reference::Handler;
 use std::collections::BTreeSet;
@@ -36,16 +38,28 @@ pub struct Coverage {
     pub full: u64,
     /// The numbers of alerts asked for, 0 if none.
     pub counts: BTreeSet<u64>,
+    /// Registers with an accepted access: the record's bytes and the number.
+    pub registers: BTreeSet<(usize, u16)>,
+    /// Alerts with a cause at the end of a trace.
+    pub causes: BTreeSet<usize>,
 }
 
 impl Coverage {
-    /// Takes in one tick: the handler before and after, and the word it gave.
-    pub fn tick(&mut self, before: &Handler, after: &Handler, read: bool, word: u64) {
+    /// Takes in the access of a tick and the word it gave.
+    pub fn access(&mut self, edition: Edition, head: Head, word: u64) {
         let refusal = (word >> 52) & 15;
-        self.ticks += 1;
+        let read = head.kind == READ;
         self.answers[refusal as usize] += 1;
         self.reads += u64::from(read && refusal == 0);
         self.showing += u64::from(read || word >> 52 != 0);
+        if refusal == 0 && head.kind != NONE {
+            self.registers.insert((edition.bytes(), head.register));
+        }
+    }
+
+    /// Takes in one tick: the handler before and after, and the word it gave.
+    pub fn tick(&mut self, before: &Handler, after: &Handler, word: u64) {
+        self.ticks += 1;
         for bit in 0..4 {
             self.interrupts[bit] += (word >> (63 - bit)) & 1;
             self.lines[bit] += (word >> (59 - bit)) & 1;
@@ -63,8 +77,18 @@ impl Coverage {
     }
 }
 
-impl fmt::Display for Coverage {
-    fn fmt(&self, out: &mut fmt::Formatter) -> fmt::Result {
+impl Coverage {
+    /// Takes in the handler after the last tick of a trace.
+    pub fn end(&mut self, handler: &Handler) {
+        let alerts = handler.alerts.iter().enumerate();
+        let caused = alerts.filter(|(_, alert)| alert.cause == 1);
+        self.causes.extend(caused.map(|(i, _)| i));
+    }
+}
+
+impl Coverage {
+    /// What the accesses reached.
+    fn write_accesses(&self, out: &mut fmt::Formatter) -> fmt::Result {
         let part = |count: u64| 100 * count / self.ticks.max(1);
         writeln!(out, "traces {}, ticks {}", self.traces, self.ticks)?;
         writeln!(
@@ -79,6 +103,16 @@ impl fmt::Display for Coverage {
         }
         writeln!(out, ", refusal 6: {}", self.no_handler)?;
         writeln!(out, "cut ends {}, N {:?}", self.cut, self.counts)?;
+        writeln!(
+            out,
+            "registers accessed {}, alerts with a cause {}",
+            self.registers.len(),
+            self.causes.len()
+        )
+    }
+
+    /// What the classes reached.
+    fn write_classes(&self, out: &mut fmt::Formatter) -> fmt::Result {
         for (k, states) in self.states.iter().enumerate() {
             write!(out, "class {k} states:")?;
             for state in [0, 1, 4, 5, 6, 7, 3] {
@@ -99,5 +133,12 @@ impl fmt::Display for Coverage {
             self.lines, self.interrupts
         )?;
         write!(out, "class ticks with a full accumulator {}", self.full)
+    }
+}
+
+impl fmt::Display for Coverage {
+    fn fmt(&self, out: &mut fmt::Formatter) -> fmt::Result {
+        self.write_accesses(out)?;
+        self.write_classes(out)
     }
 }

@@ -1,7 +1,7 @@
 //! What is told of a program that did not do as the reference.
 
 use super::Case;
-use crate::record::RECORD;
+use crate::opened::opened;
 use std::fmt;
 use std::path::PathBuf;
 
@@ -27,24 +27,26 @@ impl Difference {
             Some(records) => format!(" --records {records}"),
             None => String::new(),
         };
-        format!("repeat {} {kind} {seed}{records}", self.program.display())
+        let (program, edition) = (self.program.display(), self.case.edition.bytes());
+        format!("repeat {program} {kind} {seed} --edition {edition}{records}")
     }
 }
 
 impl fmt::Display for Difference {
     fn fmt(&self, out: &mut fmt::Formatter) -> fmt::Result {
         let bytes = self.case.bytes();
-        let records = bytes.len().saturating_sub(1) / RECORD;
+        let input = opened(&bytes);
+        let size = input.edition.bytes();
+        let records = input.records.len() / size;
         let (kind, seed) = (self.case.kind.name(), self.case.seed);
         writeln!(out, "DIFFERENT: trace {kind} seed {seed}")?;
         writeln!(
             out,
-            "shortest prefix: {records} records, {} bytes, N {:?}; it ends with",
-            bytes.len(),
-            bytes.first()
+            "shortest prefix: {records} records of {size} bytes, N {:?}; it ends with",
+            input.n
         )?;
-        let body = bytes.get(1..).unwrap_or(&[]);
-        for record in body.chunks(RECORD).skip(records.saturating_sub(3)) {
+        let last = input.records.chunks(size);
+        for record in last.skip(records.saturating_sub(3)) {
             write!(out, "  ")?;
             for byte in record {
                 write!(out, "{byte:02x}")?;

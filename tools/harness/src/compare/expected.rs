@@ -1,31 +1,36 @@
 //! Runs a trace through the reference.
 
 use super::coverage::Coverage;
-use crate::record::{READ, RECORD};
+use crate::calls::reference_edition;
+use crate::opened::opened;
+use crate::record::Head;
 use reference::{batch, Handler};
 use std::fmt::Write;
 
 /// What the reference prints for the bytes; counts what it reached.
 pub fn expected(bytes: &[u8], coverage: &mut Coverage) -> Vec<u8> {
     coverage.traces += 1;
-    let n = bytes.first().map_or(0, |first| u64::from(*first));
-    coverage.counts.insert(n);
-    let (mut handler, answer) = Handler::new(n);
+    let input = opened(bytes);
+    let edition = reference_edition(input.edition);
+    coverage.counts.insert(input.n.map_or(0, u64::from));
+    let (mut handler, answer) = Handler::new(input.alerts());
     if answer != 0 {
         coverage.no_handler += 1;
         return b"refused\n".to_vec();
     }
-    let records = bytes[1..].chunks_exact(RECORD);
+    let records = input.records.chunks_exact(input.edition.bytes());
     let rest = records.remainder();
     let mut text = String::new();
     for record in records {
         let before = handler.clone();
         let mut word = [0];
-        assert_eq!(batch(&mut handler, record, &mut word), 0);
-        let read = record[0] >> 6 == READ;
-        coverage.tick(&before, &handler, read, word[0]);
+        assert_eq!(batch(&mut handler, edition, record, &mut word), 0);
+        let head = Head::of(input.edition, record);
+        coverage.access(input.edition, head, word[0]);
+        coverage.tick(&before, &handler, word[0]);
         writeln!(text, "{:016x}", word[0]).expect("a string takes all");
     }
+    coverage.end(&handler);
     if !rest.is_empty() {
         coverage.cut += 1;
         text.push_str("cut\n");

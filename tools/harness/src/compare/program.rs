@@ -8,7 +8,7 @@ use std::thread;
 use std::time::Duration;
 
 /// The longest that one run may take.
-pub const LIMIT: Duration = Duration::from_secs(20);
+const LIMIT: Duration = Duration::from_secs(20);
 
 /// How a program's run ended.
 pub struct Ran {
@@ -16,6 +16,15 @@ pub struct Ran {
     pub output: Vec<u8>,
     /// Its exit status, or nothing if it had to be stopped.
     pub status: Option<ExitStatus>,
+}
+
+/// How a run ended, if not by itself. The paper names no exit status.
+pub fn ended(ran: &Ran) -> Option<String> {
+    match ran.status {
+        None => Some(format!("stopped after {} seconds", LIMIT.as_secs())),
+        Some(status) if status.code().is_none() => Some(status.to_string()),
+        Some(_) => None,
+    }
 }
 
 /// Runs the program on the bytes, stopping it after the limit.

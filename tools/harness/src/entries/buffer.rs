@@ -1,6 +1,6 @@
 //! The buffer that the writer borrows.
 
-use crate::record::RECORD;
+use crate::record::WRITTEN_BYTES;
 use crate::rng::Rng;
 
 /// Guard bytes before and after a buffer.
@@ -17,15 +17,15 @@ pub struct Buffer {
 impl Buffer {
     /// Random bytes, as many as `entries` records need, or a few less or more.
     pub fn around(entries: usize, rng: &mut Rng) -> Buffer {
-        let need = entries * RECORD;
+        let need = entries * WRITTEN_BYTES;
         let lengths = [
             need,
             need,
             need + 1,
-            need + RECORD,
+            need + WRITTEN_BYTES,
             need + rng.below(100) as usize,
             need.saturating_sub(1),
-            need.saturating_sub(RECORD),
+            need.saturating_sub(WRITTEN_BYTES),
             rng.below(need as u64 + 1) as usize,
         ];
         Buffer::of(rng.pick(&lengths), rng)

@@ -1,6 +1,6 @@
 //! Lists at random, of every way.
 
-use super::lent::{Entries, GUARD};
+use super::lent::{Entries, GUARD, UNITS};
 use super::row::Row;
 use super::spoil::{spoil, Way, WAYS};
 use crate::record::WRITE;
@@ -15,7 +15,7 @@ impl Entries {
     /// first, so that the samples show in the words.
     pub fn new(rng: &mut Rng) -> Entries {
         let way = WAYS[rng.weighted(&WAYS.map(|way| way.2))].0;
-        let n = rng.pick(&[1, 2, 9, 63, 64]);
+        let n = rng.pick(&[1, 9, 64, 65, 128, 192, 247, 248]);
         let (few, any) = (rng.index(4), rng.index(MOST + 1));
         let count = rng.pick(&[few, any, any, MOST]);
         let mut rows: Vec<Row> = (0..count).map(|_| Row::good(rng)).collect();
@@ -45,16 +45,18 @@ fn set_up(rng: &mut Rng, n: usize, rows: &mut [Row]) {
     }
 }
 
-/// Lengths around `count` that are not all alike.
+/// Lengths around those of `count` entries that do not fit together.
 fn unequal(rng: &mut Rng, count: usize) -> [usize; 5] {
-    let mut lengths = [count; 5];
+    let mut lengths = UNITS.map(|unit| count * unit);
     let changes = 1 + rng.below(3);
-    while lengths == [lengths[0]; 5] {
+    while lengths == UNITS.map(|unit| lengths[0] * unit) {
         for _ in 0..changes {
-            let shorter = count.saturating_sub(1 + rng.index(3));
-            let longer = count + 1 + rng.index(GUARD);
             let at = rng.index(5);
-            lengths[at] = rng.pick(&[shorter, shorter, longer, longer, 0]);
+            let (unit, need) = (UNITS[at], count * UNITS[at]);
+            let shorter = need.saturating_sub(1 + rng.index(3));
+            let fewer = need.saturating_sub(unit);
+            let longer = need + 1 + rng.index(GUARD * unit);
+            lengths[at] = rng.pick(&[shorter, fewer, longer, need + unit, count, 0]);
         }
     }
     lengths
@@ -63,15 +65,17 @@ fn unequal(rng: &mut Rng, count: usize) -> [usize; 5] {
 #[cfg(test)]
 mod tests {
     use super::*;
-    use crate::record::LARGEST;
+    use crate::record::largest;
+    use handler::Edition;
 
     #[test]
     fn only_good_rows_are_held_by_a_record() {
         let mut rng = Rng::new(6);
+        let most = largest(Edition::NEWEST);
         let held = |row: &Row| match row.kind {
             0 => row.register == 0 && row.value == 0,
-            1 => row.register <= LARGEST && row.value == 0,
-            2 => row.register <= LARGEST,
+            1 => row.register <= most && row.value == 0,
+            2 => row.register <= most,
             _ => false,
         };
         for _ in 0..5000 {

@@ -2,12 +2,16 @@
 
 use super::row::Row;
 use super::spoil::Way;
+use crate::record::Side;
 use crate::rng::Rng;
-use handler::Wires;
+use handler::{Wires, WORDS};
 
 /// Entries before and after each slice of a list; they are well formed, so
 /// that reading past an end is not refused for what stands there.
 pub const GUARD: usize = 4;
+
+/// The numbers that each slice has for an entry.
+pub const UNITS: [usize; 5] = [1, 1, 1, WORDS, WORDS];
 
 /// The five slices as the writer borrows them.
 #[derive(Clone, Copy)]
@@ -18,9 +22,9 @@ pub struct Lent<'a> {
     pub registers: &'a [u16],
     /// Values.
     pub values: &'a [u32],
-    /// Positive wires.
+    /// Positive wires, `WORDS` words for an entry.
     pub positive: &'a [u64],
-    /// Negative wires.
+    /// Negative wires, as many.
     pub negative: &'a [u64],
 }
 
@@ -36,25 +40,31 @@ impl Lent<'_> {
         ]
     }
 
-    /// Whether all slices have the same length.
+    /// Whether all slices have the same entries.
     pub fn even(&self) -> bool {
-        self.lengths() == [self.kinds.len(); 5]
+        self.lengths() == UNITS.map(|unit| self.kinds.len() * unit)
     }
 
     /// The entries, as many as all slices have.
     pub fn rows(&self) -> Vec<Row> {
-        let count = self.lengths().into_iter().min().unwrap_or(0);
+        let whole = self.lengths().into_iter().zip(UNITS);
+        let count = whole.map(|(length, unit)| length / unit).min().unwrap_or(0);
         let row = |at: usize| Row {
             kind: self.kinds[at],
             register: self.registers[at],
             value: self.values[at],
             wires: Wires {
-                pos: [self.positive[at]],
-                neg: [self.negative[at]],
+                pos: side(self.positive, at),
+                neg: side(self.negative, at),
             },
         };
         (0..count).map(row).collect()
     }
+}
+
+/// The wires of an entry.
+fn side(words: &[u64], at: usize) -> Side {
+    std::array::from_fn(|w| words[at * WORDS + w])
 }
 
 /// A list with its guards.
@@ -84,9 +94,9 @@ impl Entries {
             kinds: all.iter().map(|row| row.kind).collect(),
             registers: all.iter().map(|row| row.register).collect(),
             values: all.iter().map(|row| row.value).collect(),
-            positive: all.iter().map(|row| row.wires.pos[0]).collect(),
-            negative: all.iter().map(|row| row.wires.neg[0]).collect(),
-            lengths: [rows.len(); 5],
+            positive: all.iter().flat_map(|row| row.wires.pos).collect(),
+            negative: all.iter().flat_map(|row| row.wires.neg).collect(),
+            lengths: UNITS.map(|unit| rows.len() * unit),
         }
     }
 
@@ -99,11 +109,11 @@ impl Entries {
     pub fn lent(&self) -> Lent<'_> {
         let [kinds, registers, values, positive, negative] = self.lengths;
         Lent {
-            kinds: &self.kinds[GUARD..GUARD + kinds],
-            registers: &self.registers[GUARD..GUARD + registers],
-            values: &self.values[GUARD..GUARD + values],
-            positive: &self.positive[GUARD..GUARD + positive],
-            negative: &self.negative[GUARD..GUARD + negative],
+            kinds: &self.kinds[GUARD..][..kinds],
+            registers: &self.registers[GUARD..][..registers],
+            values: &self.values[GUARD..][..values],
+            positive: &self.positive[GUARD * WORDS..][..positive],
+            negative: &self.negative[GUARD * WORDS..][..negative],
         }
     }
 }

@@ -2,9 +2,14 @@
 
 use crate::calls::{register, wires};
 use crate::generate::WRITTEN;
-use crate::record::LARGEST;
+use crate::record::largest;
 use crate::rng::Rng;
-use handler::{Access, Wires};
+use handler::registers::MAP;
+use handler::{Access, Edition, Wires};
+use std::array::from_fn;
+
+/// The largest register that the writer takes.
+const LARGEST: u16 = largest(Edition::NEWEST);
 
 /// One access with its sample.
 #[derive(Clone, Copy, Debug, PartialEq, Eq)]
@@ -15,19 +20,19 @@ pub struct Row {
     pub register: u16,
     /// The written value.
     pub value: u32,
-    /// The wires, alert 0 highest.
+    /// The wires.
     pub wires: Wires,
 }
 
 impl Row {
     /// An access that a record holds.
     pub(super) fn good(rng: &mut Rng) -> Row {
-        let near = register(rng) & LARGEST;
+        let near = register(MAP, rng) & LARGEST;
         let far = rng.bits() as u16 & LARGEST;
         let any = rng.bits() as u32;
         let random = Wires {
-            pos: [rng.bits()],
-            neg: [rng.bits()],
+            pos: from_fn(|_| rng.bits()),
+            neg: from_fn(|_| rng.bits()),
         };
         let mut row = Row {
             kind: rng.pick(&[0, 1, 1, 2, 2]),

@@ -1,8 +1,9 @@
 //! Entries that no well-formed record holds.
 
 use super::row::Row;
-use crate::record::LARGEST;
+use crate::record::largest;
 use crate::rng::Rng;
+use handler::Edition;
 
 /// What a list has that no well-formed record holds.
 #[derive(Clone, Copy, Debug, PartialEq, Eq)]
@@ -17,7 +18,7 @@ pub enum Way {
     NoneValue,
     /// A read with a value.
     ReadValue,
-    /// A register over ten bits.
+    /// A register over eleven bits.
     Register,
     /// Two or three of these.
     Several,
@@ -76,6 +77,7 @@ fn spoil_one(way: Way, rng: &mut Rng, rows: &mut Vec<Row>) {
 
 /// Makes an entry one that no record holds.
 fn spoil_row(way: Way, rng: &mut Rng, row: &mut Row) {
+    let most = largest(Edition::NEWEST);
     let (bit, any) = (1 << rng.below(32), rng.bits() as u32 | 1);
     let value = rng.pick(&[1, u32::MAX, bit, any]);
     match way {
@@ -87,14 +89,15 @@ fn spoil_row(way: Way, rng: &mut Rng, row: &mut Row) {
         Way::NoneRegister => {
             let bit = 1 << rng.below(16);
             (row.kind, row.value) = (0, 0);
-            row.register = rng.pick(&[1, bit, bit, LARGEST, LARGEST + 1, u16::MAX]);
+            row.register = rng.pick(&[1, bit, bit, most, most + 1, u16::MAX]);
         }
         Way::NoneValue => (row.kind, row.register, row.value) = (0, 0, value),
         Way::ReadValue => (row.kind, row.value) = (1, value),
         Way::Register => {
-            let over = 1 << (10 + rng.below(6));
+            let bits = most.count_ones();
+            let over = 1 << (bits + rng.below(u64::from(16 - bits)) as u32);
             let near = row.register | over;
-            row.register = rng.pick(&[LARGEST + 1, u16::MAX, over, near]);
+            row.register = rng.pick(&[most + 1, u16::MAX, over, near]);
             if row.kind == 0 {
                 row.kind = 1;
             }

@@ -2,7 +2,7 @@
 
 use super::profile::Values;
 use super::scene::Scene;
-use handler::registers::{Field, Setting, INTR_ENABLE, MAP};
+use handler::registers::{Field, Setting, INTR_ENABLE};
 use handler::{CLASSES, LOCALS};
 
 /// What a class's REGWEN guards beside CTRL.
@@ -37,15 +37,15 @@ impl Scene {
 
     fn configure_alert(&mut self, i: usize) {
         let k = self.any_class();
-        self.write(MAP.alert(Field::Class, i), k as u32);
+        self.write(self.map.alert(Field::Class, i), k as u32);
         let en = u32::from(!self.rng.once_in(8));
-        self.write(MAP.alert(Field::En, i), en);
+        self.write(self.map.alert(Field::En, i), en);
     }
 
     fn configure_local(&mut self, j: usize) {
         let k = self.any_class();
-        self.write(MAP.local(Field::Class, j), k as u32);
-        self.write(MAP.local(Field::En, j), 1);
+        self.write(self.map.local(Field::Class, j), k as u32);
+        self.write(self.map.local(Field::En, j), 1);
     }
 
     fn configure_class(&mut self, k: usize, values: &Values) {
@@ -54,11 +54,11 @@ impl Scene {
             let value = self.value_for(setting, values);
             // 0 is the value at reset and needs no write.
             if value != 0 {
-                self.write(MAP.class(k, setting), value);
+                self.write(self.map.class(k, setting), value);
             }
         }
         let ctrl = self.value_for(Setting::Ctrl, values);
-        self.write(MAP.class(k, Setting::Ctrl), ctrl);
+        self.write(self.map.class(k, Setting::Ctrl), ctrl);
     }
 
     /// A value for a class register that REGWEN guards.
@@ -90,17 +90,17 @@ impl Scene {
             0 => self.configure_alert(i),
             1 => {
                 let en = self.rng.below(2) as u32;
-                self.write(MAP.local(Field::En, 2), en);
+                self.write(self.map.local(Field::En, 2), en);
             }
-            2 => self.write(MAP.local(Field::Class, 2), k as u32),
+            2 => self.write(self.map.local(Field::Class, 2), k as u32),
             3 | 4 => {
                 let ctrl = self.value_for(Setting::Ctrl, values);
-                self.write(MAP.class(k, Setting::Ctrl), ctrl);
+                self.write(self.map.class(k, Setting::Ctrl), ctrl);
             }
             _ => {
                 let setting = self.rng.pick(&GUARDED);
                 let value = self.value_for(setting, values);
-                self.write(MAP.class(k, setting), value);
+                self.write(self.map.class(k, setting), value);
             }
         }
     }

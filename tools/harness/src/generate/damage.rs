@@ -1,35 +1,44 @@
 //! Bytes that nobody meant as a trace.
 
-use super::FAR;
-use crate::record::RECORD;
+use super::far;
 use crate::rng::Rng;
+use handler::Edition;
+
+/// Random bytes behind the edition's mark.
+pub fn noise(edition: Edition, rng: Rng) -> Vec<u8> {
+    let bytes = edition.mark().into_iter();
+    bytes.chain(random(edition, rng)).collect()
+}
 
 /// Random bytes of a random length. Half have an accepted N, and half of those
-/// have the 20 bits at zero, since else every record is malformed.
-pub fn noise(mut rng: Rng) -> Vec<u8> {
+/// have the bits behind the register at zero, since else every record is
+/// malformed.
+fn random(edition: Edition, mut rng: Rng) -> Vec<u8> {
     let most = rng.pick(&[4, 100, 2000, 10000]);
     let length = rng.below(most);
     let mut bytes: Vec<u8> = (0..length).map(|_| rng.bits() as u8).collect();
     if bytes.is_empty() || rng.once_in(2) {
         return bytes;
     }
-    bytes[0] = 1 + rng.below(64) as u8;
+    bytes[0] = 1 + rng.below(edition.alerts() as u64) as u8;
     if rng.once_in(2) {
-        for record in bytes[1..].chunks_mut(RECORD) {
-            tidy(&mut rng, record);
+        for record in bytes[1..].chunks_mut(edition.bytes()) {
+            tidy(edition, &mut rng, record);
         }
     }
     bytes
 }
 
 /// Makes most records well formed and aims them at assigned registers.
-fn tidy(rng: &mut Rng, record: &mut [u8]) {
+fn tidy(edition: Edition, rng: &mut Rng, record: &mut [u8]) {
     if record.len() < 8 || rng.once_in(8) {
         return;
     }
-    let head = ((1 + rng.below(2)) << 10) | rng.below(FAR.into());
-    record[..4].copy_from_slice(&((head as u32) << 20).to_be_bytes());
-    if head >> 10 == 1 {
+    let kind = 1 + rng.below(2);
+    let head = kind << edition.register_bits() | rng.below(far(edition.registers()).into());
+    let head = (head as u32) << edition.zero_bits();
+    record[..4].copy_from_slice(&head.to_be_bytes());
+    if kind == 1 {
         record[4..8].fill(0);
     } else {
         record[4..8].copy_from_slice(&(rng.below(4) as u32).to_be_bytes());

@@ -1,34 +1,44 @@
 //! Short traces that end anywhere.
 
 use super::scene::Scene;
-use crate::record::RECORD;
+use crate::opened::opening;
 use crate::rng::Rng;
+use handler::Edition;
 
-/// A short trace with any N and any rest; sometimes no bytes.
-pub fn ends(mut rng: Rng) -> Vec<u8> {
+/// Records that end around the block sizes with which a program may read or
+/// write.
+fn large(edition: Edition) -> &'static [usize] {
+    match edition {
+        Edition::Bytes24 => &[170, 171, 341, 682, 1023, 1024, 1025, 2730, 8192, 8193],
+        Edition::Bytes70 => &[58, 59, 117, 468, 936, 937, 2047, 2048, 2049, 8193],
+    }
+}
+
+/// A short trace with any N and any rest; sometimes no bytes, or no N.
+pub fn ends(edition: Edition, mut rng: Rng) -> Vec<u8> {
+    let most = edition.alerts() as u8;
     let n = match rng.below(4) {
-        0 => rng.pick(&[0, 65, 255]),
-        1 => rng.pick(&[1, 64]),
+        0 => rng.pick(&[0, most + 1, 255]),
+        1 => rng.pick(&[1, most]),
         2 => rng.below(256) as u8,
-        _ => 1 + rng.below(64) as u8,
+        _ => 1 + rng.below(most.into()) as u8,
     };
-    let mut scene = Scene::new(rng, n);
-    // Around the block sizes with which a program may read or write.
-    let large = scene
-        .rng
-        .pick(&[170, 171, 341, 682, 1023, 1024, 1025, 2730, 8192, 8193]);
+    let mut scene = Scene::new(edition, rng, n);
+    let large = scene.rng.pick(large(edition));
     let few = scene.rng.index(5);
     let records = scene.rng.pick(&[few, few, large]);
     for _ in 0..records {
         scene.watch();
     }
-    let to_block = (4096 - (1 + RECORD * records) % 4096) % 4096;
-    let any = scene.rng.index(RECORD);
-    scene.tail(if to_block < RECORD { to_block } else { any });
+    let size = edition.bytes();
+    let before = opening(edition, n).len();
+    let to_block = (4096 - (before + size * records) % 4096) % 4096;
+    let any = scene.rng.index(size);
+    scene.tail(if to_block < size { to_block } else { any });
     let nothing = scene.rng.once_in(8);
     let bytes = scene.finish();
     if nothing {
-        Vec::new()
+        edition.mark().into_iter().collect()
     } else {
         bytes
     }

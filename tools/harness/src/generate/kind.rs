@@ -15,7 +15,7 @@ pub enum Kind {
     Locks,
     /// Refused accesses and malformed records.
     Refusals,
-    /// Every register number written, then read.
+    /// Every register number written, then read; in new records every alert.
     Sweep,
     /// Any N, few records, cut ends, no bytes at all.
     Ends,

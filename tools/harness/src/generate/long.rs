@@ -5,32 +5,35 @@ use super::profile::profile;
 use super::scene::Scene;
 use super::Kind;
 use crate::rng::Rng;
-use handler::registers::{Field, Setting, INTR_ENABLE, INTR_STATE, INTR_TEST, MAP};
-use handler::CLASSES;
+use handler::registers::{Field, Setting, INTR_ENABLE, INTR_STATE, INTR_TEST};
+use handler::{Edition, CLASSES};
 
 /// The most events an accumulator counts.
 const MOST: u64 = 65535;
 
 /// Drives one accumulator to its end while another class takes long phases,
 /// then goes on with weighted steps.
-pub fn long(mut rng: Rng, seed: u64) -> Vec<u8> {
-    let n = rng.pick(&[2, 9, 64]);
-    let mut scene = Scene::new(rng, n);
+pub fn long(edition: Edition, mut rng: Rng, seed: u64) -> Vec<u8> {
+    let n = rng.pick(match edition {
+        Edition::Bytes24 => &[2, 9, 64],
+        Edition::Bytes70 => &[2, 65, 248],
+    });
+    let mut scene = Scene::new(edition, rng, n);
     scene.active = vec![0, scene.n - 1];
     scene.equal = 0;
     scene.moving = false;
-    let k = scene.focus;
+    let (k, map) = (scene.focus, scene.map);
     // In turn: two alerts take turns, one alert, equal wires.
     let way = seed % 3;
     set_up(&mut scene, way);
     let other = (k + 1) % CLASSES;
     let watched = [
-        MAP.class(k, Setting::AccumCnt),
-        MAP.class(k, Setting::State),
-        MAP.class(other, Setting::EscCnt),
-        MAP.class(k, Setting::AccumCnt),
-        MAP.class(other, Setting::State),
-        MAP.class(k, Setting::EscCnt),
+        map.class(k, Setting::AccumCnt),
+        map.class(k, Setting::State),
+        map.class(other, Setting::EscCnt),
+        map.class(k, Setting::AccumCnt),
+        map.class(other, Setting::State),
+        map.class(k, Setting::EscCnt),
         INTR_STATE,
     ];
     let ticks = if way == 1 { 2 * MOST + 60 } else { MOST + 30 };
@@ -49,32 +52,32 @@ pub fn long(mut rng: Rng, seed: u64) -> Vec<u8> {
 
 /// Configures the two classes of a long trace.
 fn set_up(scene: &mut Scene, way: u64) {
-    let k = scene.focus;
+    let (k, map) = (scene.focus, scene.map);
     let other = (k + 1) % CLASSES;
     let last = scene.n - 1;
     for i in [0, last] {
-        scene.write(MAP.alert(Field::Class, i), k as u32);
+        scene.write(map.alert(Field::Class, i), k as u32);
     }
-    scene.write(MAP.alert(Field::En, 0), 1);
+    scene.write(map.alert(Field::En, 0), 1);
     if way == 0 {
-        scene.write(MAP.alert(Field::En, last), 1);
+        scene.write(map.alert(Field::En, last), 1);
     }
     if way == 2 {
-        scene.write(MAP.local(Field::Class, 2), k as u32);
-        scene.write(MAP.local(Field::En, 2), 1);
+        scene.write(map.local(Field::Class, 2), k as u32);
+        scene.write(map.local(Field::En, 2), 1);
     }
     let threshold = scene.rng.pick(&[65535, 65535, 65534, 65533]);
-    scene.write(MAP.class(k, Setting::AccumThresh), threshold);
+    scene.write(map.class(k, Setting::AccumThresh), threshold);
     for (phase, length) in Setting::PHASES.into_iter().zip([3, 0, 1, 2]) {
-        scene.write(MAP.class(k, phase), length);
+        scene.write(map.class(k, phase), length);
     }
-    scene.write(MAP.class(k, Setting::Ctrl), 0x393D);
+    scene.write(map.class(k, Setting::Ctrl), 0x393D);
     // The other class starts by a timeout and ends before the accumulator.
     for (phase, length) in Setting::PHASES.into_iter().zip([255, 256, 1000, 60000]) {
-        scene.write(MAP.class(other, phase), length);
+        scene.write(map.class(other, phase), length);
     }
-    scene.write(MAP.class(other, Setting::TimeoutCyc), 257);
-    scene.write(MAP.class(other, Setting::Ctrl), 0x1B3D);
+    scene.write(map.class(other, Setting::TimeoutCyc), 257);
+    scene.write(map.class(other, Setting::Ctrl), 0x1B3D);
     scene.write(INTR_ENABLE, 15);
     scene.write(INTR_TEST, 1 << other);
 }

@@ -2,13 +2,14 @@
 
 use super::profile::{profile, Values, Weights};
 use super::scene::Scene;
-use super::{Kind, COUNTS};
+use super::{counts, Kind};
 use crate::rng::Rng;
+use handler::Edition;
 
 /// Configures, then takes weighted steps.
-pub fn play(mut rng: Rng, kind: Kind) -> Vec<u8> {
-    let n = rng.pick(&COUNTS);
-    let mut scene = Scene::new(rng, n);
+pub fn play(edition: Edition, mut rng: Rng, kind: Kind) -> Vec<u8> {
+    let n = rng.pick(counts(edition));
+    let mut scene = Scene::new(edition, rng, n);
     let (values, weights) = profile(kind);
     scene.calm = match kind {
         Kind::Accumulate => 3,

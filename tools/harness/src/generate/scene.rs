@@ -1,12 +1,20 @@
 //! A trace under construction: the wires as they stand and the records so far.
 
-use crate::record::{pack, Head, NONE, READ, RECORD, WRITE};
+use crate::opened::opening;
+use crate::record::{pack, Head, Side, NONE, READ, WRITE};
 use crate::rng::Rng;
-use handler::registers::MAP;
-use handler::CLASSES;
+use handler::registers::Map;
+use handler::{Edition, Wires, CLASSES};
+
+/// Alerts on both sides of each word of wires, and the last one.
+const BORDERS: [usize; 7] = [63, 64, 127, 128, 191, 192, 247];
 
 /// What a generator writes into.
 pub struct Scene {
+    /// The form of the records.
+    pub edition: Edition,
+    /// Its register numbers.
+    pub map: Map,
     /// The source of all choices.
     pub rng: Rng,
     /// The number of alerts.
@@ -21,31 +29,36 @@ pub struct Scene {
     pub equal: u64,
     /// False while wires are kept by hand.
     pub moving: bool,
-    /// Positive wires, alert 0 highest.
-    pub pos: u64,
-    /// Negative wires, alert 0 highest.
-    pub neg: u64,
+    /// Positive wires.
+    pub pos: Side,
+    /// Negative wires.
+    pub neg: Side,
     bytes: Vec<u8>,
 }
 
 impl Scene {
     /// A trace for N alerts, all wires at rest.
-    pub fn new(mut rng: Rng, n: u8) -> Scene {
-        let count = usize::from(n).clamp(1, MAP.alerts);
+    pub fn new(edition: Edition, mut rng: Rng, n: u8) -> Scene {
+        let count = usize::from(n).clamp(1, edition.alerts());
         let mut active = vec![0, count - 1];
         for _ in 0..rng.below(6) {
             active.push(rng.index(count));
         }
+        if edition != Edition::Bytes24 {
+            active.push(rng.pick(&BORDERS).min(count - 1));
+        }
         Scene {
+            edition,
+            map: edition.registers(),
             n: count,
             active,
             focus: rng.index(CLASSES),
             calm: 6,
             equal: rng.pick(&[0, 0, 1, 4]),
             moving: true,
-            pos: 0,
-            neg: u64::MAX,
-            bytes: vec![n],
+            pos: Wires::REST.pos,
+            neg: Wires::REST.neg,
+            bytes: opening(edition, n),
             rng,
         }
     }
@@ -53,7 +66,7 @@ impl Scene {
     /// The bytes; once in eight times with a cut end.
     pub fn finish(mut self) -> Vec<u8> {
         if self.rng.once_in(8) {
-            let rest = 1 + self.rng.index(RECORD - 1);
+            let rest = 1 + self.rng.index(self.edition.bytes() - 1);
             self.tail(rest);
         }
         self.bytes
@@ -87,58 +100,8 @@ impl Scene {
 
     /// A tick with any record head.
     pub fn tick(&mut self, head: Head) {
-        let (mut pos, mut neg) = (self.pos, self.neg);
-        if self.moving {
-            self.move_wires();
-            (pos, neg) = (self.pos, self.neg);
-            // Samples at N and above count for nothing, so they may be wild.
-            if self.rng.once_in(8) {
-                let unused = u64::MAX.checked_shr(self.n as u32).unwrap_or(0);
-                pos ^= self.rng.bits() & unused;
-                neg ^= self.rng.bits() & unused;
-            }
-            // Also alerts that are not played with now and then.
-            if self.rng.once_in(24) {
-                pos ^= self.rng.bits() & self.rng.bits() & self.rng.bits();
-                neg ^= self.rng.bits() & self.rng.bits() & self.rng.bits();
-            }
-        }
-        self.bytes.extend_from_slice(&pack(head, pos, neg));
-    }
-
-    /// Gives some active alerts new wires.
-    fn move_wires(&mut self) {
-        // Several at once are one event, so this must come often enough.
-        let all = match self.rng.below(20) {
-            0 => Some((1, 0)),
-            1 => Some((0, 1)),
-            _ => None,
-        };
-        if let Some(pair) = all {
-            return self.set_active(pair);
-        }
-        for at in 0..self.active.len() {
-            let i = self.active[at];
-            if self.rng.once_in(self.calm) {
-                let weights = [10, 10, self.equal, self.equal];
-                let pair = [(1, 0), (0, 1), (0, 0), (1, 1)][self.rng.weighted(&weights)];
-                self.set(i, pair);
-            }
-        }
-    }
-
-    /// Puts a pair on the wires of all active alerts.
-    pub fn set_active(&mut self, pair: (u64, u64)) {
-        for at in 0..self.active.len() {
-            self.set(self.active[at], pair);
-        }
-    }
-
-    /// Puts a pair on alert i's wires.
-    pub fn set(&mut self, i: usize, pair: (u64, u64)) {
-        let shift = 63 - i;
-        self.pos = (self.pos & !(1 << shift)) | (pair.0 << shift);
-        self.neg = (self.neg & !(1 << shift)) | (pair.1 << shift);
+        let wires = self.next_wires();
+        self.bytes.extend(pack(self.edition, head, wires));
     }
 
     /// One of the active alerts.

@@ -1,7 +1,7 @@
 //! The single steps of a trace: what one tick, or a few, ask of the handler.
 
 use super::scene::Scene;
-use handler::registers::{Field, Setting, INTR_ENABLE, INTR_STATE, INTR_TEST, MAP};
+use handler::registers::{Field, Setting, INTR_ENABLE, INTR_STATE, INTR_TEST};
 use handler::{CLASSES, LOCALS};
 
 impl Scene {
@@ -10,14 +10,14 @@ impl Scene {
         let k = self.any_class();
         let i = self.any_active();
         let register = match self.rng.weighted(&[6, 5, 5, 3, 4, 1, 1, 1, 1]) {
-            0 => MAP.class(k, Setting::State),
-            1 => MAP.class(k, Setting::EscCnt),
-            2 => MAP.class(k, Setting::AccumCnt),
+            0 => self.map.class(k, Setting::State),
+            1 => self.map.class(k, Setting::EscCnt),
+            2 => self.map.class(k, Setting::AccumCnt),
             3 => INTR_STATE,
-            4 => MAP.alert(Field::Cause, i),
-            5 => MAP.local(Field::Cause, 2),
-            6 => MAP.class(k, Setting::Ctrl),
-            7 => MAP.class(k, Setting::ClrRegwen),
+            4 => self.map.alert(Field::Cause, i),
+            5 => self.map.local(Field::Cause, 2),
+            6 => self.map.class(k, Setting::Ctrl),
+            7 => self.map.class(k, Setting::ClrRegwen),
             _ => self.any_readable(),
         };
         self.read(register);
@@ -28,9 +28,9 @@ impl Scene {
         let field = self.rng.pick(&Field::ALL);
         match self.rng.below(4) {
             0 => INTR_ENABLE,
-            1 => MAP.local(field, self.rng.index(LOCALS)),
-            2 => MAP.alert(field, self.rng.index(self.n)),
-            _ => MAP.class(k, self.rng.pick(&Setting::READABLE)),
+            1 => self.map.local(field, self.rng.index(LOCALS)),
+            2 => self.map.alert(field, self.rng.index(self.n)),
+            _ => self.map.class(k, self.rng.pick(&Setting::READABLE)),
         }
     }
 
@@ -38,7 +38,7 @@ impl Scene {
     pub fn clear(&mut self) {
         let k = self.any_class();
         let value = u32::from(!self.rng.once_in(6));
-        self.write(MAP.class(k, Setting::Clr), value);
+        self.write(self.map.class(k, Setting::Clr), value);
     }
 
     /// All active alerts rise at once; so many ticks later comes a clear of
@@ -55,9 +55,9 @@ impl Scene {
         if self.rng.once_in(4) {
             self.write(INTR_STATE, 1 << k);
         } else {
-            self.write(MAP.class(k, Setting::Clr), 1);
+            self.write(self.map.class(k, Setting::Clr), 1);
         }
-        self.read(MAP.class(k, Setting::State));
+        self.read(self.map.class(k, Setting::State));
         self.moving = true;
     }
 
@@ -82,9 +82,9 @@ impl Scene {
         let value = u32::from(!self.rng.once_in(4));
         let i = self.any_active();
         let register = if self.rng.once_in(4) {
-            MAP.local(Field::Cause, 2)
+            self.map.local(Field::Cause, 2)
         } else {
-            MAP.alert(Field::Cause, i)
+            self.map.alert(Field::Cause, i)
         };
         self.write(register, value);
     }
@@ -95,10 +95,10 @@ impl Scene {
         let i = self.rng.index(self.n);
         let j = self.rng.index(LOCALS);
         let register = match self.rng.below(4) {
-            0 => MAP.class(k, Setting::Regwen),
-            1 => MAP.class(k, Setting::ClrRegwen),
-            2 => MAP.alert(Field::Regwen, i),
-            _ => MAP.local(Field::Regwen, j),
+            0 => self.map.class(k, Setting::Regwen),
+            1 => self.map.class(k, Setting::ClrRegwen),
+            2 => self.map.alert(Field::Regwen, i),
+            _ => self.map.local(Field::Regwen, j),
         };
         let value = self.rng.below(2) as u32;
         self.write(register, value);

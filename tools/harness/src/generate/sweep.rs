@@ -2,32 +2,56 @@
 
 use super::profile::profile;
 use super::scene::Scene;
-use super::{Kind, COUNTS, FAR, WRITTEN};
-use crate::record::LARGEST;
+use super::{counts, far, Kind, WRITTEN};
+use crate::record::largest;
 use crate::rng::Rng;
+use handler::registers::Field;
+use handler::{Edition, Wires};
 
 /// Writes every register number, assigned or not, then reads every one.
-pub fn sweep(mut rng: Rng) -> Vec<u8> {
-    let n = rng.pick(&COUNTS);
-    let mut scene = Scene::new(rng, n);
+pub fn sweep(edition: Edition, mut rng: Rng) -> Vec<u8> {
+    let n = rng.pick(counts(edition));
+    let mut scene = Scene::new(edition, rng, n);
+    let (far, largest) = (far(scene.map), largest(edition));
     let (values, _) = profile(Kind::Mixed);
     scene.configure(&values);
     // From the top down half of the time, so that a REGWEN locks before or
     // after the write of what it guards.
     let down = scene.rng.once_in(2);
-    for at in 0..=LARGEST {
-        let register = if down { LARGEST - at } else { at };
-        if register < FAR || scene.rng.once_in(8) {
+    for at in 0..=largest {
+        let register = if down { largest - at } else { at };
+        if register < far || scene.rng.once_in(8) {
             let value = scene.rng.pick(&WRITTEN);
             scene.write(register, value);
             // Read at once, and again below when more is locked.
             scene.read(register);
         }
     }
-    for register in 0..=LARGEST {
-        if register < FAR || scene.rng.once_in(8) {
+    for register in 0..=largest {
+        if register < far || scene.rng.once_in(8) {
             scene.read(register);
         }
     }
+    // Old traces stay as they were.
+    if edition != Edition::Bytes24 {
+        raise_each(&mut scene);
+    }
     scene.finish()
+}
+
+/// Enables every alert and raises one after another: in that tick its cause is
+/// cleared, and read in the next.
+fn raise_each(scene: &mut Scene) {
+    let map = scene.map;
+    scene.moving = false;
+    (scene.pos, scene.neg) = (Wires::REST.pos, Wires::REST.neg);
+    for i in 0..scene.n {
+        scene.write(map.alert(Field::En, i), 1);
+    }
+    for i in 0..scene.n {
+        scene.set(i, (1, 0));
+        scene.write(map.alert(Field::Cause, i), 1);
+        scene.set(i, (0, 1));
+        scene.read(map.alert(Field::Cause, i));
+    }
 }

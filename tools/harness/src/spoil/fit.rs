@@ -14,7 +14,7 @@ pub fn fit(places: &[Place], rng: &mut Rng, state: &mut Handler) {
         let bits = place.bits().unwrap_or(64);
         place.set(state, rng.bits() & (u64::MAX >> (64 - bits)));
     }
-    state.n = rng.pick(&[0, 1, 8, 63, 64, 64]);
+    state.n = rng.pick(&[0, 1, 63, 64, 65, 127, 128, 191, 192, 247, 248, 248]);
     for k in 0..CLASSES {
         let value = rng.pick(&STATES);
         Place::Class(k, Setting::State).set(state, value);

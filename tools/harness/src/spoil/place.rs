@@ -1,7 +1,7 @@
 //! The places of a state: every stored field by name, with both its widths.
 
 use handler::registers::{Field, Setting, INTR_BITS};
-use handler::{ALERTS, CLASSES, LOCALS};
+use handler::{ALERTS, CLASSES, LOCALS, WORDS};
 use std::fmt;
 
 /// A stored field of a state.
@@ -9,8 +9,8 @@ use std::fmt;
 pub enum Place {
     /// The number of alerts.
     N,
-    /// The word of re-armed alerts.
-    Armed,
+    /// A word of re-armed alerts.
+    Armed(usize),
     /// INTR_STATE.
     IntrState,
     /// INTR_ENABLE.
@@ -26,7 +26,8 @@ pub enum Place {
 impl Place {
     /// Every place of a state.
     pub fn all() -> Vec<Place> {
-        let mut all = vec![Place::N, Place::Armed, Place::IntrState, Place::IntrEnable];
+        let mut all = vec![Place::N, Place::IntrState, Place::IntrEnable];
+        all.extend((0..WORDS).map(Place::Armed));
         for k in 0..CLASSES {
             // CLR holds no value.
             all.extend(Setting::READABLE.map(|setting| Place::Class(k, setting)));
@@ -41,7 +42,7 @@ impl Place {
     /// The bits of the register; N and the re-armed alerts are none.
     pub fn bits(self) -> Option<u32> {
         match self {
-            Place::N | Place::Armed => None,
+            Place::N | Place::Armed(_) => None,
             Place::IntrState | Place::IntrEnable => Some(INTR_BITS),
             Place::Class(_, setting) => Some(setting.bits()),
             Place::Alert(field, _) | Place::Local(field, _) => Some(field.bits()),
@@ -52,7 +53,7 @@ impl Place {
     /// number that holds its bits.
     pub fn kept(self) -> u32 {
         match self {
-            Place::N | Place::Armed => 64,
+            Place::N | Place::Armed(_) => 64,
             Place::Class(_, setting) => setting.bits().next_power_of_two().max(8),
             _ => 8,
         }
@@ -63,7 +64,7 @@ impl fmt::Display for Place {
     fn fmt(&self, out: &mut fmt::Formatter) -> fmt::Result {
         match self {
             Place::N => write!(out, "N"),
-            Place::Armed => write!(out, "re-armed alerts"),
+            Place::Armed(word) => write!(out, "re-armed alerts, word {word}"),
             Place::IntrState => write!(out, "INTR_STATE"),
             Place::IntrEnable => write!(out, "INTR_ENABLE"),
             Place::Class(k, setting) => write!(out, "class {k} {}", setting.name()),

@@ -19,7 +19,7 @@ pub enum Way {
     State,
     /// A count that is 0 or not, as the state does not have it.
     Count,
-    /// Another N: 0, 64, 65, huge.
+    /// Another N: 0, 248, 249, huge.
     Alerts,
     /// Entries at N and above set to anything.
     Above,

@@ -3,10 +3,12 @@
 use super::lists::Lists;
 use super::subject::Subject;
 use super::summary::Summary;
-use crate::calls::{access, handler_of, reference_access, reference_of, wires, Odd};
+use crate::calls::{
+    access, handler_of, reference_access, reference_edition, reference_of, wires, with_spare, Odd,
+};
 use crate::rng::Rng;
 use crate::spoil::Place;
-use handler::Handler;
+use handler::{Edition, Handler};
 
 /// The answer to a state that breaks the rule.
 const BROKEN: i64 = -7;
@@ -21,7 +23,7 @@ pub fn tick(
     let (access, wires) = (access(rng), wires(rng));
     let mut twin = reference_of(state);
     let valid = twin.valid();
-    let wanted = twin.tick(reference_access(access), wires.pos[0], wires.neg[0]);
+    let wanted = twin.tick(reference_access(access), &wires.pos, &wires.neg);
     let got = (subject.tick)(*state, access, wires);
     if valid {
         summary.ticks[wanted.answer.min(0).unsigned_abs() as usize] += 1;
@@ -40,38 +42,45 @@ pub fn tick(
             ("lines", wanted.lines.into(), lines.into()),
         ],
     )
-    .or_else(|| state_odd("tick", &handler_of(&twin), &got.handler))
+    .or_else(|| {
+        let wanted = with_spare(handler_of(&twin), state);
+        state_odd("tick", &wanted, &got.handler)
+    })
 }
 
-/// One small batch on both sides.
+/// One small batch of either edition on both sides.
 pub fn batch(
     subject: &Subject,
     state: &Handler,
     rng: &mut Rng,
     summary: &mut Summary,
 ) -> Option<Odd> {
-    let before = Lists::new(rng);
+    let edition = rng.pick(&Edition::ALL);
+    let before = Lists::new(edition, rng);
     let mut lists = before.clone();
     let mut numbers = before.numbers();
     let mut twin = reference_of(state);
     let valid = twin.valid();
+    let refused = !valid || state.n > edition.alerts();
     let (bytes, words) = lists.lent();
-    let wanted = reference::batch(&mut twin, bytes, &mut numbers);
-    let (after, answer) = (subject.batch)(*state, bytes, words);
-    summary.batches[wanted.unsigned_abs() as usize] += 1;
-    first_odd(
-        "batch",
-        &[
-            ("answer 7", i64::from(!valid), i64::from(answer.0 == BROKEN)),
-            ("answer", wanted, answer.0),
-        ],
-    )
-    .or_else(|| word_odd(&numbers, &lists.numbers()))
-    .or_else(|| {
-        let field = lists.disturbed(&before)?;
-        Some(Odd::new("batch", field, "as before", "changed"))
-    })
-    .or_else(|| state_odd("batch", &handler_of(&twin), &after))
+    let wanted = reference::batch(&mut twin, reference_edition(edition), bytes, &mut numbers);
+    let (after, answer) = (subject.batch)(*state, edition, bytes, words);
+    summary.batch(edition, wanted, valid);
+    let got = answer.0;
+    let pairs = [
+        ("answer 7", i64::from(refused), i64::from(got == BROKEN)),
+        ("answer", wanted, got),
+    ];
+    first_odd("batch", &pairs)
+        .or_else(|| word_odd(&numbers, &lists.numbers()))
+        .or_else(|| {
+            let field = lists.disturbed(&before)?;
+            Some(Odd::new("batch", field, "as before", "changed"))
+        })
+        .or_else(|| {
+            let wanted = with_spare(handler_of(&twin), state);
+            state_odd("batch", &wanted, &after)
+        })
 }
 
 /// The first number that differs.

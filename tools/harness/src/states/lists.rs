@@ -1,9 +1,8 @@
 //! The records and the lent list of a batch, with guards around them.
 
 use crate::calls::record;
-use crate::record::RECORD;
 use crate::rng::Rng;
-use handler::Word;
+use handler::{Edition, Word};
 
 /// Guard words before and after the list; three times as many guard bytes
 /// stand before and after the records.
@@ -22,20 +21,21 @@ pub struct Lists {
 impl Lists {
     /// Up to five records; one in eight with a cut end, one in eight with a
     /// short list, most with a longer one.
-    pub fn new(rng: &mut Rng) -> Lists {
+    pub fn new(edition: Edition, rng: &mut Rng) -> Lists {
+        let size = edition.bytes();
         let records = rng.below(6) as usize;
         // The records need not be aligned.
         let from = 3 * GUARD + rng.below(8) as usize;
         let mut bytes: Vec<u8> = (0..from).map(|_| rng.bits() as u8).collect();
         for _ in 0..records {
-            bytes.extend(record(rng));
+            bytes.extend(record(edition, rng));
         }
         let cut = if rng.once_in(8) {
-            rng.below(RECORD as u64)
+            rng.below(size as u64)
         } else {
             0
         };
-        let length = records * RECORD + cut as usize;
+        let length = records * size + cut as usize;
         bytes.resize_with(from + length + 3 * GUARD, || rng.bits() as u8);
         let more = rng.below(4) as usize;
         let list = if rng.once_in(8) {
@@ -91,7 +91,7 @@ mod tests {
     fn guards_stand_around_both_lists() {
         let mut rng = Rng::new(3);
         for _ in 0..1000 {
-            let before = Lists::new(&mut rng);
+            let before = Lists::new(rng.pick(&Edition::ALL), &mut rng);
             let mut after = before.clone();
             after.lent().1.fill(Word(1));
             assert_eq!(after.disturbed(&before), None);

@@ -1,10 +1,10 @@
 //! States that traces come to.
 
-use crate::calls::handler_of;
+use crate::calls::{handler_of, reference_edition};
 use crate::generate::{trace, Kind};
-use crate::record::RECORD;
+use crate::opened::opened;
 use crate::rng::Rng;
-use handler::Handler;
+use handler::{Edition, Handler};
 
 /// States that are taken from the same trace.
 pub const BLOCK: u64 = 64;
@@ -21,9 +21,13 @@ impl Pool {
     /// Runs the block's trace in the reference and stops at random places.
     pub fn new(block: u64) -> Pool {
         let mut rng = Rng::new(block);
-        let bytes = trace(Kind::at(block), block);
-        let n = bytes.first().map_or(0, |first| u64::from(*first));
-        let records: Vec<&[u8]> = bytes.get(1..).unwrap_or(&[]).chunks_exact(RECORD).collect();
+        // The kinds of a round come in both editions.
+        let edition = Edition::ALL[(block / 10 % 2) as usize];
+        let bytes = trace(edition, Kind::at(block), block);
+        let input = opened(&bytes);
+        let (n, edition) = (input.alerts(), input.edition);
+        let records: Vec<&[u8]> = input.records.chunks_exact(edition.bytes()).collect();
+        let edition = reference_edition(edition);
         let mut stops: Vec<u64> = (0..BLOCK)
             .map(|_| rng.below(records.len() as u64 + 1))
             .collect();
@@ -33,7 +37,7 @@ impl Pool {
         let mut states = Vec::new();
         for stop in stops {
             for record in &records[done..stop as usize] {
-                assert_eq!(reference::batch(&mut state, record, &mut [0]), 0);
+                assert_eq!(reference::batch(&mut state, edition, record, &mut [0]), 0);
             }
             done = stop as usize;
             states.push(handler_of(&state));

@@ -1,6 +1,7 @@
 //! What a run over states reached.
 
 use crate::spoil::WAYS;
+use handler::Edition;
 use std::fmt;
 
 /// Counts over all states of a set.
@@ -10,13 +11,21 @@ pub struct Summary {
     pub states: u64,
     /// States that the reference refuses with 7, and others, by way.
     pub ways: [[u64; 2]; WAYS.len()],
-    /// Batches by refusal number, 0 for accepted.
-    pub batches: [u64; 10],
+    /// Batches by edition and refusal number, 0 for accepted.
+    pub batches: [[u64; 10]; Edition::ALL.len()],
+    /// Batches that were refused with 7 for more alerts than the edition has.
+    pub over: u64,
     /// Ticks of accepted states by refusal number, 0 for accepted.
     pub ticks: [u64; 6],
 }
 
 impl Summary {
+    /// Takes in a batch by its answer.
+    pub(super) fn batch(&mut self, edition: Edition, answer: i64, valid: bool) {
+        self.batches[edition as usize][answer.unsigned_abs() as usize] += 1;
+        self.over += u64::from(valid && answer == -7);
+    }
+
     /// States that got refusal 7.
     pub fn refused(&self) -> u64 {
         self.ways.iter().map(|way| way[0]).sum()
@@ -48,10 +57,13 @@ impl fmt::Display for Summary {
         for (number, count) in self.ticks.iter().enumerate().skip(1) {
             write!(out, ", refusal {number}: {count}")?;
         }
-        write!(out, "\nbatches: accepted {}", self.batches[0])?;
-        for number in [7, 8, 9] {
-            write!(out, ", refusal {number}: {}", self.batches[number])?;
+        for (edition, batches) in Edition::ALL.into_iter().zip(self.batches) {
+            let bytes = edition.bytes();
+            write!(out, "\nbatches of {bytes} bytes: accepted {}", batches[0])?;
+            for number in [7, 8, 9] {
+                write!(out, ", refusal {number}: {}", batches[number])?;
+            }
         }
-        Ok(())
+        write!(out, "; refused for their alerts alone: {}", self.over)
     }
 }

@@ -5,10 +5,11 @@ use super::subject::Subject;
 use super::summary::Summary;
 use crate::calls::Odd;
 use crate::entries::{Buffer, Entries, Row, Way};
-use crate::record::RECORD;
+use crate::record::{Side, WRITTEN_BYTES};
 use crate::rng::Rng;
 use handler::Wires;
 use reference::trace::parse;
+use reference::writer::WRITTEN;
 
 /// The name of a call that writes what was read.
 pub const AGAIN: &str = "record of what was read";
@@ -16,18 +17,18 @@ pub const AGAIN: &str = "record of what was read";
 /// Random well-formed records, read by the reference and written again.
 pub fn write_again(subject: &Subject, rng: &mut Rng, summary: &mut Summary) -> Option<Odd> {
     let records = rng.below(9) as usize;
-    let more = rng.pick(&[0, 0, 1, RECORD]);
-    let buffer = Buffer::of(records * RECORD + more, rng);
+    let more = rng.pick(&[0, 0, 1, WRITTEN_BYTES]);
+    let buffer = Buffer::of(records * WRITTEN_BYTES + more, rng);
     let mut wanted = buffer.clone();
     let mut rows = Vec::new();
-    for place in wanted.lent().chunks_exact_mut(RECORD).take(records) {
+    for place in wanted.lent().chunks_exact_mut(WRITTEN_BYTES).take(records) {
         let record = well_formed(rng);
         place.copy_from_slice(&record);
-        rows.push(row_of(parse(&record)));
+        rows.push(row_of(parse(WRITTEN, &record)));
     }
     let entries = Entries::of(Way::Good, 1, &rows, rng);
     summary.again += records as u64;
-    let answer = (records * RECORD) as i64;
+    let answer = (records * WRITTEN_BYTES) as i64;
     let found = record_odd(subject, &entries, &buffer, (answer, &wanted))?;
     Some(Odd {
         call: AGAIN,
@@ -36,9 +37,9 @@ pub fn write_again(subject: &Subject, rng: &mut Rng, summary: &mut Summary) -> O
 }
 
 /// Random bytes with as little changed as makes a well-formed record.
-fn well_formed(rng: &mut Rng) -> [u8; RECORD] {
-    let mut record = [0; RECORD].map(|_: u8| rng.bits() as u8);
-    record[1] &= 0xF0;
+fn well_formed(rng: &mut Rng) -> [u8; WRITTEN_BYTES] {
+    let mut record = [0; WRITTEN_BYTES].map(|_: u8| rng.bits() as u8);
+    record[1] &= 0xF8;
     record[2..4].fill(0);
     match record[0] >> 6 {
         0 => record[..8].fill(0),
@@ -51,7 +52,7 @@ fn well_formed(rng: &mut Rng) -> [u8; RECORD] {
 
 /// The entry of a record as the reference reads it; a malformed one gets a
 /// kind that the writer refuses.
-fn row_of((access, pos, neg): (reference::Access, u64, u64)) -> Row {
+fn row_of((access, pos, neg): (reference::Access, Side, Side)) -> Row {
     let (kind, register, value) = match access {
         reference::Access::None => (0, 0, 0),
         reference::Access::Read { register } => (1, register, 0),
@@ -62,10 +63,7 @@ fn row_of((access, pos, neg): (reference::Access, u64, u64)) -> Row {
         kind,
         register,
         value,
-        wires: Wires {
-            pos: [pos],
-            neg: [neg],
-        },
+        wires: Wires { pos, neg },
     }
 }
 
@@ -80,9 +78,9 @@ mod tests {
         let mut rng = Rng::new(10);
         let mut kinds = [0; 3];
         for _ in 0..3000 {
-            let (access, _, _) = parse(&well_formed(&mut rng));
+            let (access, pos, neg) = parse(WRITTEN, &well_formed(&mut rng));
             assert_ne!(access, reference::Access::Malformed);
-            let row = row_of((access, 0, 0));
+            let row = row_of((access, pos, neg));
             assert_eq!(reference_access(row.access()), access);
             assert_ne!(row.access(), Access::Malformed);
             kinds[usize::from(row.kind)] += 1;

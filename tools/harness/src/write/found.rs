@@ -33,7 +33,7 @@ impl fmt::Display for Found {
         if odd.call != AGAIN {
             writeln!(
                 out,
-                "slices of {:?} entries, a buffer of {} bytes",
+                "slices of {:?} numbers, a buffer of {} bytes",
                 self.lengths, self.buffer
             )?;
         }

@@ -5,9 +5,10 @@ use super::summary::Summary;
 use crate::calls::reference_access;
 use crate::calls::Odd;
 use crate::entries::{Entries, Row};
-use crate::record::RECORD;
-use handler::{Handler, Ticked, Word};
+use crate::record::{wires_of, WRITTEN_BYTES};
+use handler::{Edition, Handler, Ticked, Word};
 use reference::trace::{parse, word};
+use reference::writer::WRITTEN;
 
 /// The names of the calls, as a difference shows them.
 const READING: &str = "reading";
@@ -30,17 +31,18 @@ pub fn read_back(
 
 /// The first record that the reference does not read as its entry.
 fn parse_odd(rows: &[Row], bytes: &[u8]) -> Option<Odd> {
-    let length = rows.len() * RECORD;
+    let length = rows.len() * WRITTEN_BYTES;
     if bytes.len() != length {
         return Some(Odd::new(READING, "bytes", length, bytes.len()));
     }
-    for (at, (row, record)) in rows.iter().zip(bytes.chunks_exact(RECORD)).enumerate() {
+    let records = bytes.chunks_exact(WRITTEN_BYTES);
+    for (at, (row, record)) in rows.iter().zip(records).enumerate() {
         let wanted = (
             reference_access(row.access()),
-            row.wires.pos[0],
-            row.wires.neg[0],
+            wires_of(row.wires.pos),
+            wires_of(row.wires.neg),
         );
-        let got = parse(record.try_into().expect("a record"));
+        let got = parse(WRITTEN, record);
         if wanted != got {
             let field = format!("record {at}");
             let (wanted, got) = (format!("{wanted:x?}"), format!("{got:x?}"));
@@ -54,7 +56,7 @@ fn parse_odd(rows: &[Row], bytes: &[u8]) -> Option<Odd> {
 fn proved_odd(subject: &Subject, n: usize, rows: &[Row], bytes: &[u8]) -> Option<Odd> {
     let (mut state, _) = Handler::new(n);
     let mut words = vec![Word(0); rows.len()];
-    let (after, answer) = (subject.batch)(state, bytes, &mut words);
+    let (after, answer) = (subject.batch)(state, Edition::NEWEST, bytes, &mut words);
     if answer.0 != 0 {
         return Some(Odd::new(PROVED_BATCH, "answer", 0, answer.0));
     }
@@ -83,13 +85,13 @@ fn reference_odd(n: usize, rows: &[Row], bytes: &[u8], summary: &mut Summary) ->
     let (mut state, _) = reference::Handler::new(n as u64);
     let mut after = state.clone();
     let mut words = vec![0; rows.len()];
-    let answer = reference::batch(&mut after, bytes, &mut words);
+    let answer = reference::batch(&mut after, WRITTEN, bytes, &mut words);
     if answer != 0 {
         return Some(Odd::new(REFERENCE_BATCH, "answer", 0, answer));
     }
     for (at, (row, got)) in rows.iter().zip(&words).enumerate() {
         let access = reference_access(row.access());
-        let wanted = word(&state.tick(access, row.wires.pos[0], row.wires.neg[0]));
+        let wanted = word(&state.tick(access, &row.wires.pos, &row.wires.neg));
         if wanted != *got {
             return Some(Odd::word(REFERENCE_BATCH, at, wanted, *got));
         }
@@ -113,7 +115,7 @@ mod tests {
     fn written(rng: &mut Rng) -> (Entries, Vec<u8>) {
         loop {
             let entries = Entries::new(rng);
-            let mut bytes = vec![0; entries.lent().kinds.len() * RECORD];
+            let mut bytes = vec![0; entries.lent().kinds.len() * WRITTEN_BYTES];
             if reference_record(entries.lent(), &mut bytes).0 > 0 {
                 return (entries, bytes);
             }
@@ -130,8 +132,8 @@ mod tests {
             let bit = rng.below(8 * bytes.len() as u64) as usize;
             bytes[bit / 8] ^= 0x80 >> (bit % 8);
             let found = parse_odd(&rows, &bytes).expect("seen");
-            assert_eq!(found.field, format!("record {}", bit / 8 / RECORD));
-            assert!(parse_odd(&rows, &bytes[RECORD..]).is_some());
+            assert_eq!(found.field, format!("record {}", bit / 8 / WRITTEN_BYTES));
+            assert!(parse_odd(&rows, &bytes[WRITTEN_BYTES..]).is_some());
         }
     }
 
@@ -146,8 +148,8 @@ mod tests {
             assert!(proved_odd(&PROVED, entries.n, &rows, &bytes).is_none());
             assert!(reference_odd(entries.n, &rows, &bytes, &mut summary).is_none());
             // The wires the wrong way round show in words or in the state.
-            for record in bytes.chunks_exact_mut(RECORD) {
-                record[8..].rotate_left(8);
+            for record in bytes.chunks_exact_mut(WRITTEN_BYTES) {
+                record[8..].rotate_left(31);
             }
             let proved = proved_odd(&PROVED, entries.n, &rows, &bytes).is_some();
             let twin = reference_odd(entries.n, &rows, &bytes, &mut summary).is_some();

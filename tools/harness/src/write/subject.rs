@@ -2,7 +2,8 @@
 
 use crate::calls::{Batch, Tick};
 use crate::entries::Lent;
-use handler::{Answer, Handler};
+use handler::{Answer, Handler, WORDS};
+use reference::answer::Refusal;
 
 /// The calls under test; a test puts wrong ones in.
 pub struct Subject<'a> {
@@ -21,12 +22,9 @@ pub const PROVED: Subject = Subject {
     batch: Handler::batch,
 };
 
-/// A writer that takes a list slice by slice.
-type Writer<A> = fn(&[u8], &[u16], &[u32], &[u64], &[u64], &mut [u8]) -> A;
-
-/// Gives a list to such a writer.
-fn record<A>(writer: Writer<A>, list: Lent, out: &mut [u8]) -> A {
-    writer(
+/// The proved writer.
+fn proved_record(list: Lent, out: &mut [u8]) -> Answer {
+    handler::record_numbers(
         list.kinds,
         list.registers,
         list.values,
@@ -36,12 +34,24 @@ fn record<A>(writer: Writer<A>, list: Lent, out: &mut [u8]) -> A {
     )
 }
 
-/// The proved writer.
-fn proved_record(list: Lent, out: &mut [u8]) -> Answer {
-    record(handler::record_numbers, list, out)
+/// The wires of whole entries, as the reference takes them.
+fn sides(words: &[u64]) -> Option<Vec<reference::Wires>> {
+    let entries = words.chunks(WORDS);
+    entries.map(|entry| entry.try_into().ok()).collect()
 }
 
-/// The reference's writer.
+/// The reference's writer. It has no list in which the words of an entry are
+/// not all there: that is one of slices that do not fit together.
 pub fn reference_record(list: Lent, out: &mut [u8]) -> Answer {
-    Answer(record(reference::record, list, out))
+    let (Some(positive), Some(negative)) = (sides(list.positive), sides(list.negative)) else {
+        return Answer(Refusal::Unrecordable.answer());
+    };
+    Answer(reference::record(
+        list.kinds,
+        list.registers,
+        list.values,
+        &positive,
+        &negative,
+        out,
+    ))
 }

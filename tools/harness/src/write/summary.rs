@@ -1,7 +1,7 @@
 //! What a run over lists reached.
 
 use crate::entries::{Buffer, Entries, WAYS};
-use crate::record::RECORD;
+use crate::record::WRITTEN_BYTES;
 use std::fmt;
 
 /// The answers to an entry that no record holds, and to a short buffer.
@@ -35,7 +35,7 @@ pub struct Summary {
 impl Summary {
     /// Takes in a list with its answer.
     pub(super) fn list(&mut self, entries: &Entries, buffer: &Buffer, answer: i64) {
-        let need = entries.lent().kinds.len() * RECORD;
+        let need = entries.lent().kinds.len() * WRITTEN_BYTES;
         let length = buffer.bytes().len();
         self.lists += 1;
         self.ways[entries.way as usize] += 1;

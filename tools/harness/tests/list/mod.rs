@@ -184,9 +184,8 @@ pub const SLIPS: &[Slip] = &[
         file: "handler.rs",
         right: "for i in 0..self.n as usize {
             let p",
-        wrong: "if self.n < 64 {
-            let beyond = u64::MAX >> self.n;
-            equal = !(pos ^ neg) & beyond != 0;
+        wrong: "for i in self.n as usize..248 {
+            equal |= wire(pos, i) == wire(neg, i);
         }
         for i in 0..self.n as usize {
             let p",
@@ -194,14 +193,14 @@ pub const SLIPS: &[Slip] = &[
     Slip {
         name: "a malformed record read as its access",
         file: "trace.rs",
-        right: "head & 0xF_FFFF != 0",
-        wrong: "head & 0xF_FFFE != 0",
+        right: "if zeros != 0 {",
+        wrong: "if zeros > 1 {",
     },
     Slip {
         name: "the register after N exists",
         file: "register.rs",
         right: "if (i as u64) < n {",
-        wrong: "if (i as u64) <= n && i < 64 {",
+        wrong: "if (i as u64) <= n {",
     },
     Slip {
         name: "access after the samples",
@@ -236,5 +235,68 @@ pub const SLIPS: &[Slip] = &[
         if cleared {",
         wrong: "PHASE0)];
         if cleared || (self.ctrl >> 2) & 0xF == 0 {",
+    },
+    Slip {
+        name: "an old number reaches a register that did not exist then",
+        file: "carried.rs",
+        right: "_ => UNASSIGNED,",
+        wrong: "_ => number,",
+    },
+    Slip {
+        name: "an old number is not carried",
+        file: "trace.rs",
+        right: "Edition::First => carried(number),",
+        wrong: "Edition::First => number,",
+    },
+    Slip {
+        name: "N = 65 accepted in an old input",
+        file: "reference-replay.rs",
+        right: "if answer != 0 || n > edition.alerts() as u64 {",
+        wrong: "if answer != 0 || n > 65 {",
+    },
+    Slip {
+        name: "255 without N accepted",
+        file: "reference-replay.rs",
+        right: "n.unwrap_or(0)",
+        wrong: "n.unwrap_or(1)",
+    },
+    Slip {
+        name: "a new record with 18 zero bits",
+        file: "trace.rs",
+        right: "let zeros = head & ((1 << edition.zero_bits()) - 1);",
+        wrong: "let zeros = head & ((1 << edition.zero_bits().min(18)) - 1);",
+    },
+    Slip {
+        name: "a new record's register cut to ten bits",
+        file: "trace.rs",
+        right: "& ((1 << edition.register_bits()) - 1);",
+        wrong: "& 0x3FF;",
+    },
+    Slip {
+        name: "the wires of alert 64 in the word before",
+        file: "wires.rs",
+        right: "wires[i / 64] >>",
+        wrong: "wires[i.saturating_sub(1) / 64] >>",
+    },
+    Slip {
+        name: "alert 247 lost",
+        file: "handler.rs",
+        right: "for i in 0..self.n as usize {
+            let p",
+        wrong: "for i in 0..self.n.min(247) as usize {
+            let p",
+    },
+    Slip {
+        name: "the last alert block one short",
+        file: "register.rs",
+        right: "1024..=1271",
+        wrong: "1024..=1270",
+    },
+    Slip {
+        name: "the last entry of a new handler is enabled",
+        file: "handler.rs",
+        right: "alerts: [Source::new(); MAX_ALERTS],",
+        wrong:
+            "alerts: std::array::from_fn(|i| Source { en: u8::from(i == 247), ..Source::new() }),",
     },
 ];

@@ -1,9 +1,9 @@
 //! That the run over the trace writer reaches what it is there for, and finds
 //! the slips that a writer may have.
 
-use handler::{Access, Answer, Handler, Ticked, Wires, Word};
+use handler::{Access, Answer, Edition, Handler, Ticked, Wires, Word};
 use harness::compare::DEFAULT_SEED;
-use harness::record::RECORD;
+use harness::record::WRITTEN_BYTES;
 use harness::write::{reference_record, try_lists, Found, Subject, Summary, DEFAULT_LISTS, PROVED};
 use slips::SLIPS;
 
@@ -77,13 +77,13 @@ fn the_proved_writer_is_equal() {
 
 #[test]
 fn a_batch_that_does_not_read_what_was_written_is_found() {
-    fn batch(h: Handler, bytes: &[u8], out: &mut [Word]) -> (Handler, Answer) {
-        // Takes the register from nine bits.
+    fn batch(h: Handler, e: Edition, bytes: &[u8], out: &mut [Word]) -> (Handler, Answer) {
+        // Takes the register from ten bits.
         let mut cut = bytes.to_vec();
-        for record in cut.chunks_exact_mut(RECORD) {
+        for record in cut.chunks_exact_mut(WRITTEN_BYTES) {
             record[0] &= !0x20;
         }
-        h.batch(&cut, out)
+        h.batch(e, &cut, out)
     }
     let found = found(&Subject { batch, ..RIGHT }).expect("found");
     assert_eq!(found.odd.call, "batch of the written");

@@ -1,8 +1,8 @@
 //! A writer with a slip: the reference's writer with one thing done otherwise.
 
-use handler::Answer;
+use handler::{Answer, Edition, WORDS};
 use harness::entries::{Entries, Lent, Row, Way};
-use harness::record::{pack, Head, LARGEST, RECORD};
+use harness::record::{largest, pack, Head, WRITTEN_BYTES};
 use harness::rng::Rng;
 use harness::write::reference_record;
 
@@ -19,7 +19,7 @@ pub struct Call<'a> {
 impl Call<'_> {
     /// The bytes that the records of all kinds need.
     pub fn need(&self) -> usize {
-        self.list.kinds.len() * RECORD
+        self.list.kinds.len() * WRITTEN_BYTES
     }
 
     /// The bytes that are rightly written.
@@ -107,13 +107,16 @@ fn take(list: Lent, change: fn(&mut Row), out: &mut [u8]) -> Answer {
 /// Whether a well-formed record holds the entry.
 pub fn held(row: &Row) -> bool {
     let (kind, register, value) = ([row.kind], [row.register], [row.value]);
-    reference::record(&kind, &register, &value, &[0], &[0], &mut [0; RECORD]) > 0
+    let (wires, mut out) = ([[0; WORDS]], [0; WRITTEN_BYTES]);
+    reference::record(&kind, &register, &value, &wires, &wires, &mut out) > 0
 }
 
 /// Writes all that fits, whatever the entries are.
 pub fn pour(rows: &[Row], out: &mut [u8]) {
-    for (row, place) in rows.iter().zip(out.chunks_exact_mut(RECORD)) {
-        let head = Head::new(row.kind & 3, row.register & LARGEST, row.value);
-        place.copy_from_slice(&pack(head, row.wires.pos[0], row.wires.neg[0]));
+    let newest = Edition::NEWEST;
+    for (row, place) in rows.iter().zip(out.chunks_exact_mut(WRITTEN_BYTES)) {
+        let register = row.register & largest(newest);
+        let head = Head::new(row.kind & 3, register, row.value);
+        place.copy_from_slice(&pack(newest, head, (row.wires.pos, row.wires.neg)));
     }
 }

@@ -2,8 +2,9 @@
 
 use crate::slip::Slip::{self, Answers, Refuses, Slices, Takes, Unchecked, Writes};
 use crate::slip::{held, pour};
+use handler::WORDS;
 use harness::entries::Lent;
-use harness::record::RECORD;
+use harness::record::WRITTEN_BYTES;
 use std::mem::swap;
 
 /// Every slip; the default set must find each of them.
@@ -12,16 +13,27 @@ pub const SLIPS: &[Slip] = &[
         swap(&mut row.wires.pos, &mut row.wires.neg)
     }),
     Takes("alert 0 last", |row| {
-        row.wires.pos[0] = row.wires.pos[0].reverse_bits();
-        row.wires.neg[0] = row.wires.neg[0].reverse_bits();
+        row.wires.pos = row.wires.pos.map(u64::reverse_bits);
+        row.wires.neg = row.wires.neg.map(u64::reverse_bits);
+    }),
+    Takes("the last word of the wires first", |row| {
+        row.wires.pos.reverse();
+        row.wires.neg.reverse();
+    }),
+    Takes("alert 247 lost", |row| row.wires.neg[3] |= 1 << 8),
+    Takes("the words of the first alerts alone", |row| {
+        row.wires.pos[1..].fill(0);
+        row.wires.neg[1..].fill(0);
     }),
     Takes("the kind cut to two bits", |row| row.kind &= 3),
     Takes("kind 3 taken for a write", |row| {
         row.kind -= u8::from(row.kind == 3)
     }),
-    Takes("the register cut to ten bits", |row| row.register &= 0x3FF),
-    Takes("register 1024 accepted", |row| {
-        row.register *= u16::from(row.register != 1024)
+    Takes("the register cut to eleven bits", |row| {
+        row.register &= 0x7FF
+    }),
+    Takes("register 2048 accepted", |row| {
+        row.register *= u16::from(row.register != 2048)
     }),
     Takes("a register without access dropped", |row| {
         row.register *= u16::from(row.kind != 0)
@@ -41,20 +53,31 @@ pub const SLIPS: &[Slip] = &[
             kinds: &list.kinds[..least],
             registers: &list.registers[..least],
             values: &list.values[..least],
-            positive: &list.positive[..least],
-            negative: &list.negative[..least],
+            positive: &list.positive[..least * WORDS],
+            negative: &list.negative[..least * WORDS],
         }
     }),
     Slices("longer negative wires accepted", |list| Lent {
-        negative: &list.negative[..list.negative.len().min(list.kinds.len())],
+        negative: &list.negative[..list.negative.len().min(list.kinds.len() * WORDS)],
         ..list
+    }),
+    Slices("words that make no whole entry dropped", |list| Lent {
+        positive: &list.positive[..list.positive.len() / WORDS * WORDS],
+        ..list
+    }),
+    Refuses("a place that is no wire refused", -10, |call| {
+        let mut last = call.list.positive.iter().skip(3).step_by(WORDS);
+        last.any(|word| word & 255 != 0)
     }),
     Refuses("11 before 10", -11, |call| call.before.len() < call.need()),
     Refuses("11 before 10 for unequal slices only", -11, |call| {
         !call.list.even() && call.before.len() < call.need()
     }),
-    Refuses("register 1023 refused", -10, |call| {
-        call.list.registers.contains(&1023)
+    Refuses("register 2047 refused", -10, |call| {
+        call.list.registers.contains(&2047)
+    }),
+    Refuses("a register over ten bits refused", -10, |call| {
+        call.list.registers.iter().any(|number| *number > 1023)
     }),
     Refuses("an empty list refused", -10, |call| {
         call.list.lengths() == [0; 5]
@@ -90,9 +113,14 @@ pub const SLIPS: &[Slip] = &[
         }
     }),
     Writes("a zero bit set", |call, out| {
-        // The lowest of the 20, in the second record only.
-        if call.written() > RECORD {
-            out[RECORD + 3] |= 1;
+        // The lowest of the 19, in the second record only.
+        if call.written() > WRITTEN_BYTES {
+            out[WRITTEN_BYTES + 3] |= 1;
+        }
+    }),
+    Writes("the first of the zero bits set", |call, out| {
+        if call.written() > 0 {
+            out[1] |= 4;
         }
     }),
     Writes("the value cut to 31 bits", |call, out| {
@@ -107,8 +135,8 @@ pub const SLIPS: &[Slip] = &[
         }
     }),
     Writes("the first record copied onward", |call, out| {
-        for at in RECORD..call.written() {
-            out[at] = out[at - RECORD];
+        for at in WRITTEN_BYTES..call.written() {
+            out[at] = out[at - WRITTEN_BYTES];
         }
     }),
     Writes("a later byte cleared", |call, out| {

@@ -1,6 +1,6 @@
 //! Clears: writes of 1 to a class's CLR.
 use super::tick::Tick;
-use handler::registers::{Setting, MAP};
+use handler::registers::{Register, Setting};
 use handler::{Access, Refusal};
 
 #[derive(Clone, Copy, Debug, PartialEq, Eq)]
@@ -12,7 +12,8 @@ pub enum Clear {
 
 /// The clear of class k that this tick asks for, if it asks for one. A malformed record asks for nothing.
 pub fn clear(t: &Tick, k: usize) -> Option<Clear> {
-    if t.input().access != Access::Write(MAP.class(k, Setting::Clr), 1) {
+    let is_clr = t.register() == Some(Register::Class(k, Setting::Clr));
+    if !is_clr || !matches!(t.input.access, Access::Write(_, 1)) {
         return None;
     }
     match t.word.refusal() {

@@ -1,6 +1,8 @@
 //! Events of alerts, and local alerts that occur.
 use super::tick::Tick;
-use handler::{Handler, Wires, ALERTS};
+use crate::alert_bits;
+use handler::{Handler, Wires};
+use std::array::from_fn;
 
 /// Local alert 2, alert integrity: the only one that can occur.
 const INTEGRITY: usize = 2;
@@ -12,29 +14,25 @@ pub enum Source {
     Local(usize),
 }
 
-/// The alerts of a set, alert 0 at the highest bit.
-fn members(set: u64) -> impl Iterator<Item = usize> {
-    (0..ALERTS).filter(move |&i| set >> (ALERTS - 1 - i) & 1 == 1)
-}
-
 pub fn is_enabled(h: &Handler, alert: usize) -> bool {
     h.alerts.en[alert] == 1
 }
 
 /// The alerts that have an event, enabled or not: those that the tick disarmed.
 pub fn alerts(t: &Tick) -> impl Iterator<Item = usize> {
-    members(t.before.receivers.armed[0] & !t.after.receivers.armed[0])
+    let (before, after) = (t.before.receivers.armed, t.after.receivers.armed);
+    alert_bits::alerts(from_fn(|word| before[word] & !after[word]))
 }
 
 /// Does an enabled alert have equal wires?
 fn fails(h: &Handler, wires: Wires) -> bool {
-    let equal = !(wires.pos[0] ^ wires.neg[0]);
-    equal != 0 && members(equal).any(|i| i < h.n && is_enabled(h, i))
+    let equal = from_fn(|word| !(wires.pos[word] ^ wires.neg[word]));
+    alert_bits::alerts(equal).any(|i| i < h.n && is_enabled(h, i))
 }
 
 /// The local alert that occurs, if one does.
 pub fn local(t: &Tick) -> Option<usize> {
-    let occurs = t.after.locals.en[INTEGRITY] == 1 && fails(&t.after, t.input().wires);
+    let occurs = t.after.locals.en[INTEGRITY] == 1 && fails(&t.after, t.input.wires);
     occurs.then_some(INTEGRITY)
 }
 

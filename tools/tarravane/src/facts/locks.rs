@@ -1,24 +1,24 @@
 //! Locks: REGWEN and CLR_REGWEN that fall from 1 to 0, by a write or by LOCK.
 use super::tick::Tick;
-use handler::registers::{Field, Setting, MAP};
+use handler::registers::{Field, Register, Setting};
 
-/// The registers among neighbours from `first` on that fall.
-fn fallen<'a>(first: u16, before: &'a [u8], after: &'a [u8]) -> impl Iterator<Item = u16> + 'a {
-    let pairs = (first..).zip(before.iter().zip(after));
-    pairs.filter_map(|(number, (before, after))| (before > after).then_some(number))
+/// The places in a column at which it falls.
+fn fallen<'a>(before: &'a [u8], after: &'a [u8]) -> impl Iterator<Item = usize> + 'a {
+    (0..after.len()).filter(|&i| before[i] > after[i])
 }
 
-/// The numbers of the registers that this tick locks.
-pub fn locked(t: &Tick) -> Vec<u16> {
+/// The registers that this tick locks.
+pub fn locked(t: &Tick) -> Vec<Register> {
     let (before, after) = (&t.before, &t.after);
-    let (local, alert) = (MAP.local(Field::Regwen, 0), MAP.alert(Field::Regwen, 0));
-    let mut all: Vec<u16> = fallen(local, &before.locals.regwen, &after.locals.regwen).collect();
-    all.extend(fallen(alert, &before.alerts.regwen, &after.alerts.regwen));
+    let locals = fallen(&before.locals.regwen, &after.locals.regwen);
+    let alerts = fallen(&before.alerts.regwen, &after.alerts.regwen);
+    let mut all: Vec<Register> = locals.map(|j| Register::Local(Field::Regwen, j)).collect();
+    all.extend(alerts.map(|i| Register::Alert(Field::Regwen, i)));
     for (k, (before, after)) in before.classes.iter().zip(&after.classes).enumerate() {
         let regwen = (Setting::Regwen, before.regwen, after.regwen);
         let clrwen = (Setting::ClrRegwen, before.clrwen, after.clrwen);
         let fallen = [regwen, clrwen].into_iter().filter(|(_, b, a)| b > a);
-        all.extend(fallen.map(|(setting, _, _)| MAP.class(k, setting)));
+        all.extend(fallen.map(|(setting, _, _)| Register::Class(k, setting)));
     }
     all
 }

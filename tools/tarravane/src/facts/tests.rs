@@ -1,4 +1,4 @@
-//! The facts of many ticks, against what the library's counts, states and words say.
+//! The facts of many ticks of both editions, against what the library's counts, states and words say.
 use super::clears::{clear, Clear};
 use super::events::{of_class, Source};
 use super::lines::drives;
@@ -6,19 +6,28 @@ use super::locks::locked;
 use super::starts::{start, IDLE, TIMEOUT};
 use super::tick::Tick;
 use super::ticks::Ticks;
-use handler::registers::{Field, Register, Setting, INTR_STATE, MAP};
-use handler::{record, Access, Handler, Input, Wires, CLASSES, RECORD};
+use crate::alert_bits::put;
+use crate::trace::record::written;
+use handler::registers::{Field, Register, Setting, INTR_STATE};
+use handler::{Access, Edition, Handler, Input, Wires, CLASSES};
 use harness::rng::Rng;
 
-const N: usize = 5;
+/// Alerts at the ends of words, which have all the events.
+fn used(edition: Edition) -> [usize; 5] {
+    match edition {
+        Edition::Bytes24 => [0, 1, 31, 62, 63],
+        Edition::Bytes70 => [0, 63, 64, 191, 247],
+    }
+}
 
 /// A write that moves a handler on: enables, classes, thresholds, timeouts, clears and, seldom, locks.
-fn write(rng: &mut Rng) -> (u16, u32) {
-    let (i, k) = (rng.index(N), rng.index(CLASSES));
+fn write(rng: &mut Rng, edition: Edition) -> (u16, u32) {
+    let (i, k) = (rng.pick(&used(edition)), rng.index(CLASSES));
     let ctrl = 0x3900 | rng.below(64) as u32;
-    let alert = |field| MAP.alert(field, i);
-    let local = |field| MAP.local(field, 2);
-    let class = |setting| MAP.class(k, setting);
+    let map = edition.registers();
+    let alert = |field| map.alert(field, i);
+    let local = |field| map.local(field, 2);
+    let class = |setting| map.class(k, setting);
     let locks = [Setting::Regwen, Setting::ClrRegwen];
     let others = [alert(Field::Regwen), local(Field::Regwen), 1023];
     match rng.below(40) {
@@ -40,38 +49,42 @@ fn write(rng: &mut Rng) -> (u16, u32) {
     }
 }
 
-fn input(rng: &mut Rng) -> Input {
+/// All at rest, or some alerts raised, with both wires up or as a good pair.
+fn wires(rng: &mut Rng, edition: Edition) -> Wires {
+    let mut wires = Wires::REST;
+    let way = rng.below(4);
+    if way == 0 {
+        return wires;
+    }
+    for alert in used(edition) {
+        let raised = rng.below(2) == 1;
+        put(&mut wires.pos, alert, raised);
+        put(&mut wires.neg, alert, !raised || way == 1);
+    }
+    wires
+}
+
+fn input(rng: &mut Rng, edition: Edition) -> Input {
     let access = match rng.below(3) {
         0 => Access::Nothing,
         _ => {
-            let (register, value) = write(rng);
+            let (register, value) = write(rng, edition);
             Access::Write(register, value)
         }
     };
-    let raised = rng.below(1 << N) << (64 - N);
-    let wires = match rng.below(4) {
-        0 => Wires::REST,
-        1 => Wires {
-            pos: [raised],
-            neg: [u64::MAX],
-        },
-        _ => Wires {
-            pos: [raised],
-            neg: [!raised],
-        },
-    };
+    let wires = wires(rng, edition);
     Input { access, wires }
 }
 
-/// The ticks of fresh handlers, shown to a check.
-fn each(check: &mut dyn FnMut(&Tick)) {
+/// The ticks of fresh handlers of an edition, shown to a check.
+fn each_of(edition: Edition, check: &mut dyn FnMut(&Tick)) {
     let mut rng = Rng::new(1);
     for _ in 0..200 {
-        let inputs: Vec<Input> = (0..300).map(|_| input(&mut rng)).collect();
-        let mut bytes = vec![0; inputs.len() * RECORD];
-        assert_eq!(record(&inputs, &mut bytes).bytes(), Ok(bytes.len()));
+        let inputs: Vec<Input> = (0..300).map(|_| input(&mut rng, edition)).collect();
+        let bytes = written(edition, &inputs).expect("records");
         let mut from = &bytes[..];
-        let mut ticks = Ticks::new(&mut from, "t", Handler::new(N).0);
+        let handler = Handler::new(edition.alerts()).0;
+        let mut ticks = Ticks::new(&mut from, "t", edition, handler);
         while let Some(tick) = ticks.take().expect("a tick") {
             check(&tick);
         }
@@ -87,73 +100,81 @@ fn counts(t: &Tick, k: usize) -> bool {
 
 #[test]
 fn events_of_a_class_are_those_that_it_counts() {
-    let (mut by_alerts, mut by_local) = (0, 0);
-    each(&mut |t| {
-        for k in 0..CLASSES {
-            let events = of_class(t, k);
-            let (before, after) = (t.before.classes[k].accum, t.after.classes[k].accum);
-            if clear(t, k) == Some(Clear::Accepted) {
-                assert_eq!(after, 0);
-            } else {
-                let event = counts(t, k) && !events.is_empty();
-                assert_eq!(after, before + u16::from(event), "tick {}", t.number);
-                by_local += u64::from(event && events == [Source::Local(2)]);
-                by_alerts += u64::from(event && matches!(events[0], Source::Alert(_)));
+    for edition in Edition::ALL {
+        let (mut by_alerts, mut by_local) = (0, 0);
+        each_of(edition, &mut |t| {
+            for k in 0..CLASSES {
+                let events = of_class(t, k);
+                let (before, after) = (t.before.classes[k].accum, t.after.classes[k].accum);
+                if clear(t, k) == Some(Clear::Accepted) {
+                    assert_eq!(after, 0);
+                } else {
+                    let event = counts(t, k) && !events.is_empty();
+                    assert_eq!(after, before + u16::from(event), "tick {}", t.number);
+                    by_local += u64::from(event && events == [Source::Local(2)]);
+                    by_alerts += u64::from(event && matches!(events[0], Source::Alert(_)));
+                }
             }
-        }
-    });
-    assert!(by_alerts > 1000 && by_local > 1000);
+        });
+        assert!(by_alerts > 1000 && by_local > 1000);
+    }
 }
 
 #[test]
 fn a_start_is_by_a_trigger_or_by_the_timeout() {
-    let (mut triggers, mut timeouts) = (0, 0);
-    each(&mut |t| {
-        for k in 0..CLASSES {
-            let (before, after) = (&t.before.classes[k], &t.after.classes[k]);
-            let Some(start) = start(t, k) else { continue };
-            let triggered = !start.by.is_empty();
-            let timed_out = before.state == TIMEOUT && before.count >= after.timeout;
-            assert!(triggered || timed_out, "tick {}", t.number);
-            assert!(triggered || before.state != IDLE);
-            assert_eq!(start.locked, after.regwen == 0);
-            assert!(!start.lock || after.clrwen == 0);
-            triggers += u64::from(triggered);
-            timeouts += u64::from(!triggered);
-        }
-    });
-    assert!(triggers > 100 && timeouts > 100, "{triggers} {timeouts}");
+    for edition in Edition::ALL {
+        let (mut triggers, mut timeouts) = (0, 0);
+        each_of(edition, &mut |t| {
+            for k in 0..CLASSES {
+                let (before, after) = (&t.before.classes[k], &t.after.classes[k]);
+                let Some(start) = start(t, k) else { continue };
+                let triggered = !start.by.is_empty();
+                let timed_out = before.state == TIMEOUT && before.count >= after.timeout;
+                assert!(triggered || timed_out, "tick {}", t.number);
+                assert!(triggered || before.state != IDLE);
+                assert_eq!(start.locked, after.regwen == 0);
+                assert!(!start.lock || after.clrwen == 0);
+                triggers += u64::from(triggered);
+                timeouts += u64::from(!triggered);
+            }
+        });
+        assert!(triggers > 100 && timeouts > 100, "{triggers} {timeouts}");
+    }
 }
 
 #[test]
 fn a_line_is_on_where_a_class_drives_it() {
-    let mut on = 0;
-    each(&mut |t| {
-        for e in 0..4 {
-            let driven = t.after.classes.iter().any(|class| drives(class, e));
-            assert_eq!(driven, t.word.line(e), "tick {}", t.number);
-            on += u64::from(driven);
-        }
-    });
-    assert!(on > 1000);
+    for edition in Edition::ALL {
+        let mut on = 0;
+        each_of(edition, &mut |t| {
+            for e in 0..4 {
+                let driven = t.after.classes.iter().any(|class| drives(class, e));
+                assert_eq!(driven, t.word.line(e), "tick {}", t.number);
+                on += u64::from(driven);
+            }
+        });
+        assert!(on > 1000);
+    }
 }
 
 /// By a write of 0 each, and CLR_REGWEN also by a start under LOCK.
 #[test]
 fn each_lock_has_its_cause() {
-    let (mut written, mut by_lock) = (0, 0);
-    each(&mut |t| {
-        for register in locked(t) {
-            if t.input().access == Access::Write(register, 0) {
-                written += 1;
-                continue;
+    for edition in Edition::ALL {
+        let (mut written, mut by_lock) = (0, 0);
+        each_of(edition, &mut |t| {
+            for register in locked(t) {
+                if t.register() == Some(register) && matches!(t.input.access, Access::Write(_, 0)) {
+                    written += 1;
+                    continue;
+                }
+                let Register::Class(k, Setting::ClrRegwen) = register else {
+                    panic!("tick {}: {register} is no CLR_REGWEN", t.number);
+                };
+                assert!(start(t, k).is_some_and(|start| start.lock));
+                by_lock += 1;
             }
-            let Some(Register::Class(k, Setting::ClrRegwen)) = MAP.register(register) else {
-                panic!("tick {}: {register} is no CLR_REGWEN", t.number);
-            };
-            assert!(start(t, k).is_some_and(|start| start.lock));
-            by_lock += 1;
-        }
-    });
-    assert!(written > 100 && by_lock > 100, "{written} {by_lock}");
+        });
+        assert!(written > 100 && by_lock > 100, "{written} {by_lock}");
+    }
 }

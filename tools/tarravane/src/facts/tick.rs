@@ -1,11 +1,14 @@
 //! One tick.
-use crate::trace;
-use handler::{Handler, Input, Refusal, Word, RECORD};
+use handler::registers::Register;
+use handler::{Access, Edition, Handler, Input, Refusal, Word};
 
 pub struct Tick {
     /// The first record is tick 1.
     pub number: u64,
-    pub record: [u8; RECORD],
+    pub edition: Edition,
+    pub record: Vec<u8>,
+    /// What the record holds; the register has the edition's number.
+    pub input: Input,
     pub before: Handler,
     pub after: Handler,
     /// The word of the tick before; 0 before the first.
@@ -14,8 +17,14 @@ pub struct Tick {
 }
 
 impl Tick {
-    pub fn input(&self) -> Input {
-        trace::input(&self.record)
+    /// The register that is read or written, where the edition has it.
+    pub fn register(&self) -> Option<Register> {
+        match self.input.access {
+            Access::Read(number) | Access::Write(number, _) => {
+                self.edition.registers().register(number)
+            }
+            _ => None,
+        }
     }
 
     pub fn is_malformed(&self) -> bool {

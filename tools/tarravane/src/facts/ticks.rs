@@ -1,12 +1,14 @@
 //! The ticks of a trace, one after another, so that memory stays bounded. The library runs each.
 use super::tick::Tick;
 use crate::source::filled;
-use handler::{Handler, Word, RECORD};
+use crate::trace::record;
+use handler::{Edition, Handler, Word};
 use std::io::Read;
 
 pub struct Ticks<'a, R> {
     from: &'a mut R,
     name: &'a str,
+    edition: Edition,
     handler: Handler,
     word: Word,
     number: u64,
@@ -15,10 +17,11 @@ pub struct Ticks<'a, R> {
 
 impl<'a, R: Read> Ticks<'a, R> {
     /// `from`: a trace after its N; `handler`: the one that N asks for; `name`: what a failed read calls the trace.
-    pub fn new(from: &'a mut R, name: &'a str, handler: Handler) -> Ticks<'a, R> {
+    pub fn new(from: &'a mut R, name: &'a str, edition: Edition, handler: Handler) -> Self {
         Ticks {
             from,
             name,
+            edition,
             handler,
             word: Word::default(),
             number: 0,
@@ -38,15 +41,16 @@ impl<'a, R: Read> Ticks<'a, R> {
 
     /// The next tick; nothing after the last one.
     pub fn take(&mut self) -> Result<Option<Tick>, String> {
-        let mut record = [0; RECORD];
+        let edition = self.edition;
+        let mut record = vec![0; edition.bytes()];
         let have = filled(self.from, &mut record, self.name)?;
-        if have < RECORD {
+        if have < record.len() {
             self.left = have;
             return Ok(None);
         }
         let (before, last) = (self.handler, self.word);
         let mut words = [Word::default()];
-        let (after, answer) = before.batch(&record, &mut words);
+        let (after, answer) = before.batch(edition, &record, &mut words);
         if let Err(refusal) = answer.value() {
             return Err(format!("the library refused a record by {}", refusal.0));
         }
@@ -54,6 +58,8 @@ impl<'a, R: Read> Ticks<'a, R> {
         (self.handler, self.word) = (after, words[0]);
         Ok(Some(Tick {
             number: self.number,
+            edition,
+            input: record::input(edition, &record),
             record,
             before,
             after,

@@ -1,12 +1,16 @@
-//! A trace that grows by the lines of a text. The proved writer gives the bytes of every tick's record; bytes that the text
-//! has itself are passed as they are.
+//! A trace that grows by the lines of a text. The bytes of a tick's record are written for it; bytes that the text has itself
+//! are passed as they are.
 use crate::names;
 use crate::source::AT_ONCE;
 use crate::text::line::Line;
-use handler::{record, Access, Input, Refusal, RECORD};
+use crate::trace::record::written;
+use crate::trace::Start;
+use handler::{Access, Edition, Input, Refusal};
 
 #[derive(Default)]
 pub struct Grown {
+    /// Nothing before the first line.
+    start: Option<Start>,
     bytes: Vec<u8>,
     /// Ticks that are not written yet, and the line of each: the writer is asked for many at once.
     inputs: Vec<Input>,
@@ -14,9 +18,9 @@ pub struct Grown {
     cut: bool,
 }
 
-/// Why the writer takes no such input, if it does not.
-fn refused(input: &Input) -> Option<String> {
-    let refusal = record(&[*input], &mut [0; RECORD]).bytes().err()?;
+/// Why there is no record of such an input, if there is none.
+fn refused(edition: Edition, input: &Input) -> Option<String> {
+    let refusal = written(edition, &[*input]).err()?;
     Some(match input.access {
         Access::Read(register) | Access::Write(register, _) if refusal == Refusal::NO_RECORD => {
             format!("no record holds register {register}")
@@ -26,13 +30,26 @@ fn refused(input: &Input) -> Option<String> {
 }
 
 impl Grown {
-    /// N, where the text has come to it.
-    pub fn n(&self) -> Option<u8> {
-        self.bytes.first().copied()
+    /// The edition, where the text has come to it.
+    pub fn edition(&self) -> Option<Edition> {
+        self.start.map(|start| start.edition)
     }
 
-    pub fn begin(&mut self, n: u8) {
-        self.bytes.push(n);
+    /// N, where the text has come to it.
+    pub fn n(&self) -> Option<u8> {
+        self.start().n
+    }
+
+    /// What the trace begins with; a text without a line gives no byte.
+    pub fn start(&self) -> Start {
+        self.start.unwrap_or(Start::EMPTY)
+    }
+
+    /// The text has come to its edition, or to N.
+    pub fn begin(&mut self, edition: Edition, n: Option<u8>) {
+        let start = Start { edition, n };
+        self.start = Some(start);
+        self.bytes = start.bytes();
     }
 
     pub fn is_cut(&self) -> bool {
@@ -75,18 +92,22 @@ impl Grown {
 
     /// Has the ticks that are left written.
     pub fn write(&mut self) -> Result<(), String> {
-        let at = self.bytes.len();
-        self.bytes.resize(at + self.inputs.len() * RECORD, 0);
-        if let Err(refusal) = record(&self.inputs, &mut self.bytes[at..]).bytes() {
-            let all = self.lines.iter().zip(&self.inputs);
-            let mut bad = all.filter_map(|(line, input)| Some((line, refused(input)?)));
-            return Err(match bad.next() {
-                Some((line, why)) => format!("line {line}: {why}"),
-                None => format!("the library refused the ticks by {}", refusal.0),
-            });
-        }
+        let records = written(self.start().edition, &self.inputs);
+        let records = records.map_err(|refusal| self.first_refused(refusal))?;
+        self.bytes.extend(records);
         self.inputs.clear();
         self.lines.clear();
         Ok(())
+    }
+
+    /// The first line whose tick is refused, and why.
+    fn first_refused(&self, refusal: Refusal) -> String {
+        let why = |input| refused(self.start().edition, input);
+        let all = self.lines.iter().zip(&self.inputs);
+        let mut bad = all.filter_map(|(line, input)| Some((line, why(input)?)));
+        match bad.next() {
+            Some((line, why)) => format!("line {line}: {why}"),
+            None => format!("the library refused the ticks by {}", refusal.0),
+        }
     }
 }

@@ -3,8 +3,8 @@ use crate::names;
 use crate::say::say;
 use crate::text::line::Line;
 use crate::text::wires;
-use handler::registers::{Register, MAP};
-use handler::{Access, ALERTS};
+use handler::registers::Register;
+use handler::{Access, Edition};
 
 /// The most lines of a text that are warned of; those after them are counted.
 const MOST: usize = 10;
@@ -19,17 +19,19 @@ pub struct Warnings {
 }
 
 /// Is it a register of an alert at N or above?
-fn is_above(n: u8, register: u16) -> bool {
-    matches!(MAP.register(register), Some(Register::Alert(_, i)) if i >= usize::from(n))
+fn is_above(edition: Edition, n: u8, register: u16) -> bool {
+    let register = edition.registers().register(register);
+    matches!(register, Some(Register::Alert(_, i)) if i >= usize::from(n))
 }
 
 /// What a tick says of alerts at N and above.
-fn unheeded(n: u8, line: &Line) -> Vec<String> {
+fn unheeded(edition: Edition, n: u8, line: &Line) -> Vec<String> {
     let mut all = Vec::new();
     let Line::Tick(input) = line else { return all };
     if let Access::Read(register) | Access::Write(register, _) = input.access {
-        if is_above(n, register) {
-            all.push(format!("{} is no register", names::register(register)));
+        if is_above(edition, n, register) {
+            let name = names::register(edition, register);
+            all.push(format!("{name} is no register"));
         }
     }
     if let Some(i) = wires::first_off_rest(input.wires, usize::from(n)) {
@@ -44,11 +46,11 @@ impl Warnings {
     }
 
     /// Looks at a line; where N is refused no tick runs at all, and that is said once.
-    pub fn look(&mut self, number: u64, n: u8, line: &Line) {
-        if !(1..=ALERTS).contains(&usize::from(n)) {
+    pub fn look(&mut self, number: u64, edition: Edition, n: u8, line: &Line) {
+        if !(1..=edition.alerts()).contains(&usize::from(n)) {
             return;
         }
-        let found = unheeded(n, line);
+        let found = unheeded(edition, n, line);
         if found.is_empty() {
             return;
         }

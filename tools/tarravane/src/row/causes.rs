@@ -31,7 +31,7 @@ pub fn fitted(causes: &[String], room: usize) -> String {
     let mut text = String::new();
     for (i, cause) in causes.iter().enumerate() {
         let left = causes.len() - i;
-        let more = if left > 1 { " +00".len() } else { 0 };
+        let more = if left > 1 { " +000".len() } else { 0 };
         if text.len() + cause.len() + more > room {
             return format!("{text} +{left}");
         }

@@ -3,12 +3,14 @@ use super::Form;
 use crate::names;
 use handler::Class;
 
-/// A count in at most four columns, up to 65535 in three.
+/// A count in at most three columns, rounded down.
 fn short(count: u32) -> String {
     match count {
         0..=999 => count.to_string(),
-        1_000..=999_999 => format!("{}k", count / 1_000),
-        1_000_000..=999_999_999 => format!("{}M", count / 1_000_000),
+        1_000..=99_999 => format!("{}k", count / 1_000),
+        100_000..=999_999 => format!(".{}M", count / 100_000),
+        1_000_000..=99_999_999 => format!("{}M", count / 1_000_000),
+        100_000_000..=999_999_999 => format!(".{}G", count / 100_000_000),
         _ => format!("{}G", count / 1_000_000_000),
     }
 }
@@ -29,14 +31,19 @@ mod tests {
     use super::*;
 
     #[test]
-    fn counts_are_short_in_four_columns() {
+    fn counts_are_short_in_three_columns() {
         for (count, text) in [
             (0, "0"),
             (999, "999"),
             (1_000, "1k"),
             (65_535, "65k"),
-            (999_999, "999k"),
+            (99_999, "99k"),
+            (100_000, ".1M"),
+            (999_999, ".9M"),
             (1_000_000, "1M"),
+            (99_999_999, "99M"),
+            (100_000_000, ".1G"),
+            (1_000_000_000, "1G"),
             (u32::MAX, "4G"),
         ] {
             assert_eq!(short(count), text);

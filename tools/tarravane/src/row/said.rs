@@ -1,10 +1,10 @@
 //! What a row says of access and wires.
 use crate::text::{access, line, wires};
-use handler::{Input, RECORD};
+use handler::{Edition, Input};
 
 /// The line of a text.
-pub fn whole(x: &Input) -> String {
-    line::words(x)
+pub fn whole(edition: Edition, x: &Input) -> String {
+    line::words(edition, x)
 }
 
 /// Wires as the number of alerts that are off rest, after these words; nothing where all are at rest.
@@ -16,13 +16,13 @@ fn number(words: &str, x: &Input) -> String {
 }
 
 /// The access, and the wires as a number.
-pub fn counted(x: &Input) -> String {
-    access::words(x.access) + &number(" wires ", x)
+pub fn counted(edition: Edition, x: &Input) -> String {
+    access::words(edition, x.access) + &number(" wires ", x)
 }
 
 /// The access with r for read and w for write, and the wires as a number.
-pub fn shortest(x: &Input) -> String {
-    let words = access::words(x.access);
+pub fn shortest(edition: Edition, x: &Input) -> String {
+    let words = access::words(edition, x.access);
     let access = match words.split_once(' ') {
         Some(("read", rest)) => format!("r {rest}"),
         Some(("write", rest)) => format!("w {rest}"),
@@ -32,6 +32,6 @@ pub fn shortest(x: &Input) -> String {
 }
 
 /// All bytes of the record, and its wires, which count also where it is malformed.
-pub fn raw(record: &[u8; RECORD], x: &Input) -> String {
+pub fn raw(record: &[u8], x: &Input) -> String {
     line::raw_words(record) + &wires::words(x.wires)
 }

@@ -1,13 +1,13 @@
 //! The access of a tick: `none`, `read REGISTER` or `write REGISTER VALUE`.
 use super::word::{number, shown};
 use crate::names;
-use handler::Access;
+use handler::{Access, Edition};
 
-/// A register by name, or by number as far as the writer takes one; whether a record holds it, the writer says.
-fn register(verb: &str, word: Option<&str>) -> Result<u16, String> {
+/// A register by name, or by the edition's number as far as the writer takes one; whether a record holds it, the writer says.
+fn register(edition: Edition, verb: &str, word: Option<&str>) -> Result<u16, String> {
     let word = word.ok_or_else(|| format!("{verb} wants a register"))?;
     let number = || number(word).and_then(|n| u16::try_from(n).ok());
-    names::number(word)
+    names::number(edition, word)
         .or_else(number)
         .ok_or_else(|| format!("no such register: {}", shown(word)))
 }
@@ -20,12 +20,15 @@ fn value(word: Option<&str>) -> Result<u32, String> {
 }
 
 /// Takes the words of the access, and no more.
-pub fn parse<'a>(words: &mut impl Iterator<Item = &'a str>) -> Result<Access, String> {
+pub fn parse<'a>(
+    edition: Edition,
+    words: &mut impl Iterator<Item = &'a str>,
+) -> Result<Access, String> {
     match words.next() {
         Some("none") => Ok(Access::Nothing),
-        Some("read") => Ok(Access::Read(register("read", words.next())?)),
+        Some("read") => Ok(Access::Read(register(edition, "read", words.next())?)),
         Some("write") => {
-            let register = register("write", words.next())?;
+            let register = register(edition, "write", words.next())?;
             Ok(Access::Write(register, value(words.next())?))
         }
         other => Err(format!(
@@ -36,13 +39,14 @@ pub fn parse<'a>(words: &mut impl Iterator<Item = &'a str>) -> Result<Access, St
 }
 
 /// The words of an access. No text has the last of them.
-pub fn words(access: Access) -> String {
+pub fn words(edition: Edition, access: Access) -> String {
+    let name = |number| names::register(edition, number);
     match access {
         Access::Nothing => "none".to_string(),
-        Access::Read(number) => format!("read {}", names::register(number)),
+        Access::Read(number) => format!("read {}", name(number)),
         Access::Write(number, value) => {
-            let value = names::written(number, value);
-            format!("write {} {value}", names::register(number))
+            let value = names::written(edition, number, value);
+            format!("write {} {value}", name(number))
         }
         Access::Malformed => "kind 3".to_string(),
     }
@@ -52,33 +56,48 @@ pub fn words(access: Access) -> String {
 mod tests {
     use super::*;
 
-    fn parsed(text: &str) -> Result<Access, String> {
-        parse(&mut text.split(' '))
+    fn parsed(edition: Edition, text: &str) -> Result<Access, String> {
+        parse(edition, &mut text.split(' '))
     }
 
     #[test]
     fn every_access_goes_both_ways() {
-        for register in 0..=u16::MAX {
-            for access in [
-                Access::Read(register),
-                Access::Write(register, 0),
-                Access::Write(register, u32::MAX),
+        for edition in Edition::ALL {
+            for register in 0..=u16::MAX {
+                for access in [
+                    Access::Read(register),
+                    Access::Write(register, 0),
+                    Access::Write(register, u32::MAX),
+                ] {
+                    assert_eq!(parsed(edition, &words(edition, access)), Ok(access));
+                }
+            }
+            assert_eq!(parsed(edition, "none"), Ok(Access::Nothing));
+        }
+    }
+
+    /// A name is the same in every edition, a number is the edition's own.
+    #[test]
+    fn a_register_has_a_name_and_a_number() {
+        for (edition, number) in [(Edition::Bytes24, 321), (Edition::Bytes70, 1281)] {
+            let access = Ok(Access::Write(number, 0x393F));
+            for text in [
+                "write CLASSA_CTRL 0x393f",
+                &format!("write {number} 14655"),
+                &format!("write {number:#x} 0x393F"),
             ] {
-                assert_eq!(parsed(&words(access)), Ok(access));
+                assert_eq!(parsed(edition, text), access, "{text}");
             }
         }
-        assert_eq!(parsed("none"), Ok(Access::Nothing));
     }
 
     #[test]
-    fn a_register_has_a_name_and_a_number() {
-        let access = Ok(Access::Write(321, 0x393F));
-        for text in [
-            "write CLASSA_CTRL 0x393f",
-            "write 321 14655",
-            "write 0x141 0x393F",
-        ] {
-            assert_eq!(parsed(text), access, "{text}");
+    fn an_edition_names_its_own_alerts() {
+        for (edition, most) in [(Edition::Bytes24, 64), (Edition::Bytes70, 248)] {
+            let read = |i: usize| parsed(edition, &format!("read ALERT{i}_EN"));
+            assert!(read(most - 1).is_ok());
+            let problem = format!("no such register: ALERT{most}_EN");
+            assert_eq!(read(most), Err(problem));
         }
     }
 
@@ -101,7 +120,7 @@ mod tests {
             ),
             ("write 0 x", "not a value from 0 to 4294967295: x"),
         ] {
-            assert_eq!(parsed(text), Err(problem.to_string()));
+            assert_eq!(parsed(Edition::NEWEST, text), Err(problem.to_string()));
         }
     }
 }

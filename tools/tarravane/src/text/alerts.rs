@@ -1,32 +1,41 @@
-//! The first line of a text: `alerts N`.
+//! The line before the ticks: `alerts N`.
 use super::word::{number, shown, split};
+use handler::Edition;
 
-/// Is it the first line of a text, good or bad?
-pub fn is_alerts(line: &str) -> bool {
-    split(line).next() == Some("alerts")
+fn wanted(edition: Edition) -> String {
+    let most = edition.alerts();
+    format!("alerts wants a number: 1 to {most}, or another byte for a trace that is refused")
 }
 
-/// N, the number of alerts that the first line gives: any byte, so that every trace has a text.
-pub fn parse(line: &str) -> Result<u8, String> {
-    let wanted = "alerts wants a number: 1 to 64, or another byte for a trace that is refused";
+/// The word after `alerts`.
+fn count(edition: Edition, line: &str) -> Result<&str, String> {
     let all: Vec<&str> = split(line).collect();
-    let count = match all[..] {
-        ["alerts", count] => count,
-        ["alerts"] => return Err(wanted.to_string()),
-        ["alerts", _, more, ..] => return Err(format!("unexpected: {}", shown(more))),
-        _ => {
-            return Err(format!(
-                "a text begins with alerts N, not with {}",
-                shown(all.first().unwrap_or(&"nothing"))
-            ))
-        }
-    };
-    number(count)
-        .and_then(|n| u8::try_from(n).ok())
-        .ok_or_else(|| format!("{wanted}, not {}", shown(count)))
+    match all[..] {
+        ["alerts", count] => Ok(count),
+        ["alerts"] => Err(wanted(edition)),
+        ["alerts", _, more, ..] => Err(format!("unexpected: {}", shown(more))),
+        ["edition", ..] => Err("one edition, and it stands first".to_string()),
+        _ => Err(format!(
+            "a text begins with alerts N, not with {}",
+            shown(all.first().unwrap_or(&"nothing"))
+        )),
+    }
 }
 
-/// The first line of a text.
+/// N, the number of alerts: any byte, so that every trace has a text. Where N is the first byte of a trace, the mark of
+/// another edition is no N.
+pub fn parse(edition: Edition, line: &str) -> Result<u8, String> {
+    let count = count(edition, line)?;
+    let n = number(count)
+        .and_then(|n| u8::try_from(n).ok())
+        .ok_or_else(|| format!("{}, not {}", wanted(edition), shown(count)))?;
+    if edition.mark().is_none() && Edition::of(n) != edition {
+        let other = Edition::of(n).bytes();
+        return Err(format!("a first byte of {n} is that of edition {other}"));
+    }
+    Ok(n)
+}
+
 pub fn words(n: u8) -> String {
     format!("alerts {n}")
 }
@@ -34,27 +43,44 @@ pub fn words(n: u8) -> String {
 #[cfg(test)]
 mod tests {
     use super::*;
+    use Edition::{Bytes24, Bytes70};
 
     #[test]
-    fn a_text_begins_with_alerts() {
-        assert_eq!(parse("alerts 1"), Ok(1));
-        assert_eq!(parse(" alerts\t0x40 "), Ok(64));
-        assert_eq!(parse("alerts 0"), Ok(0));
-        assert_eq!(parse("alerts 255"), Ok(255));
-        let wanted = "alerts wants a number: 1 to 64, or another byte for a trace that is refused";
-        for (line, word) in [
-            ("alerts", ""),
-            ("alerts 256", ", not 256"),
-            ("alerts two", ", not two"),
-        ] {
-            assert_eq!(parse(line), Err(format!("{wanted}{word}")));
+    fn n_is_any_byte() {
+        for edition in Edition::ALL {
+            for n in 0..255 {
+                assert_eq!(parse(edition, &words(n)), Ok(n));
+            }
+            assert_eq!(parse(edition, " alerts\t0x40 "), Ok(64));
         }
-        for (line, problem) in [
-            ("alerts 2 3", "unexpected: 3"),
-            ("none", "a text begins with alerts N, not with none"),
-            ("alert 2", "a text begins with alerts N, not with alert"),
-        ] {
-            assert_eq!(parse(line), Err(problem.to_string()));
+        assert_eq!(parse(Bytes70, "alerts 255"), Ok(255));
+        let problem = "a first byte of 255 is that of edition 70";
+        assert_eq!(parse(Bytes24, "alerts 255"), Err(problem.to_string()));
+    }
+
+    #[test]
+    fn bad_words_are_told() {
+        for (edition, most) in [(Bytes24, 64), (Bytes70, 248)] {
+            let wanted = format!(
+                "alerts wants a number: 1 to {most}, or another byte for a trace that is refused"
+            );
+            for (line, problem) in [
+                ("alerts", wanted.clone()),
+                ("alerts 256", format!("{wanted}, not 256")),
+                ("alerts two", format!("{wanted}, not two")),
+                ("alerts 2 3", "unexpected: 3".to_string()),
+                (
+                    "none",
+                    "a text begins with alerts N, not with none".to_string(),
+                ),
+                (
+                    "alert 2",
+                    "a text begins with alerts N, not with alert".to_string(),
+                ),
+                ("edition 24", "one edition, and it stands first".to_string()),
+            ] {
+                assert_eq!(parse(edition, line), Err(problem));
+            }
         }
     }
 }

@@ -1,15 +1,15 @@
 //! A line of a text, without its comment.
 use super::word::{shown, split};
 use super::{access, hex, wires};
-use handler::{Input, Wires, RECORD};
+use handler::{Edition, Input, Wires};
 
-/// What a line after the first gives.
+/// What a line after `alerts` gives.
 #[derive(Debug, PartialEq, Eq)]
 pub enum Line {
-    /// A tick, whose record the proved writer gives.
+    /// A tick, whose register has the edition's number.
     Tick(Input),
     /// A record as its bytes, well-formed or not.
-    Raw([u8; RECORD]),
+    Raw(Vec<u8>),
     /// The bytes that follow the last record, too few for another.
     Cut(Vec<u8>),
 }
@@ -18,40 +18,48 @@ pub fn is_blank(line: &str) -> bool {
     split(line).next().is_none()
 }
 
-fn parse_tick(line: &str) -> Result<Input, String> {
+fn parse_tick(edition: Edition, line: &str) -> Result<Input, String> {
     let mut words = split(line);
-    let access = access::parse(&mut words)?;
+    let access = access::parse(edition, &mut words)?;
     let wires = match words.next() {
         None => Wires::REST,
-        Some("wires") => wires::parse(words)?,
+        Some("wires") => wires::parse(edition, words)?,
         Some(word) => return Err(format!("unexpected: {}", shown(word))),
     };
     Ok(Input { access, wires })
 }
 
-fn parse_raw(bytes: Option<Vec<u8>>) -> Result<Line, String> {
+fn parse_raw(edition: Edition, bytes: Option<Vec<u8>>) -> Result<Line, String> {
+    let length = edition.bytes();
     bytes
-        .and_then(|bytes| bytes.try_into().ok())
+        .filter(|bytes| bytes.len() == length)
         .map(Line::Raw)
-        .ok_or_else(|| "raw wants 48 hex digits, the 24 bytes of a record".to_string())
+        .ok_or_else(|| {
+            let digits = 2 * length;
+            format!("raw wants {digits} hex digits, the {length} bytes of a record")
+        })
 }
 
-fn parse_cut(bytes: Option<Vec<u8>>) -> Result<Line, String> {
+fn parse_cut(edition: Edition, bytes: Option<Vec<u8>>) -> Result<Line, String> {
+    let most = edition.bytes() - 1;
     bytes
-        .filter(|bytes| (1..RECORD).contains(&bytes.len()))
+        .filter(|bytes| (1..=most).contains(&bytes.len()))
         .map(Line::Cut)
-        .ok_or_else(|| "cut wants 2 to 46 hex digits, two for each of 1 to 23 bytes".to_string())
+        .ok_or_else(|| {
+            let digits = 2 * most;
+            format!("cut wants 2 to {digits} hex digits, two for each of 1 to {most} bytes")
+        })
 }
 
-/// What a line after the first gives.
-pub fn parse(line: &str) -> Result<Line, String> {
+/// What a line after `alerts` gives.
+pub fn parse(edition: Edition, line: &str) -> Result<Line, String> {
     let mut words = split(line);
-    let taken: fn(Option<Vec<u8>>) -> Result<Line, String> = match words.next() {
+    let taken: fn(Edition, Option<Vec<u8>>) -> Result<Line, String> = match words.next() {
         Some("raw") => parse_raw,
         Some("cut") => parse_cut,
-        _ => return parse_tick(line).map(Line::Tick),
+        _ => return parse_tick(edition, line).map(Line::Tick),
     };
-    let given = taken(words.next().and_then(hex::parse))?;
+    let given = taken(edition, words.next().and_then(hex::parse))?;
     match words.next() {
         None => Ok(given),
         Some(word) => Err(format!("unexpected: {}", shown(word))),
@@ -59,12 +67,12 @@ pub fn parse(line: &str) -> Result<Line, String> {
 }
 
 /// The line of a tick.
-pub fn words(input: &Input) -> String {
-    access::words(input.access) + &wires::words(input.wires)
+pub fn words(edition: Edition, input: &Input) -> String {
+    access::words(edition, input.access) + &wires::words(input.wires)
 }
 
 /// The line of a record that is not well-formed.
-pub fn raw_words(record: &[u8; RECORD]) -> String {
+pub fn raw_words(record: &[u8]) -> String {
     format!("raw {}", hex::words(record))
 }
 
@@ -76,22 +84,23 @@ pub fn cut_words(left: &[u8]) -> String {
 #[cfg(test)]
 mod tests {
     use super::*;
+    use handler::registers::Setting;
     use handler::Access;
 
     #[test]
     fn spaces_and_tabs_part_words() {
-        let input = Input {
-            access: Access::Write(321, 14655),
-            wires: Wires {
-                pos: [1 << 63],
-                neg: [u64::MAX >> 1],
-            },
-        };
-        let line = "write CLASSA_CTRL 0x393f wires 0=10";
-        assert_eq!(parse(line), Ok(Line::Tick(input)));
-        let odd = "\t write  321\t14655 wires\t0=10 ";
-        assert_eq!(parse(odd), Ok(Line::Tick(input)));
-        assert_eq!(words(&input), line);
+        for edition in Edition::ALL {
+            let ctrl = edition.registers().class(0, Setting::Ctrl);
+            let mut wires = Wires::REST;
+            (wires.pos[0], wires.neg[0]) = (1 << 63, u64::MAX >> 1);
+            let access = Access::Write(ctrl, 14655);
+            let input = Input { access, wires };
+            let line = "write CLASSA_CTRL 0x393f wires 0=10";
+            assert_eq!(parse(edition, line), Ok(Line::Tick(input)));
+            let odd = format!("\t write  {ctrl}\t14655 wires\t0=10 ");
+            assert_eq!(parse(edition, &odd), Ok(Line::Tick(input)));
+            assert_eq!(words(edition, &input), line);
+        }
         assert!(is_blank("") && is_blank(" \t ") && !is_blank(" x"));
     }
 
@@ -106,44 +115,62 @@ mod tests {
                 "none, read, write, raw or cut is wanted, not alerts",
             ),
         ] {
-            assert_eq!(parse(line), Err(problem.to_string()));
+            for edition in Edition::ALL {
+                assert_eq!(parse(edition, line), Err(problem.to_string()));
+            }
         }
     }
 
     #[test]
     fn bytes_that_are_no_record_have_a_line() {
-        let mut record = [0; RECORD];
-        (record[0], record[23]) = (0xC5, 0x0F);
-        let line = raw_words(&record);
-        assert_eq!(line, format!("raw c5{}0f", "0".repeat(44)));
-        assert_eq!(parse(&line.to_string()), Ok(Line::Raw(record)));
-        for length in 1..RECORD {
-            let line = cut_words(&record[..length]);
-            assert_eq!(parse(&line), Ok(Line::Cut(record[..length].to_vec())));
+        for edition in Edition::ALL {
+            let mut record = vec![0; edition.bytes()];
+            (record[0], record[23]) = (0xC5, 0x0F);
+            let line = raw_words(&record);
+            assert!(line.starts_with("raw c500"));
+            assert_eq!(parse(edition, &line), Ok(Line::Raw(record.clone())));
+            for length in 1..edition.bytes() {
+                let left = &record[..length];
+                let line = cut_words(left);
+                assert_eq!(parse(edition, &line), Ok(Line::Cut(left.to_vec())));
+            }
         }
     }
 
     #[test]
     fn other_lengths_are_told() {
-        let digits = |count: usize| "0".repeat(count);
-        let raw = "raw wants 48 hex digits, the 24 bytes of a record";
-        let cut = "cut wants 2 to 46 hex digits, two for each of 1 to 23 bytes";
-        for (line, problem) in [
-            ("raw".to_string(), raw),
-            (format!("raw {}", digits(46)), raw),
-            (format!("raw {}", digits(47)), raw),
-            (format!("raw {}x", digits(47)), raw),
-            (format!("raw {}", digits(50)), raw),
-            ("cut".to_string(), cut),
-            ("cut 0".to_string(), cut),
-            (format!("cut {}", digits(48)), cut),
-            ("cut 00 00".to_string(), "unexpected: 00"),
+        let zeros = |count: usize| "0".repeat(count);
+        for (edition, digits, raw, cut) in [
             (
-                format!("raw {} wires 0=10", digits(48)),
-                "unexpected: wires",
+                Edition::Bytes24,
+                48,
+                "raw wants 48 hex digits, the 24 bytes of a record",
+                "cut wants 2 to 46 hex digits, two for each of 1 to 23 bytes",
+            ),
+            (
+                Edition::Bytes70,
+                140,
+                "raw wants 140 hex digits, the 70 bytes of a record",
+                "cut wants 2 to 138 hex digits, two for each of 1 to 69 bytes",
             ),
         ] {
-            assert_eq!(parse(&line), Err(problem.to_string()), "{line}");
+            for (line, problem) in [
+                ("raw".to_string(), raw),
+                (format!("raw {}", zeros(digits - 2)), raw),
+                (format!("raw {}", zeros(digits - 1)), raw),
+                (format!("raw {}x", zeros(digits - 1)), raw),
+                (format!("raw {}", zeros(digits + 2)), raw),
+                ("cut".to_string(), cut),
+                ("cut 0".to_string(), cut),
+                (format!("cut {}", zeros(digits)), cut),
+                ("cut 00 00".to_string(), "unexpected: 00"),
+                (
+                    format!("raw {} wires 0=10", zeros(digits)),
+                    "unexpected: wires",
+                ),
+            ] {
+                assert_eq!(parse(edition, &line), Err(problem.to_string()), "{line}");
+            }
         }
     }
 }

@@ -1,13 +1,10 @@
 //! The wires of a tick: `wires`, then `I=PQ` or `I-J=PQ` for the alerts that are off rest. P is the positive wire, Q the
 //! negative one; at rest is 01.
 use super::word::{number, shown};
-use handler::{Wires, ALERTS};
+use crate::alert_bits::{self, is_set, put, AlertBits};
+use handler::{Edition, Wires, WORDS};
+use std::array::from_fn;
 use std::fmt::Write;
-
-/// The bit of an alert.
-fn bit(alert: usize) -> u64 {
-    1 << (ALERTS - 1 - alert)
-}
 
 /// Alerts from the first to the last one, all at one pair of levels.
 #[derive(Clone, Copy, Debug, PartialEq, Eq)]
@@ -18,19 +15,23 @@ struct Run {
     neg: bool,
 }
 
-fn alert(word: &str, whole: &str) -> Result<usize, String> {
+fn alert(edition: Edition, word: &str, whole: &str) -> Result<usize, String> {
     let unlike = || format!("I=PQ or I-J=PQ is wanted, not {}", shown(whole));
     let i = number(word).ok_or_else(unlike)?;
     match usize::try_from(i) {
-        Ok(i) if i < ALERTS => Ok(i),
-        _ => Err(format!("no such alert, 0 to 63: {}", shown(word))),
+        Ok(i) if i < edition.alerts() => Ok(i),
+        _ => {
+            let last = edition.alerts() - 1;
+            Err(format!("no such alert, 0 to {last}: {}", shown(word)))
+        }
     }
 }
 
-fn run(word: &str) -> Result<Run, String> {
+fn run(edition: Edition, word: &str) -> Result<Run, String> {
     let (alerts, levels) = word.split_once('=').unwrap_or((word, ""));
     let (first, last) = alerts.split_once('-').unwrap_or((alerts, alerts));
-    let (first, last) = (alert(first, word)?, alert(last, word)?);
+    let [first, last] = [first, last].map(|i| alert(edition, i, word));
+    let (first, last) = (first?, last?);
     let (pos, neg) = match levels {
         "00" => (false, false),
         "01" => (false, true),
@@ -50,46 +51,45 @@ fn run(word: &str) -> Result<Run, String> {
 }
 
 /// The wires that the words after `wires` give.
-pub fn parse<'a>(words: impl Iterator<Item = &'a str>) -> Result<Wires, String> {
-    let (mut wires, mut named) = (Wires::REST, 0);
+pub fn parse<'a>(edition: Edition, words: impl Iterator<Item = &'a str>) -> Result<Wires, String> {
+    let (mut wires, mut named) = (Wires::REST, [0; WORDS]);
     for word in words {
-        let run = run(word)?;
+        let run = run(edition, word)?;
         for i in run.first..=run.last {
-            if named & bit(i) != 0 {
+            if is_set(&named, i) {
                 return Err(format!("alert {i} is named twice"));
             }
-            named |= bit(i);
+            put(&mut named, i, true);
+            put(&mut wires.pos, i, run.pos);
+            put(&mut wires.neg, i, run.neg);
         }
-        let all = (run.first..=run.last).fold(0, |all, i| all | bit(i));
-        wires.pos[0] |= if run.pos { all } else { 0 };
-        wires.neg[0] &= if run.neg { u64::MAX } else { !all };
     }
-    match named {
+    match alert_bits::count(named) {
         0 => Err("wires wants I=PQ or I-J=PQ".to_string()),
         _ => Ok(wires),
     }
 }
 
-/// The alerts that are not at (0,1), each by its bit.
-fn off_rest(wires: Wires) -> u64 {
-    wires.pos[0] | !wires.neg[0]
+/// The alerts that are not at (0,1).
+fn off_rest(wires: Wires) -> AlertBits {
+    from_fn(|word| wires.pos[word] | !wires.neg[word])
 }
 
 /// How many alerts are not at (0,1).
 pub fn count(wires: Wires) -> u32 {
-    off_rest(wires).count_ones()
+    alert_bits::count(off_rest(wires))
 }
 
 /// The first alert from `from` on that is not at (0,1).
 pub fn first_off_rest(wires: Wires, from: usize) -> Option<usize> {
-    (from..ALERTS).find(|&i| off_rest(wires) & bit(i) != 0)
+    alert_bits::alerts(off_rest(wires)).find(|i| *i >= from)
 }
 
 /// The runs of neighbours at the same levels that are off rest, as long as can be.
 fn runs(wires: Wires) -> Vec<Run> {
     let mut all: Vec<Run> = Vec::new();
-    for i in (0..ALERTS).filter(|&i| off_rest(wires) & bit(i) != 0) {
-        let (pos, neg) = (wires.pos[0] & bit(i) != 0, wires.neg[0] & bit(i) != 0);
+    for i in alert_bits::alerts(off_rest(wires)) {
+        let (pos, neg) = (is_set(&wires.pos, i), is_set(&wires.neg, i));
         match all.last_mut() {
             Some(run) if (run.last + 1, run.pos, run.neg) == (i, pos, neg) => run.last = i,
             _ => all.push(Run {
@@ -124,7 +124,7 @@ mod tests {
     use super::*;
 
     fn parsed(text: &str) -> Result<Wires, String> {
-        parse(text.split_whitespace())
+        parse(Edition::Bytes70, text.split_whitespace())
     }
 
     #[test]
@@ -139,34 +139,41 @@ mod tests {
             (1, u64::MAX),
             (0, u64::MAX >> 1),
         ] {
-            let wires = Wires {
-                pos: [pos],
-                neg: [neg],
-            };
-            let text = words(wires);
-            let pairs = text.strip_prefix(" wires ").expect("it is off rest");
-            assert_eq!(parsed(pairs), Ok(wires), "{text}");
+            for word in 0..WORDS - 1 {
+                let mut wires = Wires::REST;
+                (wires.pos[word], wires.neg[word]) = (pos, neg);
+                let text = words(wires);
+                let pairs = text.strip_prefix(" wires ").expect("it is off rest");
+                assert_eq!(parsed(pairs), Ok(wires), "{text}");
+            }
         }
         assert_eq!(words(Wires::REST), "");
     }
 
     #[test]
     fn alert_0_is_the_highest_bit() {
-        let wires = Wires {
-            pos: [0b11 << 62],
-            neg: [u64::MAX << 1 & !(1 << 63)],
-        };
-        assert_eq!(words(wires), " wires 0=10 1=11 63=00");
-        assert_eq!(parsed("63=00 1=11 0=10 5-9=01"), Ok(wires));
-        assert_eq!(count(wires), 3);
+        let mut wires = Wires::REST;
+        wires.pos[0] = 0b11 << 62;
+        wires.neg[0] = u64::MAX << 1 & !(1 << 63);
+        (wires.pos[1], wires.neg[3]) = (1 << 63, !(1 << 8));
+        let text = " wires 0=10 1=11 63=00 64=11 247=00";
+        assert_eq!(words(wires), text);
+        assert_eq!(parsed("63=00 1=11 247=00 64=11 0=10 5-9=01"), Ok(wires));
+        assert_eq!(count(wires), 5);
+        assert_eq!(first_off_rest(wires, 2), Some(63));
+        assert_eq!(first_off_rest(wires, 65), Some(247));
+        assert_eq!(first_off_rest(wires, 248), None);
     }
 
     #[test]
     fn neighbours_are_one_range() {
         let three = parsed("2=10 3=10 4=10 5=11").expect("wires");
         assert_eq!(words(three), " wires 2-4=10 5=11");
-        assert_eq!(words(parsed("0-63=10").expect("wires")), " wires 0-63=10");
-        assert_eq!(count(three), 4);
+        let far = parsed("60-64=11 65=11 66-247=10").expect("wires");
+        assert_eq!(words(far), " wires 60-65=11 66-247=10");
+        let all = parsed("0-247=10").expect("wires");
+        assert_eq!(words(all), " wires 0-247=10");
+        assert_eq!((count(three), count(far), count(all)), (4, 188, 248));
     }
 
     #[test]
@@ -181,13 +188,18 @@ mod tests {
             ("5=1", "=00, =01, =10 or =11 is wanted: 5=1"),
             ("5=12", "=00, =01, =10 or =11 is wanted: 5=12"),
             ("5=10=10", "=00, =01, =10 or =11 is wanted: 5=10=10"),
-            ("64=10", "no such alert, 0 to 63: 64"),
-            ("0-64=10", "no such alert, 0 to 63: 64"),
+            ("248=10", "no such alert, 0 to 247: 248"),
+            ("0-248=10", "no such alert, 0 to 247: 248"),
             ("5-4=10", "the range falls: 5-4=10"),
             ("5=10 5=10", "alert 5 is named twice"),
             ("5=01 2-9=10", "alert 5 is named twice"),
+            ("200=01 70-247=10", "alert 200 is named twice"),
         ] {
             assert_eq!(parsed(text), Err(problem.to_string()), "{text}");
         }
+        let old = |text: &str| parse(Edition::Bytes24, text.split_whitespace());
+        assert!(old("0-63=10").is_ok());
+        let problem = "no such alert, 0 to 63: 64";
+        assert_eq!(old("64=10"), Err(problem.to_string()));
     }
 }

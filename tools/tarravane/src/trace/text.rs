@@ -1,7 +1,7 @@
 //! Is it a text that is given where a trace is wanted? A first record that is well-formed has bytes that are 0, which no text
-//! has, so no such trace is taken for one.
+//! has, so no such trace is taken for one; and none that begins with 255, which is no UTF-8.
 use crate::source::filled;
-use crate::text::{alerts, line};
+use crate::text::{self, line};
 use std::io::Read;
 
 /// The most bytes that are looked at.
@@ -34,13 +34,13 @@ fn said(line: &[u8]) -> Option<&str> {
     (!line.contains(odd)).then_some(line)
 }
 
-/// Do comments and blank lines, then `alerts`, begin here? `taken` gets the bytes that were read for it.
+/// Do comments and blank lines, then `alerts` or `edition`, begin here? `taken` gets the bytes that were read for it.
 pub fn begins(from: &mut impl Read, taken: &mut Vec<u8>, name: &str) -> Result<bool, String> {
     loop {
         let start = taken.len();
         let more = take_line(from, taken, name)?;
         match said(&taken[start..]) {
-            Some(line) if alerts::is_alerts(line) => return Ok(true),
+            Some(line) if text::begins(line) => return Ok(true),
             Some(line) if more && line::is_blank(line) => {}
             _ => return Ok(false),
         }
@@ -60,7 +60,7 @@ mod tests {
     }
 
     #[test]
-    fn a_text_begins_with_alerts_after_comments() {
+    fn a_text_begins_with_its_first_line_after_comments() {
         for text in [
             "alerts 2",
             "alerts 2\nnone\n",
@@ -69,6 +69,8 @@ mod tests {
             "# a seal\n\n\t alerts 2 # two\n",
             "#caf\u{e9}\r\n\r\nalerts 64\r\n",
             "\u{FEFF}alerts 1\n",
+            "edition 24\nalerts 2\n",
+            "# a seal\n edition\t70",
         ] {
             assert!(is_text(text.as_bytes()), "{text:?}");
         }
@@ -86,6 +88,7 @@ mod tests {
             b"#alerts 2\n",
             b"none\nalerts 2\n",
             b"alertsx 2\n",
+            b"editions 24\n",
             b"alerts\x002\n",
             b"#\nalerts 2\0\n",
             b"#\0\nalerts 2\n",
@@ -104,6 +107,9 @@ mod tests {
             (bytes[3], bytes[4]) = (0, 0);
             bytes[5..].copy_from_slice(b"\nalerts 2\nalerts 2\n\n");
             assert!(!is_text(&bytes), "{n}");
+            // The mark of the newest edition is no text, whatever follows it.
+            let marked = [&[255, n][..], b"\nalerts 2\n"].concat();
+            assert!(!is_text(&marked), "255, {n}");
         }
     }
 }

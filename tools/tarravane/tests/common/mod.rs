@@ -3,15 +3,13 @@
 #![allow(dead_code)]
 pub mod folder;
 pub mod random;
+pub mod records;
 pub mod round;
 
 use std::io::Write;
 use std::path::PathBuf;
 use std::process::{Command, Output, Stdio};
 use std::thread;
-
-/// All wires at (0,1).
-pub const REST: (u64, u64) = (0, u64::MAX);
 
 /// The path of a file of the repository.
 pub fn repository(name: &str) -> String {
@@ -22,11 +20,6 @@ pub fn repository(name: &str) -> String {
 /// The path of an example.
 pub fn example(name: &str) -> String {
     repository(&format!("examples/{name}"))
-}
-
-/// A record's bytes.
-pub fn record(kind: u64, register: u64, value: u64, wires: (u64, u64)) -> Vec<u8> {
-    harness::record::record(kind, register, value, wires).to_vec()
 }
 
 /// The program, to be run with these words.

@@ -3,6 +3,7 @@
 use mathlib.Core.Path.{_≡_}
 use lib.ListN.{length}
 use Rattle.registers.proofs.Stores.{set-put}
+use Rattle.rules.specs.State.{most}
 use borrow.Author.Needs.{needs}
 use Rattle.registers.proofs.write.set_alert.Statement.{statement}
 use Rattle.registers.proofs.write.set_alert.Tie as tie
@@ -46,26 +47,26 @@ set-entry-requires-4 c κs = search needs
 returns : tie.Need-returns
 returns c =
     let x = c .before .before .before .before .before .before .args in
-    let e : length (x .a .regwen) ≡ 64 = search needs in
-    rw (c .before .before .before .before .enum-told .given .1, c .before .set-entry .ensures, set-put 64 (x .a .regwen) 0 (x .i) (x .w) e)
+    let e : length (x .a .regwen) ≡ most = search needs in
+    rw (c .before .before .before .before .enum-told .given .1, c .before .set-entry .ensures, set-put most (x .a .regwen) 0 (x .i) (x .w) e)
 
 returns-2 : tie.Need-returns-2
 returns-2 c =
     let x = c .before .before .before .before .before .before .args in
-    let e : length (x .a .en) ≡ 64 = search needs in
-    rw (c .before .before .before .before .enum-told2 .given .1, c .before .set-entry2 .ensures, set-put 64 (x .a .en) 0 (x .i) (x .w) e)
+    let e : length (x .a .en) ≡ most = search needs in
+    rw (c .before .before .before .before .enum-told2 .given .1, c .before .set-entry2 .ensures, set-put most (x .a .en) 0 (x .i) (x .w) e)
 
 returns-3 : tie.Need-returns-3
 returns-3 c =
     let x = c .before .before .before .before .before .before .args in
-    let e : length (x .a .class) ≡ 64 = search needs in
-    rw (c .before .before .before .before .enum-told3 .given .1, c .before .set-entry3 .ensures, set-put 64 (x .a .class) 0 (x .i) (x .w) e)
+    let e : length (x .a .class) ≡ most = search needs in
+    rw (c .before .before .before .before .enum-told3 .given .1, c .before .set-entry3 .ensures, set-put most (x .a .class) 0 (x .i) (x .w) e)
 
 returns-4 : tie.Need-returns-4
 returns-4 c =
     let x = c .before .before .before .before .before .before .args in
-    let e : length (x .a .cause) ≡ 64 = search needs in
-    rw (c .before .before .before .before .enum-told4 .given .1, c .before .set-entry4 .ensures, set-put 64 (x .a .cause) 0 (x .i) (x .w) e)
+    let e : length (x .a .cause) ≡ most = search needs in
+    rw (c .before .before .before .before .enum-told4 .given .1, c .before .set-entry4 .ensures, set-put most (x .a .cause) 0 (x .i) (x .w) e)
 
 pub set-alert-spec : {M : Type 1} → statement M
 set-alert-spec =

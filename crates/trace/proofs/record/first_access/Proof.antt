@@ -1,64 +1,28 @@
--- `record::first_access` meets its contract, edition by edition: the first 64 bits of the layout.
+-- `record::first_access` meets its contract, edition by edition.
 -- Assumes nothing.
-use Prim.Native.Nat.{ℕ, _/_, _%_, _^_, _<_}
-use mathlib.Core.Path.{_≡_, sym, ap, ap₂, _∙_}
-use native.Mathlib.Omega.{arith}
 use borrow.Author.Needs.{needs}
-use Rattle.bits.specs.Fields.{unpack}
-use Rattle.rules.specs.Record.{accessIn}
-use Rattle.rules.specs.declared.Edition.{Edition}
-use Rattle.trace.specs.Parts.{accessOfWord}
-use Rattle.trace.proofs.Records.{only}
 use Rattle.trace.proofs.record.first_access.Statement.{statement}
 use Rattle.trace.proofs.record.first_access.Tie as tie
 
-fields-24 : (x : ℕ) → x < 2 ^ 64 → accessIn (x / 2 ^ 62) (x / 2 ^ 52 % 2 ^ 10) (x / 2 ^ 32 % 2 ^ 20) (x % 2 ^ 32) ≡ accessOfWord Edition.Bytes24 x
-unfolding unpack
-fields-24 x h = ap₂ (λ (k v : ℕ). accessIn k (x / 2 ^ 52 % 2 ^ 10) (x / 2 ^ 32 % 2 ^ 20) v) (omega arith) (omega arith)
+enum-told : tie.Need-enum-told
+enum-told c = search needs
 
-cast-kind : tie.Need-cast-kind
-cast-kind c = search needs
+first-24-requires : tie.Need-first-24-requires
+first-24-requires c κs = search needs
 
-cast-value : tie.Need-cast-value
-cast-value c = search needs
+enum-told-2 : tie.Need-enum-told-2
+enum-told-2 c = search needs
 
-cast-register : tie.Need-cast-register
-cast-register c = search needs
-
-shr-register : tie.Need-shr-register
-shr-register c = search needs
-
-cast-register-2 : tie.Need-cast-register-2
-cast-register-2 c = search needs
-
-rem-register : tie.Need-rem-register
-rem-register c = search needs
-
-cast-register-3 : tie.Need-cast-register-3
-cast-register-3 c = search needs
-
-cast-zeros : tie.Need-cast-zeros
-cast-zeros c = search needs
-
-access-in-requires : tie.Need-access-in-requires
-access-in-requires c κs = search needs
+first-70-requires : tie.Need-first-70-requires
+first-70-requires c κs = search needs
 
 returns : tie.Need-returns
-returns c =
-    let x = c .before .args .first in
-    c .access-in .ensures ∙ fields-24 x (search needs) ∙ sym (ap (λ (e : Edition). accessOfWord e x) (only (c .before .args .edition)))
+returns c = rw (c .before .enum-told .given .1) (c .first-24 .ensures)
+
+returns-2 : tie.Need-returns-2
+returns-2 c = rw (c .before .enum-told2 .given .1) (c .first-70 .ensures)
 
 pub first-access-spec : {M : Type 1} → statement M
 first-access-spec =
     tie.close
-    (tie.spec
-    cast-kind
-    cast-value
-    cast-register
-    shr-register
-    cast-register-2
-    rem-register
-    cast-register-3
-    cast-zeros
-    access-in-requires
-    returns)
+    (tie.spec enum-told first-24-requires enum-told-2 first-70-requires returns returns-2)

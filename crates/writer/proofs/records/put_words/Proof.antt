@@ -15,10 +15,10 @@ use Rattle.writer.proofs.records.put_words.Statement.{statement}
 use Rattle.writer.proofs.records.put_words.Tie as tie
 
 abbrev Inv-loop : tie.InvT-loop
-Inv-loop out₀ at list i v₀ out v = (v ≤ words) × (length out ≡ length out₀) × (out ≡ sets out₀ at (wordBytes v (wordAt list i)))
+Inv-loop out₀ at list i v₀ out v = (v ≤ 3) × (length out ≡ length out₀) × (out ≡ sets out₀ at (wordBytes v (wordAt list i)))
 
 abbrev μ-loop : tie.MeasureT-loop
-μ-loop out₀ at list i v₀ out v = words - v
+μ-loop out₀ at list i v₀ out v = 3 - v
 
 loop-holds : tie.Need-loop-holds Inv-loop μ-loop
 unfolding wordBytes
@@ -69,7 +69,7 @@ same-length c = search needs
 returns : tie.Need-returns Inv-loop μ-loop
 returns c =
     let l = c .before .loop in
-    let e : l .v ≡ words = omega arith in
+    let e : l .v ≡ 3 = omega arith in
     rw (← e) (l .inv .2)
 
 pub put-words-spec : {M : Type 1} → statement M

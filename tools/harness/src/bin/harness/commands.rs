@@ -1,72 +1,13 @@
-//! What each command does; each says whether all was equal.
+//! The commands that ask the proved library, and what all of them print; each says whether all was equal.
 
 use crate::trouble::Trouble;
-use harness::compare::{
-    compare, compare_all, generated, Case, Coverage, Difference, DEFAULT_SEED, DEFAULT_TRACES,
-};
-use harness::report::{progress, report, times, verdict};
+use harness::compare::Case;
+use harness::report::{report, times, verdict};
 use harness::states::{self, try_all};
 use harness::write::{self, try_lists};
 use std::fmt::Display;
 use std::io::{self, Write};
-use std::path::{Path, PathBuf};
-use std::time::{Duration, Instant, SystemTime, UNIX_EPOCH};
-
-/// A program named without a directory is meant as a file here.
-fn program(path: &str) -> PathBuf {
-    Path::new(".").join(path)
-}
-
-/// Compares a set and prints what it reached.
-pub fn set(
-    path: &str,
-    cases: impl Iterator<Item = Case>,
-    traces: Option<u64>,
-) -> Result<bool, Trouble> {
-    let begin = Instant::now();
-    let mut coverage = Coverage::default();
-    let cases = cases.take(traces.unwrap_or(DEFAULT_TRACES) as usize);
-    let found = compare_all(&program(path), cases, &mut coverage).map_err(Trouble::Run)?;
-    tell(begin, &coverage, found, Difference::command)
-}
-
-/// Compares fresh traces until the time is over.
-pub fn fuzz(path: &str, seconds: u64, seed: Option<u64>) -> Result<bool, Trouble> {
-    let begin = Instant::now();
-    let end = begin + Duration::from_secs(seconds);
-    let seed = seed.unwrap_or_else(fresh_seed);
-    let mut coverage = Coverage::default();
-    let mut told = begin;
-    progress(format_args!("first seed {seed}"));
-    let cases = generated(seed).take_while(|case| {
-        let now = Instant::now();
-        if now.duration_since(told) > Duration::from_secs(5) {
-            told = now;
-            let spent = begin.elapsed().as_secs();
-            let traces = case.seed.wrapping_sub(seed);
-            progress(format_args!(
-                "{spent} of {seconds} seconds, {traces} traces equal"
-            ));
-        }
-        now < end
-    });
-    let found = compare_all(&program(path), cases, &mut coverage).map_err(Trouble::Run)?;
-    tell(begin, &coverage, found, Difference::command)
-}
-
-/// A seed from the clock, small enough to type.
-fn fresh_seed() -> u64 {
-    let now = SystemTime::now().duration_since(UNIX_EPOCH);
-    now.map_or(DEFAULT_SEED, |since| since.as_micros() as u64)
-}
-
-/// Compares one trace again.
-pub fn repeat(path: &str, case: Case) -> Result<bool, Trouble> {
-    let begin = Instant::now();
-    let mut coverage = Coverage::default();
-    let found = compare(&program(path), case, &mut coverage).map_err(Trouble::Run)?;
-    tell(begin, &coverage, found, Difference::command)
-}
+use std::time::Instant;
 
 /// Writes a trace's bytes to standard output.
 pub fn print_trace(case: Case) -> Result<bool, Trouble> {
@@ -103,7 +44,7 @@ pub fn bench() -> Result<bool, Trouble> {
 }
 
 /// Prints the outcome; says whether all was equal.
-fn tell<D: Display>(
+pub fn tell<D: Display>(
     begin: Instant,
     summary: &impl Display,
     found: Option<D>,

@@ -1,17 +1,21 @@
 //! The command line of the harness.
 
 mod commands;
+mod golden;
+mod sets;
 mod trouble;
 mod words;
 
-use commands::{bench, damaged_states, fuzz, print_trace, repeat, set, written_lists};
+use commands::{bench, damaged_states, print_trace, written_lists};
+use golden::{hold, keep, FILE};
 use harness::compare::{damage, generated, DEFAULT_SEED};
 use harness::report::progress;
 use harness::states::DEFAULT_STATES;
 use harness::write::DEFAULT_LISTS;
+use sets::{fuzz, repeat, set};
 use std::process::ExitCode;
 use trouble::{usage, Trouble};
-use words::{case, number, option};
+use words::{case, number, Options};
 
 fn main() -> ExitCode {
     let words: Vec<String> = std::env::args().skip(1).collect();
@@ -25,28 +29,37 @@ fn main() -> ExitCode {
     }
 }
 
+/// The options of a set, and of one trace.
+const SET: [&str; 3] = ["--traces", "--seed", "--edition"];
+const ONE: [&str; 2] = ["--records", "--edition"];
+
 /// Runs a command; says whether all was equal.
 fn command(mut words: Vec<String>) -> Result<bool, Trouble> {
-    let traces = option(&mut words, "--traces")?;
-    let seed = option(&mut words, "--seed")?;
-    let records = option(&mut words, "--records")?;
-    let states = option(&mut words, "--states")?;
-    let lists = option(&mut words, "--lists")?;
+    let options = Options::take(&mut words)?;
     let words: Vec<&str> = words.iter().map(String::as_str).collect();
-    let first = seed.unwrap_or(DEFAULT_SEED);
-    match (words.as_slice(), traces, seed, records) {
-        (["states"], None, _, None) if lists.is_none() => {
-            damaged_states(first, states.unwrap_or(DEFAULT_STATES))
+    let name = words.first().copied().unwrap_or_default();
+    let only = |names| options.only(name, names);
+    let first = |options: &Options| options.get("--seed").unwrap_or(DEFAULT_SEED);
+    match words.as_slice() {
+        ["states"] => {
+            let options = only(&["--states", "--seed"])?;
+            let states = options.get("--states").unwrap_or(DEFAULT_STATES);
+            damaged_states(first(&options), states)
         }
-        _ if states.is_some() => Err(usage("--states is for states")),
-        (["write"], None, _, None) => written_lists(first, lists.unwrap_or(DEFAULT_LISTS)),
-        _ if lists.is_some() => Err(usage("--lists is for write")),
-        (["bench"], None, None, None) => bench(),
-        (["diff", path], _, _, None) => set(path, generated(first), traces),
-        (["damage", path], _, _, None) => set(path, damage(first), traces),
-        (["fuzz", path, seconds], None, _, None) => fuzz(path, number(seconds)?, seed),
-        (["repeat", path, kind, seed], None, None, _) => repeat(path, case(kind, seed, records)?),
-        (["trace", kind, seed], None, None, _) => print_trace(case(kind, seed, records)?),
+        ["write"] => {
+            let options = only(&["--lists", "--seed"])?;
+            let lists = options.get("--lists").unwrap_or(DEFAULT_LISTS);
+            written_lists(first(&options), lists)
+        }
+        ["bench"] => only(&[]).and_then(|_| bench()),
+        ["diff", path] => set(path, generated, &only(&SET)?),
+        ["damage", path] => set(path, damage, &only(&SET)?),
+        ["fuzz", path, seconds] => fuzz(path, number(seconds)?, &only(&["--seed", "--edition"])?),
+        ["repeat", path, kind, seed] => repeat(path, case(kind, seed, &only(&ONE)?)?),
+        ["trace", kind, seed] => print_trace(case(kind, seed, &only(&ONE)?)?),
+        ["golden", path, "--write"] => only(&[]).and_then(|_| keep(path)),
+        ["golden", path] => only(&[]).and_then(|_| hold(path, FILE)),
+        ["golden", path, file] => only(&[]).and_then(|_| hold(path, file)),
         _ => Err(usage("no such command")),
     }
 }

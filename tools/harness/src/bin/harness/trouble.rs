@@ -9,16 +9,22 @@ const USAGE: &str = "usage:
   harness fuzz REPLAY SECONDS [--seed S]         fresh seeds until the time is over
   harness repeat REPLAY KIND SEED [--records R]  one trace, or its first R records
   harness trace KIND SEED [--records R]          the bytes of a trace
+  harness golden REPLAY [FILE]                   old traces against the words that FILE keeps,
+                                                 else those in tools/harness/golden.txt
+  harness golden REPLAY --write                  such a file of what REPLAY gives
   harness states [--states N] [--seed S]         damaged states through the proved library
   harness write [--lists N] [--seed S]           lists through the proved trace writer
   harness bench                                  times of proved library and reference
-REPLAY is the program to compare with the reference.
-Exit status: 0 equal, 1 different, 2 bad usage, no such program, or a failed write.";
+REPLAY is the program to compare with the reference. --edition 24 or --edition 70 names
+the bytes of a record: else diff, damage and fuzz take both, repeat and trace 24.
+Exit status: 0 equal, 1 different, 2 bad usage, no such file or program, or a failed write.";
 
 /// Why a command ends with status 2.
 pub enum Trouble {
     /// What was asked is no command; the usage follows.
     Usage(String),
+    /// A file could not be read, or is not what it should be.
+    Read(String),
     /// The program could not be run.
     Run(io::Error),
     /// The outcome could not be written.
@@ -29,6 +35,7 @@ impl Display for Trouble {
     fn fmt(&self, out: &mut fmt::Formatter) -> fmt::Result {
         match self {
             Trouble::Usage(what) => write!(out, "{what}\n{USAGE}"),
+            Trouble::Read(what) => write!(out, "cannot read {what}"),
             Trouble::Run(error) => write!(out, "cannot run: {error}"),
             Trouble::Write(error) => write!(out, "cannot write: {error}"),
         }

@@ -1,0 +1,48 @@
+//! The editions of a trace record.
+
+/// The form of the records in a batch or a program input.
+#[derive(Clone, Copy, Debug, PartialEq, Eq)]
+pub enum Edition {
+    /// The record of the base: 24 bytes, wires for 64 alerts, and register
+    /// numbers of the first map in 10 bits.
+    First,
+    /// The record for 248 alerts: 70 bytes, and register numbers of today's
+    /// map in 11 bits.
+    Second,
+}
+
+impl Edition {
+    /// The bytes of one record.
+    pub const fn bytes(self) -> usize {
+        match self {
+            Edition::First => 24,
+            Edition::Second => 70,
+        }
+    }
+
+    /// The most alerts: a record has a pair of wires for each.
+    pub const fn alerts(self) -> usize {
+        match self {
+            Edition::First => 64,
+            Edition::Second => 248,
+        }
+    }
+
+    /// The bytes of one of a record's two wire sets.
+    pub const fn wire_bytes(self) -> usize {
+        self.alerts() / 8
+    }
+
+    /// The bits of a record's register number.
+    pub const fn register_bits(self) -> u32 {
+        match self {
+            Edition::First => 10,
+            Edition::Second => 11,
+        }
+    }
+
+    /// The zero bits that fill the first 32 after kind and register.
+    pub const fn zero_bits(self) -> u32 {
+        30 - self.register_bits()
+    }
+}

@@ -1,0 +1,143 @@
+//! Records of both editions, packed by hand, and a handler that is run by
+//! them alone.
+
+use super::{new, Sample, ALERT0, REST};
+use reference::{batch, Access, Edition, Handler, Ticked};
+
+/// Both editions, the older first.
+pub const EDITIONS: [Edition; 2] = [Edition::First, Edition::Second];
+
+/// A record from its first 32 bits, its value and its wires.
+pub fn pack(edition: Edition, head: u32, value: u32, sample: Sample) -> Vec<u8> {
+    let wire_bytes = match edition {
+        Edition::First => 8,
+        Edition::Second => 31,
+    };
+    let mut bytes = head.to_be_bytes().to_vec();
+    bytes.extend(value.to_be_bytes());
+    for set in [sample.0, sample.1] {
+        let all: Vec<u8> = set.iter().flat_map(|word| word.to_be_bytes()).collect();
+        bytes.extend(&all[..wire_bytes]);
+    }
+    bytes
+}
+
+/// The record of an access whose register number is the edition's own.
+pub fn record(edition: Edition, access: Access, sample: Sample) -> Vec<u8> {
+    let shift = match edition {
+        Edition::First => 20,
+        Edition::Second => 19,
+    };
+    let (kind, register, value) = match access {
+        Access::None => (0, 0, 0),
+        Access::Read { register } => (1, register, 0),
+        Access::Write { register, value } => (2, register, value),
+        Access::Malformed => (3, 0, 0),
+    };
+    let head = (kind << 30) | (u32::from(register) << shift);
+    pack(edition, head, value, sample)
+}
+
+/// What a word holds.
+pub fn unpack(word: u64) -> Ticked {
+    assert_eq!((word >> 32) & 0xF_FFFF, 0, "20 zeros");
+    let refusal = (word >> 52) as i64 & 0xF;
+    let value = (word & 0xFFFF_FFFF) as i64;
+    assert!(refusal == 0 || value == 0);
+    Ticked {
+        answer: if refusal == 0 { value } else { -refusal },
+        interrupts: ((word >> 60) as u8).reverse_bits() >> 4,
+        lines: ((word >> 56) as u8 & 0xF).reverse_bits() >> 4,
+    }
+}
+
+/// The first number of a block in the first map and in today's, and how many
+/// numbers there are for each alert, local alert or class register.
+const BLOCKS: [(u16, u16, u16); 10] = [
+    (0, 0, 3),
+    (16, 16, 7),
+    (24, 24, 7),
+    (32, 32, 7),
+    (40, 40, 7),
+    (64, 256, 64),
+    (128, 512, 64),
+    (192, 768, 64),
+    (256, 1024, 64),
+    (320, 1280, 64),
+];
+
+/// Today's number for one of the first map's, if it lies in a block.
+pub fn renumbered(old: u16) -> Option<u16> {
+    let block = BLOCKS
+        .iter()
+        .find(|(from, _, many)| (*from..from + many).contains(&old))?;
+    Some(block.1 + (old - block.0))
+}
+
+/// A handler run by records of one edition. Register numbers are given in the
+/// first map's numbering, as document 01 has them.
+pub struct Bench {
+    pub edition: Edition,
+    pub h: Handler,
+}
+
+impl Bench {
+    pub fn new(edition: Edition, n: u64) -> Bench {
+        Bench { edition, h: new(n) }
+    }
+
+    /// N alerts, all enabled in class 0, class 0 with this CTRL.
+    pub fn ready(edition: Edition, n: u64, ctrl: u32) -> Bench {
+        let mut b = Bench::new(edition, n);
+        for i in 0..n as u16 {
+            assert_eq!(b.write(128 + i, 1), 0);
+        }
+        assert_eq!(b.write(321, ctrl), 0);
+        b
+    }
+
+    fn number(&self, old: u16) -> u16 {
+        match self.edition {
+            Edition::First => old,
+            Edition::Second => renumbered(old).unwrap(),
+        }
+    }
+
+    pub fn tick(&mut self, access: Access, sample: Sample) -> Ticked {
+        let access = match access {
+            Access::Read { register } => Access::Read {
+                register: self.number(register),
+            },
+            Access::Write { register, value } => Access::Write {
+                register: self.number(register),
+                value,
+            },
+            other => other,
+        };
+        let mut out = [0];
+        let bytes = record(self.edition, access, sample);
+        assert_eq!(batch(&mut self.h, self.edition, &bytes, &mut out), 0);
+        unpack(out[0])
+    }
+
+    pub fn read(&mut self, register: u16) -> i64 {
+        self.tick(Access::Read { register }, REST).answer
+    }
+
+    pub fn write(&mut self, register: u16, value: u32) -> i64 {
+        self.tick(Access::Write { register, value }, REST).answer
+    }
+
+    pub fn idle(&mut self) -> Ticked {
+        self.tick(Access::None, REST)
+    }
+
+    pub fn event(&mut self) -> Ticked {
+        self.tick(Access::None, ALERT0)
+    }
+
+    /// State and count of class 0.
+    pub fn stands(&self) -> (u8, u32) {
+        (self.h.classes[0].state, self.h.classes[0].esc_cnt)
+    }
+}

@@ -1,0 +1,127 @@
+//! Places 248 to 255 of a lent sample: they are no wires, whatever they hold.
+
+mod common;
+
+use common::records::unpack;
+use common::{ready, tick, with, Numbers, Sample, COUNTS, REST};
+use reference::trace::parse;
+use reference::wires::{from_bytes, to_bytes, wire};
+use reference::{batch, record, Access, Edition, Wires};
+
+/// The sample with the last eight places of each set as given.
+fn places(mut sample: Sample, positive: u8, negative: u8) -> Sample {
+    for (set, held) in [(&mut sample.0, positive), (&mut sample.1, negative)] {
+        set[3] = (set[3] & !0xFF) | u64::from(held);
+    }
+    sample
+}
+
+/// What the places may hold: nothing, all, equal and unequal pairs.
+const HELD: [(u8, u8); 7] = [
+    (0, 0),
+    (0xFF, 0xFF),
+    (0xFF, 0),
+    (0, 0xFF),
+    (0x80, 0x7F),
+    (0x01, 0x01),
+    (0xA5, 0x3C),
+];
+
+/// The 248 pairs of a sample, alert 0 first.
+fn pairs(positive: &Wires, negative: &Wires) -> Vec<(bool, bool)> {
+    (0..248)
+        .map(|i| (wire(positive, i), wire(negative, i)))
+        .collect()
+}
+
+/// Writes a read of CTRL with this sample.
+fn written(sample: Sample) -> [u8; 70] {
+    let mut out = [0x5A; 70];
+    let answer = record(&[1], &[1281], &[0], &[sample.0], &[sample.1], &mut out);
+    assert_eq!(answer, 70);
+    out
+}
+
+#[test]
+fn each_place_has_its_bit() {
+    for i in 0..256 {
+        let mut expected = [0; 4];
+        expected[i / 64] = 1 << (63 - i % 64);
+        let sample = with(([0; 4], [0; 4]), i, (1, 0));
+        assert_eq!(sample.0, expected);
+        for at in 0..248 {
+            assert_eq!(wire(&expected, at), at == i);
+        }
+        let mut bytes = [0; 31];
+        if i < 248 {
+            bytes[i / 8] = 0x80 >> (i % 8);
+            assert_eq!(from_bytes(&bytes), expected);
+        }
+        assert_eq!(to_bytes(&expected), bytes);
+    }
+}
+
+#[test]
+fn a_tick_does_not_look_at_them() {
+    let mut numbers = Numbers(21);
+    for n in COUNTS {
+        for _ in 0..50 {
+            let sample = (numbers.wires(), numbers.wires());
+            let mut start = ready(n, 0x393D);
+            start.locals[2].en = 1;
+            let mut plain = start.clone();
+            let ticked = tick(&mut plain, Access::None, places(sample, 0, 0));
+            for (positive, negative) in HELD {
+                let mut h = start.clone();
+                let sample = places(sample, positive, negative);
+                assert_eq!(tick(&mut h, Access::None, sample), ticked);
+                assert_eq!(h, plain, "N {n}");
+            }
+        }
+    }
+}
+
+#[test]
+fn they_are_no_equal_wires_and_no_event() {
+    let mut h = ready(248, 0x393D);
+    h.locals[2].en = 1;
+    let before = h.clone();
+    for (positive, negative) in HELD {
+        let ticked = tick(&mut h, Access::None, places(REST, positive, negative));
+        assert_eq!((ticked.answer, ticked.lines), (0, 0));
+        assert_eq!(h, before);
+    }
+}
+
+#[test]
+fn the_writer_leaves_them_out() {
+    let mut numbers = Numbers(22);
+    for _ in 0..200 {
+        let sample = (numbers.wires(), numbers.wires());
+        let plain = written(places(sample, 0, 0));
+        for (positive, negative) in HELD {
+            let lent = places(sample, positive, negative);
+            let bytes = written(lent);
+            assert_eq!(bytes, plain);
+            let read = parse(Edition::Second, &bytes);
+            assert_eq!(read.0, Access::Read { register: 1281 });
+            assert_eq!(pairs(&read.1, &read.2), pairs(&lent.0, &lent.1));
+        }
+    }
+}
+
+#[test]
+fn a_written_tick_is_the_lent_tick() {
+    let mut numbers = Numbers(23);
+    let (mut lent, mut replayed) = (ready(248, 0x393D), ready(248, 0x393D));
+    let access = Access::Read { register: 1281 };
+    for _ in 0..500 {
+        // With all its places as they come.
+        let sample = (numbers.wires(), numbers.wires());
+        let mut out = [0];
+        let bytes = written(sample);
+        assert_eq!(batch(&mut replayed, Edition::Second, &bytes, &mut out), 0);
+        assert_eq!(unpack(out[0]), tick(&mut lent, access, sample));
+        assert_eq!(lent, replayed);
+    }
+}

@@ -1,0 +1,159 @@
+//! The program: both kinds of input, and their edges.
+
+mod common;
+
+use common::records::{pack, record, EDITIONS};
+use common::{with, REST};
+use reference::{Access, Edition};
+use std::io::Write;
+use std::process::{Command, Stdio};
+
+fn replay(input: &[u8]) -> String {
+    let mut child = Command::new(env!("CARGO_BIN_EXE_reference-replay"))
+        .stdin(Stdio::piped())
+        .stdout(Stdio::piped())
+        .spawn()
+        .unwrap();
+    let mut stdin = child.stdin.take().unwrap();
+    let input = input.to_vec();
+    // Written beside the reading, or both pipes fill and nobody goes on.
+    let writer = std::thread::spawn(move || {
+        // A refused N ends the program early, so a broken pipe is no fault.
+        let _ = stdin.write_all(&input);
+    });
+    let output = child.wait_with_output().unwrap();
+    writer.join().unwrap();
+    assert!(output.status.success());
+    String::from_utf8(output.stdout).unwrap()
+}
+
+/// What an input of the edition opens with.
+fn opening(edition: Edition, n: u8) -> Vec<u8> {
+    match edition {
+        Edition::First => vec![n],
+        Edition::Second => vec![255, n],
+    }
+}
+
+#[test]
+fn the_papers_words() {
+    let wires = ([0; 4], [1 << 63, 0, 0, 0]);
+    let heads = [
+        (Edition::First, [0x5410_0000, 0xBFF0_0000]),
+        (Edition::Second, [0x6808_0000, 0xBFF8_0000]),
+    ];
+    for (edition, heads) in heads {
+        let mut input = opening(edition, 1);
+        for head in heads {
+            input.extend(pack(edition, head, 0, wires));
+        }
+        let words = "000000000000393c\n0010000000000000\n";
+        assert_eq!(replay(&input), words);
+        input.push(0);
+        assert_eq!(replay(&input), format!("{words}cut\n"));
+    }
+}
+
+#[test]
+fn refused_openings() {
+    assert_eq!(replay(&[]), "refused\n");
+    assert_eq!(replay(&[0]), "refused\n");
+    assert_eq!(replay(&[255]), "refused\n");
+    for n in 65..=254 {
+        assert_eq!(replay(&[n]), "refused\n", "{n}");
+        assert_eq!(replay(&[n; 71]), "refused\n", "{n}");
+    }
+    for n in [0, 249, 250, 251, 252, 253, 254, 255] {
+        assert_eq!(replay(&[255, n]), "refused\n", "255 {n}");
+        let mut input = vec![255, n];
+        input.extend([0; 70]);
+        assert_eq!(replay(&input), "refused\n", "255 {n}");
+    }
+}
+
+#[test]
+fn accepted_openings_alone_print_nothing() {
+    for n in [1, 2, 63, 64] {
+        assert_eq!(replay(&[n]), "");
+    }
+    for n in [1, 63, 64, 65, 127, 128, 191, 192, 247, 248] {
+        assert_eq!(replay(&[255, n]), "");
+    }
+}
+
+#[test]
+fn rest_bytes_print_cut() {
+    for (edition, n) in [(Edition::First, 64), (Edition::Second, 248)] {
+        for records in [0, 1, 3] {
+            for rest in [0, 1, 23, 24, 69, 70] {
+                let mut input = opening(edition, n);
+                input.resize(input.len() + records * edition.bytes() + rest, 0);
+                let whole = records + rest / edition.bytes();
+                let mut text = "0000000000000000\n".repeat(whole);
+                if rest % edition.bytes() != 0 {
+                    text.push_str("cut\n");
+                }
+                assert_eq!(replay(&input), text, "{edition:?}, {rest} more");
+            }
+        }
+    }
+}
+
+#[test]
+fn the_last_of_248_alerts() {
+    let second = |access, sample| record(Edition::Second, access, sample);
+    for n in [65, 127, 128, 191, 192, 247, 248] {
+        let last = u16::from(n) - 1;
+        let enable = |register, value| Access::Write { register, value };
+        let mut input = opening(Edition::Second, n);
+        input.extend(second(enable(512 + last, 1), REST));
+        input.extend(second(enable(768 + last, 3), REST));
+        input.extend(second(enable(1329, 0x393D), REST));
+        input.extend(second(enable(1, 8), REST));
+        let event = with(REST, usize::from(last), (1, 0));
+        input.extend(second(
+            Access::Read {
+                register: 1023 + u16::from(n),
+            },
+            event,
+        ));
+        input.extend(second(
+            Access::Read {
+                register: 1024 + last,
+            },
+            REST,
+        ));
+        input.extend(second(
+            Access::Read {
+                register: 1024 + u16::from(n),
+            },
+            REST,
+        ));
+        let expected = "0000000000000000\n".repeat(4)
+            + "1800000000000000\n1400000000000001\n1210000000000000\n";
+        assert_eq!(replay(&input), expected, "N {n}");
+    }
+}
+
+#[test]
+fn the_state_is_kept_over_blocks() {
+    for edition in EDITIONS {
+        // Ends exactly on a block and one record past it.
+        for records in [8192, 8193, 20_000] {
+            let mut input = opening(edition, 1);
+            let enable = Access::Write {
+                register: 1,
+                value: 5,
+            };
+            input.extend(record(edition, enable, REST));
+            for _ in 1..records {
+                input.extend(record(edition, Access::Read { register: 1 }, REST));
+            }
+            let text = replay(&input);
+            let mut lines = text.lines();
+            assert_eq!(lines.next(), Some("0000000000000000"));
+            assert_eq!(lines.clone().count(), records - 1);
+            assert!(lines.all(|line| line == "0000000000000005"));
+        }
+    }
+}

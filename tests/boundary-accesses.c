@@ -1,0 +1,165 @@
+/* Making, each field by the register of its name, the wires of each alert, and the answers of an access. */
+#include "boundary.h"
+
+/* ---- Each field stands where the register of its name reads and writes it ---- */
+
+static handler told_apart(void) {
+    handler h = new_handler(TARRAVANE_ALERTS);
+    for (unsigned i = 0; i < TARRAVANE_ALERTS; i++) {
+        h.alerts.regwen[i] = i % 2;
+        h.alerts.en[i] = i / 2 % 2;
+        h.alerts.class_of[i] = i / 4 % 4;
+        h.alerts.cause[i] = i / 16 % 2;
+    }
+    for (unsigned j = 0; j < TARRAVANE_LOCALS; j++) {
+        h.locals.regwen[j] = j % 2;
+        h.locals.en[j] = j / 2 % 2;
+        h.locals.class_of[j] = 3 - j % 4;
+        h.locals.cause[j] = j / 4;
+    }
+    for (unsigned k = 0; k < 4; k++) {
+        struct tarravane_class *c = &h.classes[k];
+        for (unsigned p = 0; p < 4; p++) c->lengths[p] = 0x10203040u * (k + 1) + 0x01010101u * p;
+        c->timeout = 0x0F1E2D3Cu + k;
+        c->count = 0x11223344u + k;
+        c->ctrl = (uint16_t)(0x1234 + k);
+        c->accum = (uint16_t)(0xABC0 + k);
+        c->thresh = (uint16_t)(0x5670 + k);
+        c->regwen = k % 2;
+        c->clrwen = k / 2;
+        c->state = (uint8_t)TARRAVANE_PHASE(k);
+    }
+    h.interrupts.state = 0x6;
+    h.interrupts.enable = 0xD;
+    for (unsigned v = 0; v < TARRAVANE_WORDS; v++) h.receivers.armed[v] = UINT64_C(0x0123456789ABCDEF) * (v + 1);
+    return h;
+}
+
+static void fields_of_a_class(const handler *h, int k) {
+    const struct tarravane_class *c = &h->classes[k];
+    CHECK(read_of(h, TARRAVANE_CLASS_REGWEN(k)) == c->regwen);
+    CHECK(read_of(h, TARRAVANE_CLASS_CTRL(k)) == c->ctrl);
+    CHECK(read_of(h, TARRAVANE_CLASS_CLR_REGWEN(k)) == c->clrwen);
+    CHECK(read_of(h, TARRAVANE_CLASS_CLR(k)) == -TARRAVANE_WRONG_WAY);
+    CHECK(read_of(h, TARRAVANE_CLASS_ACCUM_CNT(k)) == c->accum);
+    CHECK(read_of(h, TARRAVANE_CLASS_ACCUM_THRESH(k)) == c->thresh);
+    CHECK(read_of(h, TARRAVANE_CLASS_TIMEOUT_CYC(k)) == c->timeout);
+    for (int p = 0; p < 4; p++) CHECK(read_of(h, TARRAVANE_CLASS_PHASE_CYC(k, p)) == c->lengths[p]);
+    CHECK(read_of(h, TARRAVANE_CLASS_ESC_CNT(k)) == c->count);
+    CHECK(read_of(h, TARRAVANE_CLASS_STATE(k)) == c->state);
+    CHECK(read_of(h, TARRAVANE_CLASS_STATE(k) + 1) == -TARRAVANE_NO_REGISTER);
+}
+
+static void fields(void) {
+    handler h = told_apart();
+    for (int i = 0; i < TARRAVANE_ALERTS; i++) {
+        CHECK(read_of(&h, TARRAVANE_ALERT_REGWEN(i)) == h.alerts.regwen[i]);
+        CHECK(read_of(&h, TARRAVANE_ALERT_EN(i)) == h.alerts.en[i]);
+        CHECK(read_of(&h, TARRAVANE_ALERT_CLASS(i)) == h.alerts.class_of[i]);
+        CHECK(read_of(&h, TARRAVANE_ALERT_CAUSE(i)) == h.alerts.cause[i]);
+    }
+    for (int j = 0; j < TARRAVANE_LOCALS; j++) {
+        CHECK(read_of(&h, TARRAVANE_LOC_ALERT_REGWEN(j)) == h.locals.regwen[j]);
+        CHECK(read_of(&h, TARRAVANE_LOC_ALERT_EN(j)) == h.locals.en[j]);
+        CHECK(read_of(&h, TARRAVANE_LOC_ALERT_CLASS(j)) == h.locals.class_of[j]);
+        CHECK(read_of(&h, TARRAVANE_LOC_ALERT_CAUSE(j)) == h.locals.cause[j]);
+    }
+    for (int k = 0; k < 4; k++) fields_of_a_class(&h, k);
+    CHECK(read_of(&h, TARRAVANE_INTR_STATE) == h.interrupts.state);
+    CHECK(read_of(&h, TARRAVANE_INTR_ENABLE) == h.interrupts.enable);
+    CHECK(read_of(&h, TARRAVANE_INTR_TEST) == -TARRAVANE_WRONG_WAY);
+}
+
+/* A write to an alert's register changes its entry, is read there, and changes nothing else. */
+static void entry_of(int number, size_t offset, uint8_t before, uint8_t value, uint8_t after) {
+    handler h = new_handler(TARRAVANE_ALERTS);
+    uint8_t *entry = (uint8_t *)&h.alerts + offset;
+    *entry = before;
+    handler wanted = h;
+    CHECK(write_of(&h, number, value) == 0);
+    ((uint8_t *)&wanted.alerts)[offset] = after;
+    CHECK(same(&h, &wanted));
+    CHECK(read_of(&h, number) == after);
+}
+
+static void entries(void) {
+    for (size_t i = 0; i < TARRAVANE_ALERTS; i++) {
+        int at = (int)i;
+        entry_of(TARRAVANE_ALERT_REGWEN(at), offsetof(struct tarravane_alerts, regwen) + i, 1, 0, 0);
+        entry_of(TARRAVANE_ALERT_EN(at), offsetof(struct tarravane_alerts, en) + i, 0, 1, 1);
+        entry_of(TARRAVANE_ALERT_CLASS(at), offsetof(struct tarravane_alerts, class_of) + i, 0, 3, 3);
+        entry_of(TARRAVANE_ALERT_CAUSE(at), offsetof(struct tarravane_alerts, cause) + i, 1, 1, 0);
+    }
+}
+
+/* Alert i's wires and its re-arming stand at its place: an event of each alert that is armed and enabled, and of no other.
+ * The last places of the last word are no alert's, and stay. */
+static void wires(void) {
+    handler h = told_apart();
+    memset(h.alerts.cause, 0, sizeof h.alerts.cause);
+    for (int i = 0; i < TARRAVANE_ALERTS; i++) {
+        uint64_t one = UINT64_C(1) << (63 - i % 64);
+        struct tarravane_answered t = tarravane_tick(h, TARRAVANE_NONE, 0, 0, raised(i));
+        bool armed = (h.receivers.armed[i / 64] & one) != 0;
+        for (int m = 0; m < TARRAVANE_ALERTS; m++)
+            CHECK(t.handler.alerts.cause[m] == (m == i && armed && h.alerts.en[i] == 1));
+        for (int v = 0; v < TARRAVANE_WORDS; v++) {
+            uint64_t wanted = v == i / 64 ? ~one : UINT64_MAX;
+            if (v == TARRAVANE_WORDS - 1) wanted = (wanted & ~UINT64_C(255)) | (h.receivers.armed[v] & 255);
+            CHECK(t.handler.receivers.armed[v] == wanted);
+        }
+    }
+}
+
+/* ---- Making, and the answers of an access ---- */
+
+static void making(void) {
+    static const size_t bad[] = {0, 249, 256, (size_t)1 << 32, SIZE_MAX};
+    for (size_t n = 1; n <= TARRAVANE_ALERTS; n++) {
+        handler h = new_handler(n);
+        for (int k = 0; k < 4; k++) CHECK(read_of(&h, TARRAVANE_CLASS_CTRL(k)) == 0x393C);
+        CHECK(read_of(&h, TARRAVANE_ALERT_REGWEN((int)n - 1)) == 1);
+        CHECK(read_of(&h, TARRAVANE_ALERT_REGWEN((int)n)) == -TARRAVANE_NO_REGISTER);
+        for (size_t i = 0; i < TARRAVANE_ALERTS; i++)
+            CHECK(h.alerts.regwen[i] == 1 && h.alerts.en[i] + h.alerts.class_of[i] + h.alerts.cause[i] == 0);
+        for (int v = 0; v < TARRAVANE_WORDS; v++) CHECK(h.receivers.armed[v] == UINT64_MAX);
+    }
+    handler none = new_handler(1);
+    none.n = 0;
+    for (size_t i = 0; i < sizeof bad / sizeof *bad; i++) {
+        struct tarravane_made m = tarravane_new(bad[i]);
+        CHECK(m.answer == -TARRAVANE_BAD_COUNT);
+        CHECK(same(&m.handler, &none));
+    }
+}
+
+static void answers(void) {
+    static const int none[] = {3, 255, 257, 504, 1025, 1279, 1293, 1344, 2047, 2048, 65535};
+    handler h = new_handler(1);
+    CHECK(write_of(&h, TARRAVANE_CLASS_TIMEOUT_CYC(3), UINT32_MAX) == 0);
+    CHECK(read_of(&h, TARRAVANE_CLASS_TIMEOUT_CYC(3)) == INT64_C(4294967295));
+    CHECK(write_of(&h, TARRAVANE_CLASS_ACCUM_THRESH(0), 65535) == 0);
+    CHECK(write_of(&h, TARRAVANE_CLASS_ACCUM_THRESH(0), 65536) == -TARRAVANE_TOO_WIDE);
+    CHECK(read_of(&h, TARRAVANE_CLASS_ACCUM_THRESH(0)) == 65535);
+    CHECK(write_of(&h, TARRAVANE_CLASS_REGWEN(0), 0) == 0);
+    CHECK(write_of(&h, TARRAVANE_CLASS_CTRL(0), 1) == -TARRAVANE_LOCKED);
+    CHECK(write_of(&h, TARRAVANE_CLASS_ACCUM_CNT(0), 0) == -TARRAVANE_WRONG_WAY);
+    for (size_t i = 0; i < sizeof none / sizeof *none; i++) CHECK(write_of(&h, none[i], 0) == -TARRAVANE_NO_REGISTER);
+    CHECK(write_of(&h, TARRAVANE_ALERT_EN(0), 1) == 0);
+    for (unsigned kind = 3; kind < 256; kind++) {
+        struct tarravane_answered t = tarravane_tick(h, (uint8_t)kind, TARRAVANE_CLASS_CTRL(1), 1, wires_of(UINT64_MAX, 0));
+        CHECK(t.answer == -TARRAVANE_BAD_RECORD);
+        CHECK(t.handler.alerts.cause[0] == 1); /* the tick runs */
+        CHECK(t.handler.classes[1].ctrl == 0x393C);
+    }
+    CHECK(tarravane_tick(h, TARRAVANE_NONE, 2047, 9, REST).answer == 0);
+    CHECK(tarravane_tick(h, TARRAVANE_READ, TARRAVANE_CLASS_CTRL(1), 9, REST).answer == 0x393C);
+}
+
+void test_accesses(void) {
+    making();
+    answers();
+    fields();
+    entries();
+    wires();
+}

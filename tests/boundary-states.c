@@ -1,0 +1,159 @@
+/* Refusal 7: each damaged field gets it, by a tick and by a batch; entries at N and above are not looked at. */
+#include "boundary.h"
+
+static void refused(const handler *h) {
+    static const uint8_t record[TARRAVANE_RECORD_70];
+    uint64_t word = 7;
+    struct tarravane_answered t = tarravane_tick(*h, TARRAVANE_READ, TARRAVANE_INTR_STATE, 0, REST);
+    CHECK(t.answer == -TARRAVANE_BAD_STATE);
+    CHECK(t.output.interrupts == 0 && t.output.lines == 0);
+    CHECK(same(&t.handler, h));
+    /* 7 comes before 8, 8 before 9 */
+    struct tarravane_batched b = tarravane_batch_70(*h, record, TARRAVANE_RECORD_70 - 1, &word, 0);
+    CHECK(b.answer == -TARRAVANE_BAD_STATE);
+    CHECK(same(&b.handler, h));
+    b = tarravane_batch_24(*h, record, TARRAVANE_RECORD_24 - 1, &word, 0);
+    CHECK(b.answer == -TARRAVANE_BAD_STATE);
+    CHECK(same(&b.handler, h));
+    CHECK(word == 7);
+}
+
+static void accepted(const handler *h) {
+    CHECK(tarravane_tick(*h, TARRAVANE_NONE, 0, 0, REST).answer == 0);
+}
+
+/* A register of 8 bits that fits its first `bits`: each bit above them is refused, what fits is not. */
+static void narrow(handler *h, uint8_t *field, int bits) {
+    uint8_t old = *field;
+    for (int b = 0; b < 8; b++) {
+        *field = (uint8_t)(old | 1u << b);
+        if (b < bits) accepted(h);
+        else refused(h);
+    }
+    *field = old;
+}
+
+static void damage_columns(handler *h, uint8_t *regwen, uint8_t *en, uint8_t *class_of, uint8_t *cause, size_t entries) {
+    for (size_t i = 0; i < entries; i++) {
+        narrow(h, &regwen[i], 1);
+        narrow(h, &en[i], 1);
+        narrow(h, &class_of[i], 2);
+        narrow(h, &cause[i], 1);
+    }
+}
+
+/* STATE's number and ESC_CNT: 2 and what is over 7 is refused, and a count that the state rules out. */
+static void damage_place(handler *h, struct tarravane_class *c) {
+    struct tarravane_class old = *c;
+    for (unsigned state = 0; state < 256; state++) {
+        bool still = state == TARRAVANE_IDLE || state == TARRAVANE_TERMINAL;
+        bool known = state < 8 && state != 2;
+        c->state = (uint8_t)state;
+        c->count = 0;
+        if (known && still) accepted(h);
+        else refused(h);
+        for (int b = 0; b < 32; b++) {
+            c->count = UINT32_C(1) << b;
+            if (known && !still) accepted(h);
+            else refused(h);
+        }
+    }
+    *c = old;
+}
+
+static void damage_class(handler *h, struct tarravane_class *c) {
+    struct tarravane_class old = *c;
+    narrow(h, &c->regwen, 1);
+    narrow(h, &c->clrwen, 1);
+    for (int b = 0; b < 16; b++) {
+        c->ctrl = (uint16_t)(old.ctrl | 1u << b);
+        if (b < 14) accepted(h);
+        else refused(h);
+    }
+    *c = old;
+    c->accum = c->thresh = UINT16_MAX;
+    c->timeout = UINT32_MAX;
+    memset(c->lengths, 0xFF, sizeof c->lengths);
+    accepted(h);
+    *c = old;
+    damage_place(h, c);
+}
+
+static void damages(void) {
+    static const size_t over[] = {249, 250, 256, (size_t)1 << 32, (size_t)1 << 63, SIZE_MAX};
+    handler h = new_handler(TARRAVANE_ALERTS);
+    accepted(&h);
+    struct tarravane_alerts *a = &h.alerts;
+    damage_columns(&h, a->regwen, a->en, a->class_of, a->cause, TARRAVANE_ALERTS);
+    struct tarravane_locals *l = &h.locals;
+    damage_columns(&h, l->regwen, l->en, l->class_of, l->cause, TARRAVANE_LOCALS);
+    for (int k = 0; k < TARRAVANE_CLASSES; k++) damage_class(&h, &h.classes[k]);
+    narrow(&h, &h.interrupts.state, 4);
+    narrow(&h, &h.interrupts.enable, 4);
+    for (size_t i = 0; i < sizeof over / sizeof *over; i++) {
+        h.n = over[i];
+        refused(&h);
+    }
+    h.n = 0;
+    accepted(&h);
+}
+
+/* Entries and places at N and above are no registers and no wires: not judged, not changed. */
+static void entries_above(size_t n) {
+    handler h = new_handler(n);
+    for (size_t i = n; i < TARRAVANE_ALERTS; i++)
+        h.alerts.regwen[i] = h.alerts.en[i] = h.alerts.class_of[i] = h.alerts.cause[i] = 0xA5;
+    handler wanted = h;
+    for (size_t i = 0; i < n; i++) wanted.receivers.armed[i / 64] &= ~(UINT64_C(1) << (63 - i % 64));
+    struct tarravane_answered t =
+        tarravane_tick(h, TARRAVANE_WRITE, (uint16_t)TARRAVANE_ALERT_EN(n), 1, wires_of(UINT64_MAX, 0));
+    CHECK(t.answer == -TARRAVANE_NO_REGISTER);
+    CHECK(same(&t.handler, &wanted));
+}
+
+/* Every byte of a state crosses. */
+static void patterns(void) {
+    for (int byte = 0; byte < 256; byte++) {
+        handler h;
+        memset(&h, byte, sizeof h);
+        if (byte == 0) accepted(&h);
+        else refused(&h);
+        h.n = TARRAVANE_ALERTS;
+        if (byte <= 1) accepted(&h);
+        else refused(&h);
+    }
+    for (unsigned seed = 1; seed < 256; seed++) {
+        unsigned char bytes[sizeof(handler)];
+        handler h;
+        for (size_t i = 0; i < sizeof bytes; i++) bytes[i] = (unsigned char)(i * 37 + i / 251 + seed);
+        memcpy(&h, bytes, sizeof h);
+        refused(&h);
+    }
+}
+
+/* An old batch answers 7 to a sound state of more than 64 alerts, before 8 and 9 and with no bytes too. */
+static void old_batches(void) {
+    static const uint8_t records[2 * TARRAVANE_RECORD_24];
+    static const size_t lengths[] = {0, 1, TARRAVANE_RECORD_24, sizeof records};
+    for (size_t n = 1; n <= TARRAVANE_ALERTS; n++) {
+        handler h = new_handler(n);
+        uint64_t word = 7;
+        for (size_t i = 0; i < sizeof lengths / sizeof *lengths; i++) {
+            int64_t wanted = i == 1 ? -TARRAVANE_BAD_LENGTH : i == 3 ? -TARRAVANE_SHORT_LIST : 0;
+            struct tarravane_batched b = tarravane_batch_24(h, records, lengths[i], &word, 1);
+            CHECK(b.answer == (n > TARRAVANE_ALERTS_24 ? -TARRAVANE_BAD_STATE : wanted));
+            CHECK(b.answer == 0 || same(&b.handler, &h));
+            CHECK(word == (b.answer == 0 && lengths[i] > 0 ? 0 : 7));
+            word = 7;
+        }
+        accepted(&h);
+        CHECK(tarravane_batch_70(h, records, 0, &word, 0).answer == 0);
+    }
+}
+
+void test_states(void) {
+    patterns();
+    damages();
+    for (size_t n = 1; n < TARRAVANE_ALERTS; n++) entries_above(n);
+    old_batches();
+}

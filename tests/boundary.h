@@ -1,0 +1,63 @@
+/* What the parts of the boundary's test share. */
+#ifndef BOUNDARY_H
+#define BOUNDARY_H
+
+#include <stdbool.h>
+#include <stdio.h>
+#include <stdlib.h>
+#include <string.h>
+
+#include "tarravane.h"
+
+typedef struct tarravane_handler handler;
+
+/* ---- Checks: the first that does not hold ends the test ---- */
+
+void check_at(bool holds, const char *fact, const char *file, int line);
+#define CHECK(fact) check_at((fact), #fact, __FILE__, __LINE__)
+
+/* ---- Wires ---- */
+
+/* The same bits in every word. */
+struct tarravane_wires wires_of(uint64_t pos, uint64_t neg);
+#define REST wires_of(0, UINT64_MAX) /* all wires at (0,1) */
+
+/* Other bits in every word. */
+struct tarravane_wires wires_apart(uint64_t pos, uint64_t neg);
+
+/* Alert i at (1,0), the others at (0,1). */
+struct tarravane_wires raised(int i);
+
+/* ---- States and ticks ---- */
+
+/* Field by field: padding is no field. */
+bool same(const handler *a, const handler *b);
+
+handler new_handler(size_t n);
+int64_t read_of(const handler *h, int number);
+int64_t write_of(handler *h, int number, uint32_t value);
+
+/* ---- Records ---- */
+
+/* The word of a tick says what the tick gave. */
+void word_says(uint64_t word, const struct tarravane_answered *t);
+
+/* What a record of 70 bytes holds; kind 3 for a malformed one. */
+struct access {
+    uint8_t kind;
+    uint16_t number;
+    uint32_t value;
+    struct tarravane_wires wires;
+};
+
+/* The writer's bytes of one access, or its refusal. */
+int64_t written(const struct access *a, uint8_t record[TARRAVANE_RECORD_70]);
+
+/* ---- The parts ---- */
+
+void test_accesses(void);
+void test_states(void);
+void test_writer(void);
+void test_trace(const char *trace, const char *printed);
+
+#endif

@@ -1,0 +1,117 @@
+//! A batch of either edition is its ticks, and what it refuses it leaves.
+use handler::registers::Map;
+use handler::registers::{Field, Setting, INTR_ENABLE};
+use handler::{Access, Answer, Edition, Handler, Ticked, Wires, Word};
+use harness::record::record;
+
+const RAISE: Wires = {
+    let mut wires = Wires::REST;
+    wires.pos[0] = 1 << 63;
+    wires.neg[0] = u64::MAX >> 1;
+    wires
+};
+
+fn made(n: usize) -> Handler {
+    let (handler, answer) = Handler::new(n);
+    assert_eq!(answer, Answer(0));
+    handler
+}
+
+/// Kind, register of the edition, value: alert 0 raises class A's interrupt and a line, then reads, two of no register.
+fn accesses(map: Map) -> [(u64, u16, u32); 7] {
+    [
+        (2, map.alert(Field::En, 0), 1),
+        (2, map.class(0, Setting::Ctrl), 0x393F),
+        (2, INTR_ENABLE, 1),
+        (0, 0, 0),
+        (1, map.alert(Field::Cause, 0), 0),
+        (1, map.class(0, Setting::State) + 1, 0),
+        (1, 1023, 0),
+    ]
+}
+
+fn wires(at: usize) -> Wires {
+    match at {
+        3 => RAISE,
+        _ => Wires::REST,
+    }
+}
+
+/// The ticks of the accesses one by one; a number that the edition leaves unassigned is no register of the map either.
+fn ticks(edition: Edition, mut h: Handler) -> Vec<Ticked> {
+    let map = edition.registers();
+    let all = accesses(map).into_iter().enumerate();
+    let ticks = all.map(|(at, (kind, register, value))| {
+        let number = map.carry(register).unwrap_or(u16::MAX);
+        let access = match kind {
+            0 => Access::Nothing,
+            1 => Access::Read(number),
+            _ => Access::Write(number, value),
+        };
+        let t = h.tick(access, wires(at));
+        h = t.handler;
+        t
+    });
+    ticks.collect()
+}
+
+fn bytes(edition: Edition) -> Vec<u8> {
+    let all = accesses(edition.registers()).into_iter().enumerate();
+    let records = all.map(|(at, (kind, register, value))| {
+        let Wires { pos, neg } = wires(at);
+        record(edition, kind, register.into(), value.into(), (pos, neg))
+    });
+    records.collect::<Vec<_>>().concat()
+}
+
+#[test]
+fn a_batch_is_its_ticks() {
+    for edition in Edition::ALL {
+        for n in [2, edition.alerts()] {
+            let given = ticks(edition, made(n));
+            let mut words = [Word(7); 9];
+            let (all, answer) = made(n).batch(edition, &bytes(edition), &mut words);
+            assert_eq!((all, answer), (given[6].handler, Answer(0)));
+            for (word, t) in words.iter().zip(&given) {
+                for b in 0..4 {
+                    assert_eq!(word.interrupt(b), t.output.interrupts >> b & 1 == 1);
+                    assert_eq!(word.line(b), t.output.lines >> b & 1 == 1);
+                }
+                let said = word.refusal().map_or(Ok(word.value()), Err);
+                assert_eq!(said, t.answer.value());
+            }
+            assert!(words[3].interrupt(0) && words[3].line(0));
+            assert_eq!(words[4].value(), 1);
+            assert_eq!(words[7..], [Word(7); 2]);
+        }
+    }
+}
+
+#[test]
+fn a_refused_batch_leaves_state_and_list() {
+    let h = made(1);
+    let mut words = [Word(7); 1];
+    for edition in Edition::ALL {
+        let zeros = vec![0; 2 * edition.bytes()];
+        let mut refused = |length| h.batch(edition, &zeros[..length], &mut words);
+        assert_eq!(refused(2 * edition.bytes()), (h, Answer(-9)));
+        assert_eq!(refused(edition.bytes() + 1), (h, Answer(-8)));
+        assert_eq!(refused(edition.bytes() - 1), (h, Answer(-8)));
+        assert_eq!(h.batch(edition, &[], &mut []), (h, Answer(0)));
+    }
+    assert_eq!(words, [Word(7)]);
+}
+
+#[test]
+fn an_old_batch_refuses_a_handler_of_more_than_64_alerts() {
+    let mut words = [Word(7); 1];
+    for n in [65, 248] {
+        let h = made(n);
+        for length in [0, 1, 24, 48] {
+            let given = h.batch(Edition::Bytes24, &[0; 48][..length], &mut words);
+            assert_eq!(given, (h, Answer(-7)));
+        }
+        assert_eq!(words, [Word(7)]);
+        assert_eq!(h.batch(Edition::Bytes70, &[], &mut []).1, Answer(0));
+    }
+}

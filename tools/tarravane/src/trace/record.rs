@@ -1,0 +1,166 @@
+//! The bytes of a record, and what they hold. The proved writer gives those of the newest edition; records of an older one are
+//! packed here, in plain Rust. What is read of a record is for showing only: the library judges it.
+use handler::{Access, Edition, Input, Refusal, Wires, WORDS};
+
+/// The words of the wires; at places that the edition has no wires for, those at rest.
+fn words(bytes: &[u8], rest: u8) -> [u64; WORDS] {
+    let mut all = [[rest; 8]; WORDS];
+    all.as_flattened_mut()[..bytes.len()].copy_from_slice(bytes);
+    all.map(u64::from_be_bytes)
+}
+
+/// What a record's bits hold where it is well-formed; of a malformed one a part is lost. The register has the edition's number.
+pub fn input(edition: Edition, record: &[u8]) -> Input {
+    let (first, wires) = record.split_at(8);
+    let (pos, neg) = wires.split_at(edition.wire_bytes());
+    let first = first.iter().fold(0, |all, b| all << 8 | u64::from(*b));
+    let register = (first << 2 >> (64 - edition.register_bits())) as u16;
+    let access = match first >> 62 {
+        0 => Access::Nothing,
+        1 => Access::Read(register),
+        2 => Access::Write(register, first as u32),
+        _ => Access::Malformed,
+    };
+    let wires = Wires {
+        pos: words(pos, 0),
+        neg: words(neg, 255),
+    };
+    Input { access, wires }
+}
+
+/// The record that holds the input; none where no well-formed one does.
+fn packed(edition: Edition, input: &Input) -> Option<Vec<u8>> {
+    let (kind, register, value) = match input.access {
+        Access::Nothing => (0, 0, 0),
+        Access::Read(register) => (1, register, 0),
+        Access::Write(register, value) => (2, register, value),
+        Access::Malformed => return None,
+    };
+    let bits = edition.register_bits();
+    if register >> bits != 0 {
+        return None;
+    }
+    let first = kind << 62 | u64::from(register) << (62 - bits) | u64::from(value);
+    let mut record = first.to_be_bytes().to_vec();
+    for wires in [input.wires.pos, input.wires.neg] {
+        let bytes = wires.map(u64::to_be_bytes);
+        record.extend_from_slice(&bytes.as_flattened()[..edition.wire_bytes()]);
+    }
+    Some(record)
+}
+
+/// The records of an older edition, as the proved writer would give them: 10 where no record holds an input.
+fn packed_all(edition: Edition, inputs: &[Input]) -> Result<Vec<u8>, Refusal> {
+    let records = inputs.iter().map(|input| packed(edition, input));
+    let records: Option<Vec<Vec<u8>>> = records.collect();
+    records.map(|all| all.concat()).ok_or(Refusal::NO_RECORD)
+}
+
+/// A record for each input, one after another.
+pub fn written(edition: Edition, inputs: &[Input]) -> Result<Vec<u8>, Refusal> {
+    if edition != Edition::NEWEST {
+        return packed_all(edition, inputs);
+    }
+    let mut bytes = vec![0; inputs.len() * edition.bytes()];
+    handler::record(inputs, &mut bytes).bytes().map(|_| bytes)
+}
+
+#[cfg(test)]
+mod tests {
+    use super::*;
+    use handler::{Handler, Word};
+    use harness::rng::Rng;
+
+    /// An input that a record of the edition holds; places without a wire are at rest.
+    fn some(rng: &mut Rng, edition: Edition) -> Input {
+        let register = rng.below(1 << edition.register_bits()) as u16;
+        let access = match rng.below(3) {
+            0 => Access::Nothing,
+            1 => Access::Read(register),
+            _ => Access::Write(register, rng.bits() as u32),
+        };
+        let mut wires = |rest| {
+            let bytes: Vec<u8> = (0..edition.wire_bytes())
+                .map(|_| rng.bits() as u8)
+                .collect();
+            words(&bytes, rest)
+        };
+        let wires = Wires {
+            pos: wires(0),
+            neg: wires(255),
+        };
+        Input { access, wires }
+    }
+
+    fn harness_record(edition: Edition, input: &Input) -> Vec<u8> {
+        let (kind, register, value) = match input.access {
+            Access::Nothing => (0, 0, 0),
+            Access::Read(register) => (1, register, 0),
+            Access::Write(register, value) => (2, register, value),
+            Access::Malformed => (3, 0, 0),
+        };
+        let Wires { pos, neg } = input.wires;
+        harness::record::record(edition, kind, register.into(), value.into(), (pos, neg))
+    }
+
+    /// Our packing, that of the harness and, of the newest edition, the proved writer's are the same.
+    #[test]
+    fn every_input_goes_both_ways() {
+        let mut rng = Rng::new(1);
+        for edition in Edition::ALL {
+            for _ in 0..2000 {
+                let one = some(&mut rng, edition);
+                let bytes = packed(edition, &one).expect("a record holds it");
+                assert_eq!(bytes, harness_record(edition, &one));
+                assert_eq!(written(edition, &[one]), Ok(bytes.clone()));
+                assert_eq!(input(edition, &bytes), one);
+            }
+        }
+    }
+
+    /// The library takes what is packed for well-formed, and samples alert 0 and the last one.
+    #[test]
+    fn the_library_reads_what_is_packed() {
+        let mut rng = Rng::new(2);
+        for edition in Edition::ALL {
+            let last = edition.alerts() - 1;
+            let (handler, _) = Handler::new(edition.alerts());
+            for _ in 0..500 {
+                let one = some(&mut rng, edition);
+                let bytes = packed(edition, &one).expect("a record holds it");
+                let mut words = [Word::default()];
+                let (after, answer) = handler.batch(edition, &bytes, &mut words);
+                assert_eq!(answer.value(), Ok(0));
+                assert_ne!(words[0].refusal(), Some(Refusal(5)));
+                for alert in [0, last] {
+                    let at = |words: [u64; WORDS]| words[alert / 64] >> (63 - alert % 64) & 1;
+                    let event = (at(one.wires.pos), at(one.wires.neg)) == (1, 0);
+                    assert_eq!(at(after.receivers.armed) == 0, event);
+                }
+            }
+        }
+    }
+
+    #[test]
+    fn what_no_record_holds_is_refused_with_10() {
+        let rest = |access| Input {
+            access,
+            wires: Wires::REST,
+        };
+        let good = rest(Access::Nothing);
+        for (edition, over) in [(Edition::Bytes24, 1024), (Edition::Bytes70, 2048)] {
+            for bad in [
+                Access::Read(over),
+                Access::Write(over, 0),
+                Access::Read(u16::MAX),
+                Access::Malformed,
+            ] {
+                assert_eq!(packed(edition, &rest(bad)), None);
+                let answer = written(edition, &[good, rest(bad), good]);
+                assert_eq!(answer, Err(Refusal::NO_RECORD));
+            }
+            assert!(packed(edition, &rest(Access::Read(over - 1))).is_some());
+            assert_eq!(written(edition, &[]), Ok(vec![]));
+        }
+    }
+}

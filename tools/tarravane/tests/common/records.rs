@@ -1,0 +1,53 @@
+//! The bytes of traces, packed by the harness.
+use handler::{Edition, Wires};
+
+/// All wires of a record of 24 bytes at (0,1).
+pub const REST: (u64, u64) = (0, u64::MAX);
+
+/// The bytes before the first record.
+pub fn start(edition: Edition, n: u8) -> Vec<u8> {
+    edition.mark().into_iter().chain([n]).collect()
+}
+
+/// A record's bytes; the register has the edition's number.
+pub fn record(edition: Edition, kind: u64, register: u64, value: u64, wires: Wires) -> Vec<u8> {
+    harness::record::record(edition, kind, register, value, (wires.pos, wires.neg))
+}
+
+/// A record of 24 bytes, its wires as two words.
+pub fn record_24(kind: u64, register: u64, value: u64, (pos, neg): (u64, u64)) -> Vec<u8> {
+    let mut wires = Wires::REST;
+    (wires.pos[0], wires.neg[0]) = (pos, neg);
+    record(Edition::Bytes24, kind, register, value, wires)
+}
+
+/// A record of 70 bytes.
+pub fn record_70(kind: u64, register: u64, value: u64, wires: Wires) -> Vec<u8> {
+    record(Edition::Bytes70, kind, register, value, wires)
+}
+
+/// Wires at rest but for these alerts; 0b10 has the positive wire at 1, the negative at 0.
+pub fn off_rest(pairs: &[(usize, u8)]) -> Wires {
+    let mut wires = Wires::REST;
+    for (alert, levels) in pairs {
+        let (word, bit) = (alert / 64, 63 - alert % 64);
+        wires.pos[word] |= u64::from(levels >> 1) << bit;
+        wires.neg[word] &= !(u64::from(!levels & 1) << bit);
+    }
+    wires
+}
+
+fn every(step: usize, edition: Edition, levels: u8) -> Wires {
+    let alerts = (0..edition.alerts()).step_by(step);
+    off_rest(&alerts.map(|i| (i, levels)).collect::<Vec<_>>())
+}
+
+/// All alerts of the edition at these levels.
+pub fn all_at(edition: Edition, levels: u8) -> Wires {
+    every(1, edition, levels)
+}
+
+/// Every second alert at these levels, from alert 0 on.
+pub fn apart(edition: Edition, levels: u8) -> Wires {
+    every(2, edition, levels)
+}
