@@ -10,9 +10,9 @@
  *
  * The stack that a call takes below its caller's frame, argument and result included, whatever the lengths of its lists:
  *   tarravane_new 3448 bytes
- *   tarravane_tick 16024 bytes
- *   tarravane_batch_24 18552 bytes
- *   tarravane_batch_70 18552 bytes
+ *   tarravane_tick 16744 bytes
+ *   tarravane_batch_24 19272 bytes
+ *   tarravane_batch_70 19272 bytes
  *   tarravane_record 96 bytes
  * Measured, not proved (tests/stack, the gate): each call ran on a stack filled with a pattern, with accesses of every kind
  * and lists of 0 to 300 entries, linked with -z now. Else the dynamic loader binds memcpy within the first call and takes

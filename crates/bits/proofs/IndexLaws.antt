@@ -1,12 +1,12 @@
 -- Laws of lists and tests by index.
 -- Assumes nothing.
-use Prim.Native.Nat.{ℕ, zero, suc, _+_, _<_}
+use Prim.Native.Nat.{ℕ, zero, suc, _+_, _≤_, _<_}
 use mathlib.Core.Path.{_≡_, refl, sym, ap, ap₂, _∙_}
-use mathlib.Core.Bool.{Bool, true, false, false≢true, cond, _&&_, _||_}
+use mathlib.Core.Bool.{Bool, true, false, false≢true, cond, _&&_, _||_, or-false}
 use mathlib.Core.List.{List}
 use native.Mathlib.Omega.{arith}
 use native.Mathlib.Nat.{add-zero, add-suc, suc-add, zero-add, le-of-suc-le-suc, not-suc-le-zero}
-use native.Mathlib.Decide.{decLt, ℕ-discrete}
+use native.Mathlib.Decide.{decLt, ℕ-discrete, le-ind}
 use borrow.Author.Tests.{eq-eqb, ne-eqb}
 use lib.Dec.{eqb}
 use lib.ListN.{getD, length, set, length-set}
@@ -106,6 +106,14 @@ pub any-none : (f : ℕ → Bool) (n : ℕ) → ((i : ℕ) → i < n → f i ≡
 unfolding anyTo
 any-none f zero e = refl
 any-none f (suc n) e = ap₂ _||_ (any-none f n (λ i h. e i (omega arith))) (e n (omega arith))
+
+-- where none from m up to n has f
+pub any-skip : (f : ℕ → Bool) (m n : ℕ) → m ≤ n → ((i : ℕ) → m ≤ i → i < n → f i ≡ false) → anyTo f n ≡ anyTo f m
+unfolding anyTo
+any-skip f m n h none =
+    le-ind (λ (x : ℕ). ((i : ℕ) → m ≤ i → i < x → f i ≡ false) → anyTo f x ≡ anyTo f m) (λ g. refl)
+    (λ x l ih g. ap (λ (b : Bool). anyTo f x || b) (g x l (omega arith)) ∙ or-false (anyTo f x) ∙ ih (λ i a b. g i a (omega arith)))
+    n h none
 
 -- where none has f, i has not
 pub none-at : (f : ℕ → Bool) (n i : ℕ) → anyTo f n ≡ false → i < n → f i ≡ false

@@ -1,4 +1,5 @@
 pub mod BitLaws
+pub mod FirstLaws
 pub mod Table
 pub mod IndexLaws
 pub mod FieldLaws

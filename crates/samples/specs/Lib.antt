@@ -1,4 +1,5 @@
 pub mod Received
+pub mod Places
 pub mod Noted
 pub mod Gathered
 pub mod Occurred

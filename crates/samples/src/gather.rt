@@ -1,20 +1,14 @@
 // Step 2, events and enables into causes and classes. Nothing here knows of arming.
+use crate::broken::any_broken;
 use crate::note;
+use crate::places::after;
+use crate::places::first;
+use crate::receive::live;
 use rules::MOST;
 use rules::WORDS;
-ghost use Prim.Native.Nat.{_<_, _≤_};
-ghost use mathlib.Core.Path.{_≡_};
-ghost use Rattle.bits.specs.Index.{placeIn};
+ghost use Prim.Native.Nat.{_≤_};
 ghost use Rattle.rules.specs.State.{most};
 ghost use Rattle.samples.specs.Gathered.{GatheredAll};
-
-// Place i of a list of words.
-fn place_in(ws: &[u64; WORDS], i: usize) -> bool
-    requires { ⌜ i < most ⌝ }
-    ensures { λ r. ⌜ r ≡ placeIn (now (ws .entry)) i ⌝ }
-{
-    (ws[i / 64] >> (63 - i % 64)) % 2 == 1
-}
 
 // The alerts' causes, the classes that their events are assigned to, and whether an enabled one has equal wires.
 pub struct Gathered {
@@ -23,7 +17,7 @@ pub struct Gathered {
     pub broken: bool,
 }
 
-// The n alerts, one after the other.
+// The n alerts: of each word those with an event, one after the other, and no other. A word without one is passed over.
 pub fn gather(
     n: usize,
     events: &[u64; WORDS],
@@ -37,17 +31,20 @@ pub fn gather(
 {
     let mut cause = before;
     let mut hits: u8 = 0;
-    let mut broken = false;
-    for i in 0..n {
-        let on = en[i] == 1;
-        let event = place_in(events, i) & on;
-        hits = hits | note::class_bit(class[i], event);
-        note::mark(&mut cause, i, event);
-        broken = broken | (place_in(equal, i) & on);
+    for v in 0..WORDS {
+        let mut left = live(n, v * 64) & events[v];
+        while left != 0 {
+            let b = first(left);
+            let i = v * 64 + b;
+            let on = en[i] == 1;
+            hits = hits | note::class_bit(class[i], on);
+            note::mark(&mut cause, i, on);
+            left = after(left, b);
+        }
     }
     Gathered {
         cause: cause,
         hits: hits,
-        broken: broken,
+        broken: any_broken(n, equal, en),
     }
 }

@@ -1,7 +1,9 @@
 // Step 2 of a tick: the samples.
 mod receive; // receive.rt: wire pairs and arming, 64 alerts at a time
 mod note; // note.rt: what one event does
+mod places; // places.rt: the places of a word that are set
 mod gather; // gather.rt: events and enables of the alerts into causes and classes
+mod broken; // broken.rt: equal wires of enabled alerts
 mod locals; // locals.rt: the local alerts
 
 use rules::Handler;

@@ -14,8 +14,14 @@ pub use timed::{Timed, TITLE};
 use crate::record::Side;
 use handler::Wires;
 
-/// The records of a timed batch.
-pub const RECORDS: usize = 100_000;
+/// The records of a timed batch: a million quiet ticks, of the other loads
+/// fewer.
+pub const fn records(load: Load) -> usize {
+    match load {
+        Load::Quiet => 1_000_000,
+        _ => 100_000,
+    }
+}
 /// The rounds; the best one of each side counts.
 pub const ROUNDS: usize = 7;
 /// The wires of a quiet tick.

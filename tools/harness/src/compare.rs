@@ -1,5 +1,6 @@
 //! Compares a program with the reference, trace by trace, to the byte.
 
+mod alone;
 mod case;
 mod coverage;
 mod difference;

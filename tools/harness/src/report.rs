@@ -1,6 +1,6 @@
 //! What the commands print. A reader that goes away is no failure; any other write that fails is told.
 
-use crate::bench::{time, LOADS, RECORDS, TITLE};
+use crate::bench::{records, time, LOADS, TITLE};
 use handler::Edition;
 use std::fmt::Display;
 use std::io::{self, ErrorKind, Write};
@@ -48,7 +48,7 @@ pub fn times(out: &mut impl Write, equal: &mut bool) -> io::Result<()> {
     writeln!(out, "{TITLE}")?;
     for (load, name) in LOADS {
         for edition in Edition::ALL {
-            let timed = time(edition, load, name, RECORDS);
+            let timed = time(edition, load, name, records(load));
             *equal &= timed.equal;
             writeln!(out, "{timed}")?;
         }

@@ -95,6 +95,11 @@ fn the_default_set_of_new_records_reaches_all() {
     for n in [0, 1, 9, 64, 65, 127, 128, 191, 192, 247, 248, 249, 255] {
         assert!(coverage.counts.contains(&n), "N {n}");
     }
+    // Both ends of each word of wires, each alone in a tick.
+    for i in [0, 63, 64, 127, 128, 191, 192, 247] {
+        assert!(coverage.lone_events.contains(&i), "event of {i}");
+        assert!(coverage.lone_equal.contains(&i), "equal wires of {i}");
+    }
 }
 
 /// The numbers of accesses in sweeps of all the edition's alerts, refused or not.

@@ -42,6 +42,11 @@ pub struct Coverage {
     pub registers: BTreeSet<(usize, u16)>,
     /// Alerts with a cause at the end of a trace.
     pub causes: BTreeSet<usize>,
+    /// Alerts whose event was the only one of a tick.
+    pub lone_events: BTreeSet<usize>,
+    /// Alerts that alone of the enabled ones had equal wires, with local 2
+    /// enabled.
+    pub lone_equal: BTreeSet<usize>,
 }
 
 impl Coverage {

@@ -28,6 +28,7 @@ pub fn expected(bytes: &[u8], coverage: &mut Coverage) -> Vec<u8> {
         let head = Head::of(input.edition, record);
         coverage.access(input.edition, head, word[0]);
         coverage.tick(&before, &handler, word[0]);
+        coverage.alone(&before, &handler, &record[8..]);
         writeln!(text, "{:016x}", word[0]).expect("a string takes all");
     }
     coverage.end(&handler);

@@ -35,6 +35,7 @@ pub fn sweep(edition: Edition, mut rng: Rng) -> Vec<u8> {
     // Old traces stay as they were.
     if edition != Edition::Bytes24 {
         raise_each(&mut scene);
+        break_each(&mut scene);
     }
     scene.finish()
 }
@@ -53,5 +54,19 @@ fn raise_each(scene: &mut Scene) {
         scene.write(map.alert(Field::Cause, i), 1);
         scene.set(i, (0, 1));
         scene.read(map.alert(Field::Cause, i));
+    }
+}
+
+/// Breaks one alert's wires after another: in that tick the cause of local 2
+/// is cleared, and read in the next.
+fn break_each(scene: &mut Scene) {
+    let map = scene.map;
+    scene.write(map.local(Field::En, 2), 1);
+    for i in 0..scene.n {
+        let level = scene.rng.below(2);
+        scene.set(i, (level, level));
+        scene.write(map.local(Field::Cause, 2), 1);
+        scene.set(i, (0, 1));
+        scene.read(map.local(Field::Cause, 2));
     }
 }
