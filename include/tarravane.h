@@ -9,10 +9,10 @@
  * The promises are proved for the functions of crates/boundary. Trusted: the compiler's back end, the C ABI, this header.
  *
  * The stack that a call takes below its caller's frame, argument and result included, whatever the lengths of its lists:
- *   tarravane_new 3448 bytes
- *   tarravane_tick 16744 bytes
- *   tarravane_batch_24 19272 bytes
- *   tarravane_batch_70 19272 bytes
+ *   tarravane_new 4856 bytes
+ *   tarravane_tick 29160 bytes
+ *   tarravane_batch_24 33096 bytes
+ *   tarravane_batch_70 33096 bytes
  *   tarravane_record 96 bytes
  * Measured, not proved (tests/stack, the gate): each call ran on a stack filled with a pattern, with accesses of every kind
  * and lists of 0 to 300 entries, linked with -z now. Else the dynamic loader binds memcpy within the first call and takes
@@ -86,6 +86,32 @@ struct tarravane_interrupts {
     uint8_t enable;
 };
 
+/* Stages: what the first of two equal writes left at a shadowed register. 0 for none, else the staged value plus 1, so they
+ * are wider than their registers. A stage acts on nothing, and no register reads it. */
+struct tarravane_class_stages {
+    uint64_t lengths[TARRAVANE_PHASES]; /* PHASE0_CYC to PHASE3_CYC */
+    uint64_t timeout;                   /* TIMEOUT_CYC */
+    uint32_t ctrl;                      /* CTRL */
+    uint32_t thresh;                    /* ACCUM_THRESH */
+};
+
+/* Entries at n and above are no registers': refusal 7 does not look at them, no call changes them. */
+struct tarravane_alert_stages {
+    uint8_t en[TARRAVANE_ALERTS];
+    uint8_t class_of[TARRAVANE_ALERTS]; /* CLASS */
+};
+
+struct tarravane_local_stages {
+    uint8_t en[TARRAVANE_LOCALS];
+    uint8_t class_of[TARRAVANE_LOCALS]; /* CLASS */
+};
+
+struct tarravane_stages {
+    struct tarravane_class_stages classes[TARRAVANE_CLASSES];
+    struct tarravane_alert_stages alerts;
+    struct tarravane_local_stages locals;
+};
+
 struct tarravane_handler {
     size_t n; /* alerts */
     struct tarravane_receivers receivers;
@@ -93,6 +119,7 @@ struct tarravane_handler {
     struct tarravane_alerts alerts;
     struct tarravane_locals locals;
     struct tarravane_interrupts interrupts;
+    struct tarravane_stages stages;
 };
 
 /* ---- What goes in ---- */
@@ -132,15 +159,17 @@ struct tarravane_batched {
 
 #define TARRAVANE_NO_REGISTER 1   /* no such register */
 #define TARRAVANE_WRONG_WAY 2     /* read of a write-only or write of a read-only register */
-#define TARRAVANE_LOCKED 3        /* register locked */
+#define TARRAVANE_LOCKED 3        /* register locked; a stage of it is dropped */
 #define TARRAVANE_TOO_WIDE 4      /* written value has a bit outside the field */
 #define TARRAVANE_BAD_RECORD 5    /* trace record malformed, or a kind over 2 */
 #define TARRAVANE_BAD_COUNT 6     /* n is 0 or over 248 */
-#define TARRAVANE_BAD_STATE 7     /* n over 248, a register over its bits, a STATE of 2, a count that its state rules out */
+#define TARRAVANE_BAD_STATE 7     /* n over 248, a register or staged value over its bits, a STATE of 2, a count that its state
+                                     rules out */
 #define TARRAVANE_BAD_LENGTH 8    /* batch length not a multiple of its record's bytes */
 #define TARRAVANE_SHORT_LIST 9    /* output list shorter than the records */
 #define TARRAVANE_NO_RECORD 10    /* an access that no well-formed record holds */
 #define TARRAVANE_SHORT_BUFFER 11 /* buffer shorter than the records to write */
+#define TARRAVANE_DIFFERS 12      /* second write differs from the first; the stage is dropped, local 5 occurs if enabled */
 
 /* ---- Kinds of access ---- */
 
@@ -150,30 +179,37 @@ struct tarravane_batched {
 
 /* ---- Register numbers: local alert j is 0 to 6, alert i is below n, class k is 0 to 3, phase p is 0 to 3 ----
  * Those of tarravane_tick, of records of 70 bytes and of tarravane_record. Records of 24 bytes have document 01's: alert
- * blocks at 64, 128, 192 and 256, classes at 320 + 16k; tarravane_batch_24 carries them over. */
+ * blocks at 64, 128, 192 and 256, classes at 320 + 16k; tarravane_batch_24 carries them over.
+ *
+ * Those marked "twice" are shadowed, and take a value by two equal writes. The first is staged: it answers 0 and acts on
+ * nothing. The second, equal one commits and answers 0. A second one that differs answers -12: the stage is gone, the
+ * register is as it was, nothing is staged, and local alert 5 occurs in that tick if it is enabled. There is one stage for
+ * each register, in every edition; it waits through ticks, other accesses and locking until its register is named again: a
+ * read drops it, so read back after the second write; a write refused with -3 drops it; one refused with -1, -2, -4 or -5
+ * leaves it. A write of the value that the register holds is staged like any other. */
 
 #define TARRAVANE_INTR_STATE 0  /* 4 bits, a 1 clears */
 #define TARRAVANE_INTR_ENABLE 1 /* 4 bits */
 #define TARRAVANE_INTR_TEST 2   /* 4 bits, write only, a 1 sets INTR_STATE */
 
 #define TARRAVANE_LOC_ALERT_REGWEN(j) (16 + (j)) /* 1 bit, a 0 locks */
-#define TARRAVANE_LOC_ALERT_EN(j) (24 + (j))     /* 1 bit */
-#define TARRAVANE_LOC_ALERT_CLASS(j) (32 + (j))  /* 2 bits */
+#define TARRAVANE_LOC_ALERT_EN(j) (24 + (j))     /* 1 bit, twice */
+#define TARRAVANE_LOC_ALERT_CLASS(j) (32 + (j))  /* 2 bits, twice */
 #define TARRAVANE_LOC_ALERT_CAUSE(j) (40 + (j))  /* 1 bit, a 1 clears */
 
 #define TARRAVANE_ALERT_REGWEN(i) (256 + (i)) /* 1 bit, a 0 locks */
-#define TARRAVANE_ALERT_EN(i) (512 + (i))     /* 1 bit */
-#define TARRAVANE_ALERT_CLASS(i) (768 + (i))  /* 2 bits */
+#define TARRAVANE_ALERT_EN(i) (512 + (i))     /* 1 bit, twice */
+#define TARRAVANE_ALERT_CLASS(i) (768 + (i))  /* 2 bits, twice */
 #define TARRAVANE_ALERT_CAUSE(i) (1024 + (i)) /* 1 bit, a 1 clears */
 
 #define TARRAVANE_CLASS_REGWEN(k) (1280 + 16 * (k))             /* 1 bit, a 0 locks */
-#define TARRAVANE_CLASS_CTRL(k) (1281 + 16 * (k))               /* 14 bits: EN, LOCK, four line enables, four maps */
+#define TARRAVANE_CLASS_CTRL(k) (1281 + 16 * (k))               /* 14 bits: EN, LOCK, four line enables, four maps; twice */
 #define TARRAVANE_CLASS_CLR_REGWEN(k) (1282 + 16 * (k))         /* 1 bit, a 0 locks */
 #define TARRAVANE_CLASS_CLR(k) (1283 + 16 * (k))                /* 1 bit, write only */
 #define TARRAVANE_CLASS_ACCUM_CNT(k) (1284 + 16 * (k))          /* 16 bits, read only */
-#define TARRAVANE_CLASS_ACCUM_THRESH(k) (1285 + 16 * (k))       /* 16 bits */
-#define TARRAVANE_CLASS_TIMEOUT_CYC(k) (1286 + 16 * (k))        /* 32 bits */
-#define TARRAVANE_CLASS_PHASE_CYC(k, p) (1287 + 16 * (k) + (p)) /* 32 bits */
+#define TARRAVANE_CLASS_ACCUM_THRESH(k) (1285 + 16 * (k))       /* 16 bits, twice */
+#define TARRAVANE_CLASS_TIMEOUT_CYC(k) (1286 + 16 * (k))        /* 32 bits, twice */
+#define TARRAVANE_CLASS_PHASE_CYC(k, p) (1287 + 16 * (k) + (p)) /* 32 bits, twice */
 #define TARRAVANE_CLASS_ESC_CNT(k) (1291 + 16 * (k))            /* 32 bits, read only */
 #define TARRAVANE_CLASS_STATE(k) (1292 + 16 * (k))              /* 3 bits, read only */
 
@@ -193,7 +229,7 @@ struct tarravane_batched {
 /* ---- The functions ---- */
 
 /* Makes a handler for n alerts, 1 to 248: all REGWEN and CLR_REGWEN at 1, all CTRL at 0x393C, every other register at 0,
- * classes Idle, alerts re-armed, and so the entries at n and above; answers 0.
+ * classes Idle, alerts re-armed, no stage, and so the entries at n and above; answers 0.
  * -6: n is 0 or over 248. It leaves a handler of no alerts, otherwise as new. */
 struct tarravane_made tarravane_new(size_t n);
 
@@ -201,14 +237,15 @@ struct tarravane_made tarravane_new(size_t n);
  * The access: kind TARRAVANE_NONE (register and value are not looked at), TARRAVANE_READ (value is not looked at) or
  * TARRAVANE_WRITE.
  * -7: the state breaks its rule. State unchanged, tick not run, interrupts and lines 0.
- * -5 (kind over 2), -1, -2, -4, -3, in this order: the access does nothing; the tick runs with its samples. */
+ * -5 (kind over 2), -1, -2, -4, -3, -12, in this order: no register is changed by the access; the tick runs with its
+ * samples. -3 and -12 drop the stage of the register that is named, the others touch none. */
 struct tarravane_answered tarravane_tick(struct tarravane_handler h, uint8_t kind, uint16_t register_number,
                                          uint32_t value, struct tarravane_wires wires);
 
 /* Runs a tick for each record of 70 bytes, one after another from the state h, and writes a word for each at its place in
  * out: bits 63 to 60 interrupts (class 0 first), 59 to 56 lines (line 0 first), 55 to 52 the refusal number or 0, then 20
  * zeros and the 32 bits of the value that was read, or 0. Later words stay as they were. Gives the state after the last
- * tick, and 0. A record that gets refusal 1 to 5 still takes its tick, and the batch goes on; its word says so.
+ * tick, and 0. A record that gets refusal 1 to 5 or 12 still takes its tick, and the batch goes on; its word says so.
  * -7: the state breaks its rule. -8: length is not a multiple of 70. -9: words is less than length / 70. In this order;
  * each leaves state and list unchanged.
  * The caller owes: bytes points to length readable bytes, out to words writable words, aligned; they do not overlap;
@@ -261,24 +298,38 @@ TARRAVANE_ASSERT(offsetof(struct tarravane_locals, class_of) == 14);
 TARRAVANE_ASSERT(offsetof(struct tarravane_locals, cause) == 21);
 TARRAVANE_ASSERT(sizeof(struct tarravane_interrupts) == 2);
 TARRAVANE_ASSERT(offsetof(struct tarravane_interrupts, enable) == 1);
-TARRAVANE_ASSERT(sizeof(struct tarravane_handler) == 1208);
+TARRAVANE_ASSERT(sizeof(struct tarravane_class_stages) == 48);
+TARRAVANE_ASSERT(offsetof(struct tarravane_class_stages, lengths) == 0);
+TARRAVANE_ASSERT(offsetof(struct tarravane_class_stages, timeout) == 32);
+TARRAVANE_ASSERT(offsetof(struct tarravane_class_stages, ctrl) == 40);
+TARRAVANE_ASSERT(offsetof(struct tarravane_class_stages, thresh) == 44);
+TARRAVANE_ASSERT(sizeof(struct tarravane_alert_stages) == 496);
+TARRAVANE_ASSERT(offsetof(struct tarravane_alert_stages, class_of) == 248);
+TARRAVANE_ASSERT(sizeof(struct tarravane_local_stages) == 14);
+TARRAVANE_ASSERT(offsetof(struct tarravane_local_stages, class_of) == 7);
+TARRAVANE_ASSERT(sizeof(struct tarravane_stages) == 704);
+TARRAVANE_ASSERT(offsetof(struct tarravane_stages, classes) == 0);
+TARRAVANE_ASSERT(offsetof(struct tarravane_stages, alerts) == 192);
+TARRAVANE_ASSERT(offsetof(struct tarravane_stages, locals) == 688);
+TARRAVANE_ASSERT(sizeof(struct tarravane_handler) == 1912);
 TARRAVANE_ASSERT(offsetof(struct tarravane_handler, n) == 0);
 TARRAVANE_ASSERT(offsetof(struct tarravane_handler, receivers) == 8);
 TARRAVANE_ASSERT(offsetof(struct tarravane_handler, classes) == 40);
 TARRAVANE_ASSERT(offsetof(struct tarravane_handler, alerts) == 184);
 TARRAVANE_ASSERT(offsetof(struct tarravane_handler, locals) == 1176);
 TARRAVANE_ASSERT(offsetof(struct tarravane_handler, interrupts) == 1204);
+TARRAVANE_ASSERT(offsetof(struct tarravane_handler, stages) == 1208);
 TARRAVANE_ASSERT(sizeof(struct tarravane_wires) == 64);
 TARRAVANE_ASSERT(offsetof(struct tarravane_wires, neg) == 32);
 TARRAVANE_ASSERT(sizeof(struct tarravane_output) == 2);
 TARRAVANE_ASSERT(offsetof(struct tarravane_output, lines) == 1);
-TARRAVANE_ASSERT(sizeof(struct tarravane_made) == 1216);
-TARRAVANE_ASSERT(offsetof(struct tarravane_made, answer) == 1208);
-TARRAVANE_ASSERT(sizeof(struct tarravane_answered) == 1224);
-TARRAVANE_ASSERT(offsetof(struct tarravane_answered, answer) == 1208);
-TARRAVANE_ASSERT(offsetof(struct tarravane_answered, output) == 1216);
-TARRAVANE_ASSERT(sizeof(struct tarravane_batched) == 1216);
-TARRAVANE_ASSERT(offsetof(struct tarravane_batched, answer) == 1208);
+TARRAVANE_ASSERT(sizeof(struct tarravane_made) == 1920);
+TARRAVANE_ASSERT(offsetof(struct tarravane_made, answer) == 1912);
+TARRAVANE_ASSERT(sizeof(struct tarravane_answered) == 1928);
+TARRAVANE_ASSERT(offsetof(struct tarravane_answered, answer) == 1912);
+TARRAVANE_ASSERT(offsetof(struct tarravane_answered, output) == 1920);
+TARRAVANE_ASSERT(sizeof(struct tarravane_batched) == 1920);
+TARRAVANE_ASSERT(offsetof(struct tarravane_batched, answer) == 1912);
 
 #ifdef __cplusplus
 }

@@ -32,6 +32,8 @@ static handler told_apart(void) {
     h.interrupts.state = 0x6;
     h.interrupts.enable = 0xD;
     for (unsigned v = 0; v < TARRAVANE_WORDS; v++) h.receivers.armed[v] = UINT64_C(0x0123456789ABCDEF) * (v + 1);
+    /* The largest value staged, which no read shows. */
+    for (int i = 0; i < SHADOWED; i++) set_stage(&h, &all_shadowed()[i], UINT64_C(1) << all_shadowed()[i].bits);
     return h;
 }
 
@@ -70,13 +72,16 @@ static void fields(void) {
     CHECK(read_of(&h, TARRAVANE_INTR_TEST) == -TARRAVANE_WRONG_WAY);
 }
 
+/* How a register is written: once, or where it is shadowed by `configure`. */
+typedef int64_t writing(handler *, int, uint32_t);
+
 /* A write to an alert's register changes its entry, is read there, and changes nothing else. */
-static void entry_of(int number, size_t offset, uint8_t before, uint8_t value, uint8_t after) {
+static void entry_of(writing *by, int number, size_t offset, uint8_t before, uint8_t value, uint8_t after) {
     handler h = new_handler(TARRAVANE_ALERTS);
     uint8_t *entry = (uint8_t *)&h.alerts + offset;
     *entry = before;
     handler wanted = h;
-    CHECK(write_of(&h, number, value) == 0);
+    CHECK(by(&h, number, value) == 0);
     ((uint8_t *)&wanted.alerts)[offset] = after;
     CHECK(same(&h, &wanted));
     CHECK(read_of(&h, number) == after);
@@ -85,10 +90,10 @@ static void entry_of(int number, size_t offset, uint8_t before, uint8_t value, u
 static void entries(void) {
     for (size_t i = 0; i < TARRAVANE_ALERTS; i++) {
         int at = (int)i;
-        entry_of(TARRAVANE_ALERT_REGWEN(at), offsetof(struct tarravane_alerts, regwen) + i, 1, 0, 0);
-        entry_of(TARRAVANE_ALERT_EN(at), offsetof(struct tarravane_alerts, en) + i, 0, 1, 1);
-        entry_of(TARRAVANE_ALERT_CLASS(at), offsetof(struct tarravane_alerts, class_of) + i, 0, 3, 3);
-        entry_of(TARRAVANE_ALERT_CAUSE(at), offsetof(struct tarravane_alerts, cause) + i, 1, 1, 0);
+        entry_of(write_of, TARRAVANE_ALERT_REGWEN(at), offsetof(struct tarravane_alerts, regwen) + i, 1, 0, 0);
+        entry_of(configure, TARRAVANE_ALERT_EN(at), offsetof(struct tarravane_alerts, en) + i, 0, 1, 1);
+        entry_of(configure, TARRAVANE_ALERT_CLASS(at), offsetof(struct tarravane_alerts, class_of) + i, 0, 3, 3);
+        entry_of(write_of, TARRAVANE_ALERT_CAUSE(at), offsetof(struct tarravane_alerts, cause) + i, 1, 1, 0);
     }
 }
 
@@ -123,6 +128,7 @@ static void making(void) {
         for (size_t i = 0; i < TARRAVANE_ALERTS; i++)
             CHECK(h.alerts.regwen[i] == 1 && h.alerts.en[i] + h.alerts.class_of[i] + h.alerts.cause[i] == 0);
         for (int v = 0; v < TARRAVANE_WORDS; v++) CHECK(h.receivers.armed[v] == UINT64_MAX);
+        for (int i = 0; i < SHADOWED; i++) CHECK(stage_of(&h, &all_shadowed()[i]) == 0);
     }
     handler none = new_handler(1);
     none.n = 0;
@@ -136,16 +142,16 @@ static void making(void) {
 static void answers(void) {
     static const int none[] = {3, 255, 257, 504, 1025, 1279, 1293, 1344, 2047, 2048, 65535};
     handler h = new_handler(1);
-    CHECK(write_of(&h, TARRAVANE_CLASS_TIMEOUT_CYC(3), UINT32_MAX) == 0);
+    CHECK(configure(&h, TARRAVANE_CLASS_TIMEOUT_CYC(3), UINT32_MAX) == 0);
     CHECK(read_of(&h, TARRAVANE_CLASS_TIMEOUT_CYC(3)) == INT64_C(4294967295));
-    CHECK(write_of(&h, TARRAVANE_CLASS_ACCUM_THRESH(0), 65535) == 0);
+    CHECK(configure(&h, TARRAVANE_CLASS_ACCUM_THRESH(0), 65535) == 0);
     CHECK(write_of(&h, TARRAVANE_CLASS_ACCUM_THRESH(0), 65536) == -TARRAVANE_TOO_WIDE);
     CHECK(read_of(&h, TARRAVANE_CLASS_ACCUM_THRESH(0)) == 65535);
     CHECK(write_of(&h, TARRAVANE_CLASS_REGWEN(0), 0) == 0);
     CHECK(write_of(&h, TARRAVANE_CLASS_CTRL(0), 1) == -TARRAVANE_LOCKED);
     CHECK(write_of(&h, TARRAVANE_CLASS_ACCUM_CNT(0), 0) == -TARRAVANE_WRONG_WAY);
     for (size_t i = 0; i < sizeof none / sizeof *none; i++) CHECK(write_of(&h, none[i], 0) == -TARRAVANE_NO_REGISTER);
-    CHECK(write_of(&h, TARRAVANE_ALERT_EN(0), 1) == 0);
+    CHECK(configure(&h, TARRAVANE_ALERT_EN(0), 1) == 0);
     for (unsigned kind = 3; kind < 256; kind++) {
         struct tarravane_answered t = tarravane_tick(h, (uint8_t)kind, TARRAVANE_CLASS_CTRL(1), 1, wires_of(UINT64_MAX, 0));
         CHECK(t.answer == -TARRAVANE_BAD_RECORD);

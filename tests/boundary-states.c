@@ -79,6 +79,22 @@ static void damage_class(handler *h, struct tarravane_class *c) {
     damage_place(h, c);
 }
 
+/* A staged value over its field is refused; the largest that fits is not. */
+static void damage_stage(handler *h, const struct shadowed *s) {
+    uint64_t most = UINT64_C(1) << s->bits;
+    for (uint64_t over = 1; over != 0 && over < UINT64_C(1) << (8 * s->bytes - 1); over <<= 1) {
+        set_stage(h, s, most + over);
+        refused(h);
+    }
+    set_stage(h, s, UINT64_MAX);
+    refused(h);
+    set_stage(h, s, most);
+    accepted(h);
+    set_stage(h, s, 1);
+    accepted(h);
+    set_stage(h, s, 0);
+}
+
 static void damages(void) {
     static const size_t over[] = {249, 250, 256, (size_t)1 << 32, (size_t)1 << 63, SIZE_MAX};
     handler h = new_handler(TARRAVANE_ALERTS);
@@ -88,6 +104,7 @@ static void damages(void) {
     struct tarravane_locals *l = &h.locals;
     damage_columns(&h, l->regwen, l->en, l->class_of, l->cause, TARRAVANE_LOCALS);
     for (int k = 0; k < TARRAVANE_CLASSES; k++) damage_class(&h, &h.classes[k]);
+    for (int i = 0; i < SHADOWED; i++) damage_stage(&h, &all_shadowed()[i]);
     narrow(&h, &h.interrupts.state, 4);
     narrow(&h, &h.interrupts.enable, 4);
     for (size_t i = 0; i < sizeof over / sizeof *over; i++) {
@@ -101,8 +118,10 @@ static void damages(void) {
 /* Entries and places at N and above are no registers and no wires: not judged, not changed. */
 static void entries_above(size_t n) {
     handler h = new_handler(n);
-    for (size_t i = n; i < TARRAVANE_ALERTS; i++)
+    for (size_t i = n; i < TARRAVANE_ALERTS; i++) {
         h.alerts.regwen[i] = h.alerts.en[i] = h.alerts.class_of[i] = h.alerts.cause[i] = 0xA5;
+        h.stages.alerts.en[i] = h.stages.alerts.class_of[i] = 0xA5;
+    }
     handler wanted = h;
     for (size_t i = 0; i < n; i++) wanted.receivers.armed[i / 64] &= ~(UINT64_C(1) << (63 - i % 64));
     struct tarravane_answered t =
@@ -119,6 +138,10 @@ static void patterns(void) {
         if (byte == 0) accepted(&h);
         else refused(&h);
         h.n = TARRAVANE_ALERTS;
+        if (byte == 0) accepted(&h);
+        else refused(&h);
+        /* Bytes of 1 are in every field but the wide ones of the stages. */
+        memset(&h.stages, 0, sizeof h.stages);
         if (byte <= 1) accepted(&h);
         else refused(&h);
     }

@@ -1,6 +1,6 @@
-/* The boundary from C's side: every field crosses to its register and back, a damaged field gets refusal 7, a batch and the
- * writer stay in their buffers, example traces give the same words by batch, by single ticks and by the replay program, and
- * the writer gives their bytes again.
+/* The boundary from C's side: every field crosses to its register and back, a damaged field gets refusal 7, shadowed registers
+ * take two equal writes, a batch and the writer stay in their buffers, example traces give the same words by batch, by single
+ * ticks and by the replay program, and the writer gives their bytes again.
  * usage: boundary [TRACE WORDS]...   WORDS: what the replay program printed of TRACE, or - for none */
 #include "boundary.h"
 
@@ -45,12 +45,18 @@ static bool same_class(const struct tarravane_class *a, const struct tarravane_c
            a->clrwen == b->clrwen && a->state == b->state;
 }
 
+static bool same_stages(const struct tarravane_stages *a, const struct tarravane_stages *b) {
+    return memcmp(a->classes, b->classes, sizeof a->classes) == 0 && memcmp(&a->alerts, &b->alerts, sizeof a->alerts) == 0 &&
+           memcmp(&a->locals, &b->locals, sizeof a->locals) == 0;
+}
+
 bool same(const handler *a, const handler *b) {
     for (int k = 0; k < TARRAVANE_CLASSES; k++)
         if (!same_class(&a->classes[k], &b->classes[k])) return false;
     return a->n == b->n && memcmp(&a->receivers, &b->receivers, sizeof a->receivers) == 0 &&
            memcmp(&a->alerts, &b->alerts, sizeof a->alerts) == 0 && memcmp(&a->locals, &b->locals, sizeof a->locals) == 0 &&
-           a->interrupts.state == b->interrupts.state && a->interrupts.enable == b->interrupts.enable;
+           a->interrupts.state == b->interrupts.state && a->interrupts.enable == b->interrupts.enable &&
+           same_stages(&a->stages, &b->stages);
 }
 
 handler new_handler(size_t n) {
@@ -71,9 +77,15 @@ int64_t write_of(handler *h, int number, uint32_t value) {
     return t.answer;
 }
 
+int64_t configure(handler *h, int number, uint32_t value) {
+    CHECK(write_of(h, number, value) == 0);
+    return write_of(h, number, value);
+}
+
 int main(int argc, char **argv) {
     test_accesses();
     test_states();
+    test_stages();
     test_writer();
     for (int i = 1; i + 1 < argc; i += 2) test_trace(argv[i], argv[i + 1]);
     printf("boundary: %lu checks from C hold\n", checks);

@@ -37,6 +37,26 @@ handler new_handler(size_t n);
 int64_t read_of(const handler *h, int number);
 int64_t write_of(handler *h, int number, uint32_t value);
 
+/* The two equal writes that a shadowed register takes; answers what the second does. */
+int64_t configure(handler *h, int number, uint32_t value);
+
+/* ---- Stages ---- */
+
+/* A shadowed register: its number, that of the REGWEN that guards it, its bits, and the place of its stage in a state. */
+struct shadowed {
+    int number, guard, bits;
+    size_t offset, bytes;
+};
+
+#define SHADOWED (2 * (TARRAVANE_ALERTS + TARRAVANE_LOCALS) + TARRAVANE_CLASSES * (3 + TARRAVANE_PHASES))
+
+/* All of them. */
+const struct shadowed *all_shadowed(void);
+
+/* The code of its stage: 0 for none, else the value plus 1. */
+uint64_t stage_of(const handler *h, const struct shadowed *s);
+void set_stage(handler *h, const struct shadowed *s, uint64_t code);
+
 /* ---- Records ---- */
 
 /* The word of a tick says what the tick gave. */
@@ -57,6 +77,7 @@ int64_t written(const struct access *a, uint8_t record[TARRAVANE_RECORD_70]);
 
 void test_accesses(void);
 void test_states(void);
+void test_stages(void);
 void test_writer(void);
 void test_trace(const char *trace, const char *printed);
 

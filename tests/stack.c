@@ -25,7 +25,7 @@ static uint64_t positive[RECORDS * TARRAVANE_WORDS], negative[RECORDS * TARRAVAN
 static struct tarravane_wires wires;
 static size_t entries;
 
-/* A call takes its argument of 1208 bytes and its result from the caller's frame: both are counted. */
+/* A call takes its argument of 1912 bytes and its result from the caller's frame: both are counted. */
 #define NOTE_FRAME() frame = __builtin_frame_address(0)
 
 static void call_new(void)
@@ -89,14 +89,27 @@ static uint64_t next_random(void)
     return seed;
 }
 
-/* Accesses of every kind to every register, and wires that move. */
+/* A value that fits few bits half of the time, so that registers of one bit take it. */
+static uint32_t draw_value(void)
+{
+    uint64_t bits = next_random();
+    return (uint32_t)(bits % 2 == 0 ? bits >> 62 : bits >> (next_random() % 64));
+}
+
+/* Accesses of every kind to every register, a quarter of them to the register before, so that stages commit and differ; and
+ * wires that move. */
 static void draw_input(void)
 {
     entries = next_random() % (RECORDS + 1);
     for (size_t i = 0; i < RECORDS; i++) {
         kinds[i] = (uint8_t)(next_random() % 3);
         registers[i] = kinds[i] == TARRAVANE_NONE ? 0 : (uint16_t)(next_random() % 1536);
-        values[i] = kinds[i] == TARRAVANE_WRITE ? (uint32_t)(next_random() >> (next_random() % 64)) : 0;
+        values[i] = kinds[i] == TARRAVANE_WRITE ? draw_value() : 0;
+        if (i > 0 && kinds[i - 1] == TARRAVANE_WRITE && next_random() % 4 == 0) {
+            kinds[i] = TARRAVANE_WRITE;
+            registers[i] = registers[i - 1];
+            values[i] = values[i - 1] ^ (uint32_t)(next_random() % 2);
+        }
     }
     for (size_t i = 0; i < RECORDS * TARRAVANE_WORDS; i++) {
         positive[i] = next_random();
@@ -106,11 +119,15 @@ static void draw_input(void)
     memcpy(wires.neg, negative, sizeof wires.neg);
 }
 
-/* A state of up to so many alerts; in the first round one of zeros, as making one binds memcpy. */
+/* A state of up to so many alerts, in every second round with the access made before, so that a write finds its stage; in the
+ * first round one of zeros, as making one binds memcpy. */
 static void draw_state(int round, size_t alerts)
 {
-    if (round > 0)
-        state = tarravane_new(1 + next_random() % alerts).handler;
+    if (round == 0)
+        return;
+    state = tarravane_new(1 + next_random() % alerts).handler;
+    if (round % 2 == 1)
+        state = tarravane_tick(state, kinds[0], registers[0], values[0] ^ (uint32_t)(next_random() % 2), wires).handler;
 }
 
 /* Records of 24 bytes of the accesses, with document 01's numbers; those of 70 the library writes. */

@@ -18,12 +18,14 @@ impl Handler {
         }
     }
 
-    /// Reads a register; refusals in the order 1, 2.
-    fn read(&self, number: u16) -> Result<u32, Refusal> {
+    /// Reads a register; refusals in the order 1, 2. A stage acts on nothing,
+    /// so the value is the one held, and reading it drops the stage.
+    fn read(&mut self, number: u16) -> Result<u32, Refusal> {
         let register = Register::decode(number, self.n).ok_or(Refusal::NoRegister)?;
         if !register.readable() {
             return Err(Refusal::Direction);
         }
+        self.stages.drop_stage(register);
         Ok(match register {
             Register::IntrState => u32::from(self.intr_state),
             Register::IntrEnable => u32::from(self.intr_enable),
@@ -34,7 +36,7 @@ impl Handler {
         })
     }
 
-    /// Writes a register; refusals in the order 1, 2, 4, 3.
+    /// Writes a register; refusals in the order 1, 2, 4, 3, 12.
     fn write(&mut self, number: u16, value: u32) -> Result<Option<usize>, Refusal> {
         let register = Register::decode(number, self.n).ok_or(Refusal::NoRegister)?;
         if !register.writable() {
@@ -44,12 +46,37 @@ impl Handler {
             return Err(Refusal::OutsideField);
         }
         if self.locked(register, value) {
+            // What was staged before the lock came can never be committed.
+            self.stages.drop_stage(register);
             return Err(Refusal::Locked);
+        }
+        if register.shadowed() && !self.second(register, value)? {
+            return Ok(None);
         }
         self.store(register, value);
         match register {
             Register::Class(ClassField::Clr, k) if value == 1 => Ok(Some(k)),
             _ => Ok(None),
+        }
+    }
+
+    /// Whether a write to a shadowed register is the second of two equal ones,
+    /// which ends its stage; a first one is staged. A differing second one is
+    /// refused: it drops the stage and is not staged itself.
+    fn second(&mut self, register: Register, value: u32) -> Result<bool, Refusal> {
+        match self.stages.staged(register) {
+            None => {
+                self.stages.stage(register, value);
+                Ok(false)
+            }
+            Some(staged) => {
+                self.stages.drop_stage(register);
+                if staged == value {
+                    Ok(true)
+                } else {
+                    Err(Refusal::StageDiffers)
+                }
+            }
         }
     }
 
@@ -63,7 +90,8 @@ impl Handler {
         }
     }
 
-    /// Takes in a value that was checked to be accepted.
+    /// Takes in a value that was checked to be accepted and, where shadowed,
+    /// written twice.
     fn store(&mut self, register: Register, value: u32) {
         match register {
             Register::IntrState => self.intr_state &= !(value as u8),

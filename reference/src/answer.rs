@@ -27,6 +27,8 @@ pub enum Refusal {
     Unrecordable = 10,
     /// The buffer is shorter than the records to write.
     ShortBuffer = 11,
+    /// The written value differs from the one that the register's stage holds.
+    StageDiffers = 12,
 }
 
 impl Refusal {

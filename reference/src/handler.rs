@@ -2,6 +2,7 @@
 
 use crate::answer::Refusal;
 use crate::class::Class;
+use crate::stages::Stages;
 use crate::wires::{wire, Wires};
 
 /// The largest number of alerts.
@@ -10,8 +11,10 @@ pub const MAX_ALERTS: usize = 248;
 pub const LOCALS: usize = 7;
 /// The number of classes.
 pub const CLASSES: usize = 4;
-/// The local alert that reports equal wires; the only one in the base.
+/// The local alert that reports equal wires.
 pub const ALERT_INTEGRITY: usize = 2;
+/// The local alert that reports two writes that differ; no other one occurs.
+pub const SHADOW_UPDATE: usize = 5;
 
 /// One register access, as a trace record or a caller gives it.
 #[derive(Clone, Copy, Debug, PartialEq, Eq)]
@@ -98,6 +101,8 @@ pub struct Handler {
     pub armed: [bool; MAX_ALERTS],
     /// The four classes.
     pub classes: [Class; CLASSES],
+    /// The values that wait for a second write.
+    pub stages: Stages,
 }
 
 impl Handler {
@@ -113,6 +118,7 @@ impl Handler {
             alerts: [Source::new(); MAX_ALERTS],
             armed: [true; MAX_ALERTS],
             classes: [Class::new(); CLASSES],
+            stages: Stages::new(),
         };
         let answer = if accepted {
             0
@@ -144,7 +150,7 @@ impl Handler {
                 return false;
             }
         }
-        true
+        self.stages.valid(self.n as usize)
     }
 
     /// Runs one tick with the positive wires `pos` and the negative `neg`. A
@@ -163,7 +169,10 @@ impl Handler {
     /// Runs one tick on a state known to be valid.
     pub(crate) fn run(&mut self, access: Access, pos: &Wires, neg: &Wires) -> Ticked {
         let (answer, cleared) = self.access(access);
-        let assigned = self.sample(pos, neg);
+        let mut assigned = self.sample(pos, neg);
+        if answer == Refusal::StageDiffers.answer() {
+            self.occur(SHADOW_UPDATE, &mut assigned);
+        }
         for (k, class) in self.classes.iter_mut().enumerate() {
             let bit = 1u8 << k;
             let clear = cleared == Some(k);
@@ -204,12 +213,20 @@ impl Handler {
                 }
             }
         }
-        let local = &mut self.locals[ALERT_INTEGRITY];
-        if equal && local.en == 1 {
+        if equal {
+            self.occur(ALERT_INTEGRITY, &mut assigned);
+        }
+        assigned
+    }
+
+    /// Local alert j has a reason to occur. It does if its EN is 1 after step 1;
+    /// it then sets its cause and counts for the class assigned to it.
+    fn occur(&mut self, j: usize, assigned: &mut [bool; CLASSES]) {
+        let local = &mut self.locals[j];
+        if local.en == 1 {
             local.cause = 1;
             assigned[usize::from(local.class)] = true;
         }
-        assigned
     }
 
     /// A line is on if any class drives it.

@@ -95,6 +95,23 @@ impl Register {
         )
     }
 
+    /// Whether the register takes a value by two equal writes.
+    pub fn shadowed(self) -> bool {
+        match self {
+            Register::IntrState | Register::IntrEnable | Register::IntrTest => false,
+            Register::Local(field, _) | Register::Alert(field, _) => {
+                matches!(field, SourceField::En | SourceField::Class)
+            }
+            Register::Class(field, _) => matches!(
+                field,
+                ClassField::Ctrl
+                    | ClassField::AccumThresh
+                    | ClassField::TimeoutCyc
+                    | ClassField::PhaseCyc(_)
+            ),
+        }
+    }
+
     /// The largest value that the register's bits can hold.
     pub fn mask(self) -> u32 {
         match self {

@@ -30,8 +30,15 @@ fn p1_ctrl_at_reset() {
 fn p2_threshold_field() {
     for edition in EDITIONS {
         let mut b = Bench::new(edition, 1);
+        // The first write is staged, the second commits.
         assert_eq!(b.write(325, 65535), 0);
+        assert_eq!(b.h.classes[0].accum_thresh, 0);
+        assert_eq!(b.write(325, 65535), 0);
+        assert_eq!(b.h.classes[0].accum_thresh, 65535);
+        // One more than the field holds changes neither register nor stage.
+        let before = b.h.clone();
         assert_eq!(b.write(325, 65536), -4);
+        assert_eq!(b.h, before);
         assert_eq!(b.read(325), 65535);
     }
 }
@@ -53,7 +60,7 @@ fn p3_p4_class_regwen() {
 fn p5_third_event_exceeds_threshold_two() {
     for edition in EDITIONS {
         let mut b = Bench::ready(edition, 1, 0x393D);
-        assert_eq!(b.write(325, 2), 0);
+        b.configure(325, 2);
         for count in 1..=2 {
             assert_eq!(b.event().lines, 0);
             assert_eq!(b.stands(), (IDLE, 0));
@@ -70,7 +77,7 @@ fn p5_third_event_exceeds_threshold_two() {
 fn p6_full_accumulator() {
     for edition in EDITIONS {
         let mut b = Bench::ready(edition, 1, 0x393D);
-        assert_eq!(b.write(325, 65535), 0);
+        b.configure(325, 65535);
         b.h.classes[0].accum_cnt = 65535;
         b.event();
         assert_eq!(b.h.classes[0].state, PHASE0);
@@ -83,7 +90,7 @@ fn p7_phase_starts() {
     for edition in EDITIONS {
         let mut b = Bench::ready(edition, 1, 0x393D);
         for (p, length) in [0, 10, 10, 5].into_iter().enumerate() {
-            assert_eq!(b.write(327 + p as u16, length), 0);
+            b.configure(327 + p as u16, length);
         }
         for now in 100..140u32 {
             let ticked = if now == 100 { b.event() } else { b.idle() };
@@ -119,15 +126,15 @@ fn p7_longest_last_phase() {
 fn p8_timeout_one_and_zero() {
     for edition in EDITIONS {
         let mut b = Bench::ready(edition, 1, 0x393D);
-        assert_eq!(b.write(325, 9), 0);
-        assert_eq!(b.write(326, 1), 0);
+        b.configure(325, 9);
+        b.configure(326, 1);
         b.event();
         assert_eq!(b.stands(), (TIMEOUT, 1));
         assert_eq!(b.idle().lines, 1);
         assert_eq!(b.stands(), (PHASE0, 1));
 
         let mut b = Bench::ready(edition, 1, 0x393D);
-        assert_eq!(b.write(325, 9), 0);
+        b.configure(325, 9);
         b.event();
         for _ in 0..5 {
             b.idle();
@@ -165,7 +172,7 @@ fn p11_equal_wires() {
     for edition in EDITIONS {
         let mut b = Bench::new(edition, 1);
         for (register, value) in [(128, 1), (26, 1), (34, 1), (337, 0x393D)] {
-            assert_eq!(b.write(register, value), 0);
+            b.configure(register, value);
         }
         b.tick(Access::None, ([u64::MAX; 4], [u64::MAX; 4]));
         assert_eq!(b.read(42), 1);
@@ -235,7 +242,7 @@ fn zero_phases_take_a_tick_each() {
 fn threshold_is_compared_before_counting() {
     for edition in EDITIONS {
         let mut b = Bench::ready(edition, 1, 0x393D);
-        assert_eq!(b.write(325, 1), 0);
+        b.configure(325, 1);
         b.event();
         assert_eq!((b.stands(), b.h.classes[0].accum_cnt), ((IDLE, 0), 1));
         b.idle();
@@ -273,12 +280,14 @@ fn samples_count_when_the_access_is_refused() {
         (write(321, 0), -3),
         (write(1, 16), -4),
         (Access::Malformed, -5),
+        (write(341, 6), -12),
     ];
     for edition in EDITIONS {
         for (access, answer) in refused {
             let mut b = Bench::ready(edition, 1, 0x393D);
             assert_eq!(b.write(320, 0), 0);
             assert_eq!(b.write(1, 1), 0);
+            assert_eq!(b.write(341, 7), 0);
             let expected = Ticked {
                 answer,
                 interrupts: 1,

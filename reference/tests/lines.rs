@@ -2,7 +2,7 @@
 
 mod common;
 
-use common::{event, idle, raised, read, ready, tick, write, Sample, ALERT0, REST};
+use common::{configure, event, idle, raised, read, ready, tick, write, Sample, ALERT0, REST};
 use reference::class::{IDLE, PHASE0, TERMINAL, TIMEOUT};
 use reference::{Access, Handler};
 
@@ -16,7 +16,12 @@ fn stands(h: &Handler) -> (u8, u32) {
     (h.classes[0].state, h.classes[0].esc_cnt)
 }
 
-/// A tick that writes class 0's CTRL and has these wires.
+/// A tick with the first write of a value to class 0's CTRL, which does nothing.
+fn stage_ctrl(h: &mut Handler, value: u32) {
+    assert_eq!(write(h, 1281, value), 0);
+}
+
+/// A tick with the second write of the staged CTRL and these wires.
 fn set_ctrl(h: &mut Handler, value: u32, wires: Sample) -> u8 {
     let access = Access::Write {
         register: 1281,
@@ -24,6 +29,7 @@ fn set_ctrl(h: &mut Handler, value: u32, wires: Sample) -> u8 {
     };
     let ticked = tick(h, access, wires);
     assert_eq!(ticked.answer, 0);
+    assert_eq!(u32::from(h.classes[0].ctrl), value);
     ticked.lines
 }
 
@@ -51,7 +57,7 @@ fn no_lines_no_event() {
 #[test]
 fn no_lines_no_event_of_equal_wires() {
     let mut h = ready(1, NO_LINES);
-    assert_eq!(write(&mut h, 26, 1), 0);
+    configure(&mut h, 26, 1);
     tick(&mut h, Access::None, ([0; 4], [0; 4]));
     assert_eq!(h.locals[2].cause, 1);
     assert_eq!((h.intr_state, h.classes[0].accum_cnt), (0, 0));
@@ -69,11 +75,13 @@ fn line_enables_without_en_are_not_enough() {
 #[test]
 fn the_enables_after_the_access_count() {
     let mut h = ready(1, NO_LINES);
+    stage_ctrl(&mut h, NO_LINES | 4);
     assert_eq!(set_ctrl(&mut h, NO_LINES | 4, ALERT0), 1);
     assert_eq!((h.intr_state, h.classes[0].accum_cnt), (1, 1));
     assert_eq!(stands(&h), (PHASE0, 1));
 
     let mut h = ready(1, ALL_LINES);
+    stage_ctrl(&mut h, NO_LINES);
     assert_eq!(set_ctrl(&mut h, NO_LINES, ALERT0), 0);
     assert_eq!((h.intr_state, h.classes[0].accum_cnt), (0, 0));
     assert_eq!(stands(&h), (IDLE, 0));
@@ -82,13 +90,13 @@ fn the_enables_after_the_access_count() {
 #[test]
 fn no_lines_not_due() {
     let mut h = ready(1, NO_LINES);
-    assert_eq!(write(&mut h, 1286, 5), 0);
+    configure(&mut h, 1286, 5);
     // The bit that software sets is set, but it starts no timeout.
     assert_eq!(write(&mut h, 2, 1), 0);
     assert_eq!((h.intr_state, stands(&h)), (1, (IDLE, 0)));
-    idle(&mut h);
+    // It is due as soon as a line is enabled, and a stage enables none.
+    stage_ctrl(&mut h, NO_LINES | 0x20);
     assert_eq!(stands(&h), (IDLE, 0));
-    // It is due as soon as a line is enabled.
     set_ctrl(&mut h, NO_LINES | 0x20, REST);
     assert_eq!(stands(&h), (TIMEOUT, 1));
 }
@@ -99,6 +107,7 @@ fn a_timeout_without_lines_falls_back() {
     for count in [1, 2, 5, u32::MAX] {
         for wires in [REST, ALERT0] {
             let mut h = ready(1, ALL_LINES);
+            stage_ctrl(&mut h, NO_LINES);
             h.classes[0].timeout_cyc = 5;
             h.classes[0].state = TIMEOUT;
             h.classes[0].esc_cnt = count;
@@ -115,6 +124,7 @@ fn a_timeout_without_lines_falls_back() {
 fn a_running_phase_goes_on_without_lines() {
     let mut h = ready(1, ALL_LINES);
     h.classes[0].phase_cyc = [3; 4];
+    stage_ctrl(&mut h, NO_LINES);
     event(&mut h);
     assert_eq!(set_ctrl(&mut h, NO_LINES, REST), 0);
     for p in 0..4 {
@@ -142,9 +152,11 @@ fn a_phase_drives_again_when_its_lines_come_back() {
     let mut h = ready(1, ALL_LINES);
     h.classes[0].phase_cyc = [9; 4];
     assert_eq!(event(&mut h).lines, 1);
+    stage_ctrl(&mut h, NO_LINES);
     assert_eq!(set_ctrl(&mut h, NO_LINES, REST), 0);
+    stage_ctrl(&mut h, ALL_LINES);
     assert_eq!(set_ctrl(&mut h, ALL_LINES, REST), 1);
-    assert_eq!(stands(&h), (PHASE0, 3));
+    assert_eq!(stands(&h), (PHASE0, 5));
 }
 
 #[test]
@@ -161,7 +173,7 @@ fn each_line_enable_alone_is_enough() {
         assert_eq!(stands(&h), (PHASE0, 1));
 
         let mut h = ready(1, NO_LINES | (4 << e));
-        assert_eq!(write(&mut h, 1286, 1), 0);
+        configure(&mut h, 1286, 1);
         assert_eq!(write(&mut h, 2, 1), 0);
         assert_eq!(stands(&h), (TIMEOUT, 1), "line {e}");
         idle(&mut h);
@@ -182,6 +194,7 @@ fn lock_is_not_touched() {
         event(&mut h);
         assert_eq!((stands(&h), h.classes[0].clr_regwen), ((PHASE0, 1), 0));
         // Switching the lines off afterwards opens nothing.
+        stage_ctrl(&mut h, NO_LINES | 2);
         set_ctrl(&mut h, NO_LINES | 2, REST);
         assert_eq!(write(&mut h, 1283, 1), -3);
         assert_eq!(h.classes[0].clr_regwen, 0);
@@ -191,8 +204,8 @@ fn lock_is_not_touched() {
 #[test]
 fn the_other_classes_do_not_mind() {
     let mut h = ready(2, NO_LINES);
-    assert_eq!(write(&mut h, 769, 2), 0);
-    assert_eq!(write(&mut h, 1313, ALL_LINES), 0);
+    configure(&mut h, 769, 2);
+    configure(&mut h, 1313, ALL_LINES);
     let ticked = tick(&mut h, Access::None, raised(&[0, 1]));
     assert_eq!((ticked.lines, h.intr_state), (1, 4));
     assert_eq!(stands(&h), (IDLE, 0));

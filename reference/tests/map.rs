@@ -4,7 +4,7 @@
 mod common;
 
 use common::records::{record, renumbered, unpack};
-use common::{new, raised, read, ready, tick, write, COUNTS, REST};
+use common::{configure, new, raised, read, ready, tick, write, COUNTS, REST};
 use reference::handler::MAX_ALERTS;
 use reference::{batch, carried, Access, Edition, Handler};
 
@@ -78,7 +78,7 @@ fn both_ends_of_every_alert_block() {
             // REGWEN starts at 1, the others at 0; a cause takes no 1.
             let value = [0, 1, 3, 1][block];
             for i in [0, last] {
-                assert_eq!(write(&mut h, start + i, value), 0);
+                configure(&mut h, start + i, value);
                 let alert = h.alerts[usize::from(i)];
                 let stored = [alert.regwen, alert.en, alert.class, alert.cause];
                 let mut expected = [1, 0, 0, 0];
@@ -105,8 +105,8 @@ fn both_ends_of_the_classes() {
         assert_eq!(write(&mut h, number, 0), -1);
     }
     for k in 0..4u16 {
-        assert_eq!(write(&mut h, 1280 + 16 * k + 1, 0x2000 + u32::from(k)), 0);
-        assert_eq!(write(&mut h, 1280 + 16 * k + 10, 77 + u32::from(k)), 0);
+        configure(&mut h, 1280 + 16 * k + 1, 0x2000 + u32::from(k));
+        configure(&mut h, 1280 + 16 * k + 10, 77 + u32::from(k));
         assert_eq!(write(&mut h, 1280 + 16 * k, 0), 0);
         assert_eq!(read(&mut h, 1280 + 16 * k + 12), 0);
     }
@@ -201,9 +201,12 @@ fn a_carried_write_reaches_its_register() {
                 register: number,
                 value,
             };
-            let answer = through_record(&mut old, Edition::First, access);
-            assert_eq!(answer, write(&mut new, today, value), "{number}, {value}");
-            assert_eq!(old, new, "{number}, {value}");
+            // The first may be staged only.
+            for _ in 0..2 {
+                let answer = through_record(&mut old, Edition::First, access);
+                assert_eq!(answer, write(&mut new, today, value), "{number}, {value}");
+                assert_eq!(old, new, "{number}, {value}");
+            }
         }
     }
 }
@@ -221,6 +224,7 @@ fn a_new_handler_has_248_entries_at_reset() {
             let stored = [alert.regwen, alert.en, alert.class, alert.cause];
             assert_eq!(stored, [1, 0, 0, 0]);
             assert!(h.armed[i]);
+            assert_eq!((h.stages.alerts.en[i], h.stages.alerts.class[i]), (0, 0));
         }
     }
 }

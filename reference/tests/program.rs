@@ -104,12 +104,12 @@ fn the_last_of_248_alerts() {
     let second = |access, sample| record(Edition::Second, access, sample);
     for n in [65, 127, 128, 191, 192, 247, 248] {
         let last = u16::from(n) - 1;
-        let enable = |register, value| Access::Write { register, value };
         let mut input = opening(Edition::Second, n);
-        input.extend(second(enable(512 + last, 1), REST));
-        input.extend(second(enable(768 + last, 3), REST));
-        input.extend(second(enable(1329, 0x393D), REST));
-        input.extend(second(enable(1, 8), REST));
+        let settings = [(512 + last, 1), (768 + last, 3), (1329, 0x393D), (1, 8)];
+        for (register, value) in settings {
+            let write = second(Access::Write { register, value }, REST);
+            input.extend(write.repeat(2));
+        }
         let event = with(REST, usize::from(last), (1, 0));
         input.extend(second(
             Access::Read {
@@ -129,7 +129,7 @@ fn the_last_of_248_alerts() {
             },
             REST,
         ));
-        let expected = "0000000000000000\n".repeat(4)
+        let expected = "0000000000000000\n".repeat(8)
             + "1800000000000000\n1400000000000001\n1210000000000000\n";
         assert_eq!(replay(&input), expected, "N {n}");
     }

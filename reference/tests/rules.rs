@@ -3,7 +3,9 @@
 
 mod common;
 
-use common::{event, idle, new, raised, read, ready, tick, with, write, ALERT0, COUNTS, REST};
+use common::{
+    configure, event, idle, new, raised, read, ready, tick, with, write, ALERT0, COUNTS, REST,
+};
 use reference::class::{IDLE, PHASE0, TERMINAL, TIMEOUT};
 use reference::handler::MAX_ALERTS;
 use reference::trace::word;
@@ -13,7 +15,7 @@ use reference::{batch, Access, Edition, Handler, Source, Ticked};
 
 #[test]
 fn largest_values_and_one_bit_more() {
-    // Number, largest value, what a read gives after writing it.
+    // Number, largest value, what a read gives after writing it twice.
     let rows: [(u16, u32, i64); 14] = [
         (0, 15, 0),
         (1, 15, 15),
@@ -35,12 +37,12 @@ fn largest_values_and_one_bit_more() {
         assert_eq!(write(&mut h, number, largest + 1), -4, "{number}");
         assert_eq!(h, new(1));
         assert_eq!(write(&mut h, number, u32::MAX), -4, "{number}");
-        assert_eq!(write(&mut h, number, largest), 0, "{number}");
+        configure(&mut h, number, largest);
         assert_eq!(read(&mut h, number), after, "{number}");
     }
     for number in 1286..=1290 {
         let mut h = new(1);
-        assert_eq!(write(&mut h, number, u32::MAX), 0);
+        configure(&mut h, number, u32::MAX);
         assert_eq!(read(&mut h, number), 4_294_967_295);
     }
 }
@@ -63,7 +65,7 @@ fn locks_and_their_order() {
     }
     assert_eq!(write(&mut h, 1285, 65536), -4);
     for number in [42, 1024, 19, 27, 1296, 1297, 1299, 0, 1, 2] {
-        assert_eq!(write(&mut h, number, 1), 0, "{number}");
+        configure(&mut h, number, 1);
     }
 }
 
@@ -106,20 +108,21 @@ fn a_disabled_alert_disarms_without_a_cause() {
     let mut h = new(1);
     event(&mut h);
     assert!(!h.armed[0]);
-    // Enabled in this tick, but the event is over.
+    // Enabled in the second of these ticks, but the event is over.
     let enable = Access::Write {
         register: 512,
         value: 1,
     };
     tick(&mut h, enable, ALERT0);
-    assert_eq!(h.alerts[0].cause, 0);
+    tick(&mut h, enable, ALERT0);
+    assert_eq!((h.alerts[0].en, h.alerts[0].cause), (1, 0));
 }
 
 #[test]
 fn entries_and_samples_at_n_and_above_count_for_nothing() {
     for n in COUNTS {
         let mut h = ready(n, 0x393D);
-        assert_eq!(write(&mut h, 26, 1), 0);
+        configure(&mut h, 26, 1);
         for i in n as usize..MAX_ALERTS {
             h.alerts[i] = Source {
                 regwen: 2,
@@ -128,6 +131,8 @@ fn entries_and_samples_at_n_and_above_count_for_nothing() {
                 cause: 9,
             };
             h.armed[i] = i % 2 == 0;
+            h.stages.alerts.en[i] = 200;
+            h.stages.alerts.class[i] = 100;
         }
         assert!(h.valid());
         let before = h.clone();
@@ -142,7 +147,7 @@ fn entries_and_samples_at_n_and_above_count_for_nothing() {
 #[test]
 fn a_timeout_goes_back_when_not_due_and_survives_a_clear() {
     let mut h = ready(1, 0x393D);
-    assert_eq!(write(&mut h, 1286, 4), 0);
+    configure(&mut h, 1286, 4);
     assert_eq!(write(&mut h, 2, 1), 0);
     assert_eq!((h.classes[0].state, h.classes[0].esc_cnt), (TIMEOUT, 1));
     assert_eq!(write(&mut h, 1283, 1), 0);
@@ -155,6 +160,7 @@ fn a_timeout_goes_back_when_not_due_and_survives_a_clear() {
 fn a_phase_does_not_read_en() {
     let mut h = ready(1, 0x393D);
     h.classes[0].phase_cyc = [3; 4];
+    assert_eq!(write(&mut h, 1281, 0x393C), 0);
     event(&mut h);
     let off = Access::Write {
         register: 1281,
@@ -168,15 +174,16 @@ fn a_phase_does_not_read_en() {
             lines: 1
         }
     );
+    assert_eq!(h.classes[0].ctrl, 0x393C);
     assert_eq!((h.classes[0].state, h.classes[0].esc_cnt), (PHASE0, 2));
 }
 
 #[test]
 fn two_classes_share_the_lines() {
     let mut h = ready(2, 0x393D);
-    assert_eq!(write(&mut h, 769, 3), 0);
+    configure(&mut h, 769, 3);
     // Class 3: line 3 only, in Phase 0.
-    assert_eq!(write(&mut h, 1329, 0x0021), 0);
+    configure(&mut h, 1329, 0x0021);
     assert_eq!(write(&mut h, 1, 8), 0);
     let ticked = tick(&mut h, Access::None, raised(&[0, 1]));
     assert_eq!(
@@ -194,7 +201,7 @@ fn two_classes_share_the_lines() {
 // Refusal 7
 
 /// Each breaks the rule at one place in a handler of three alerts.
-const DAMAGES: [fn(&mut Handler); 19] = [
+const DAMAGES: [fn(&mut Handler); 30] = [
     |h| h.n = 249,
     |h| h.intr_state = 16,
     |h| h.intr_enable = 16,
@@ -214,6 +221,18 @@ const DAMAGES: [fn(&mut Handler); 19] = [
     |h| h.classes[3].esc_cnt = 1,
     |h| h.classes[3].state = TIMEOUT,
     |h| h.classes[3].state = PHASE0,
+    // Staged values of one bit more than the field: a stage is one higher.
+    |h| h.stages.alerts.en[2] = 3,
+    |h| h.stages.alerts.class[2] = 5,
+    |h| h.stages.locals.en[6] = 3,
+    |h| h.stages.locals.class[6] = 5,
+    |h| h.stages.classes[3].ctrl = 0x4001,
+    |h| h.stages.classes[3].thresh = 0x1_0001,
+    |h| h.stages.classes[3].timeout = (1 << 32) + 1,
+    |h| h.stages.classes[3].lengths[0] = (1 << 32) + 1,
+    |h| h.stages.classes[3].lengths[3] = (1 << 32) + 1,
+    |h| h.stages.classes[0].lengths[3] = u64::MAX,
+    |h| h.stages.alerts.en[0] = 255,
 ];
 
 #[test]
@@ -255,9 +274,14 @@ fn the_last_alert_is_looked_at_and_no_entry_after_it() {
         let mut h = new(n);
         h.alerts[n as usize - 1].class = 4;
         assert!(!h.valid(), "N {n}");
+        let mut staged = new(n);
+        staged.stages.alerts.class[n as usize - 1] = 5;
+        assert!(!staged.valid(), "N {n}");
         if n < 248 {
             let mut h = new(n);
             h.alerts[n as usize].class = 4;
+            h.stages.alerts.en[n as usize] = 3;
+            h.stages.alerts.class[n as usize] = 5;
             assert!(h.valid(), "N {n}");
         }
     }

@@ -22,6 +22,7 @@ pub fn refusal_number(m: Refusal) -> u8
         Refusal::ShortList => 9,
         Refusal::NoRecord => 10,
         Refusal::ShortBuffer => 11,
+        Refusal::Differs => 12,
     }
 }
 

@@ -10,6 +10,8 @@ list12 =
     record {
       P1 = refl;
       P2 = refl;
+      P2-held = refl;
+      P2-stage = refl;
       P3-P4 = refl;
       P5-state = refl;
       P5-accum = refl;

@@ -2,10 +2,10 @@
 -- Assumes nothing.
 use Prim.Native.Nat.{ℕ}
 use mathlib.Core.Path.{_≡_}
-use mathlib.Core.List.{[], _∷_, _++_}
+use mathlib.Core.List.{List, [], _∷_, _++_}
 use lib.IntN.{pos}
 use lib.ListN.{replicate}
-use Rattle.cases.specs.Ticks.{rise, broken, old, configure, answers, holds, heldBy}
+use Rattle.cases.specs.Ticks.{rise, broken, old, configure, answers, holds, heldBy, stagedBy}
 use Rattle.class_rules.specs.declared.Class.{Class}
 use Rattle.rules.specs.Run.{run}
 use Rattle.rules.specs.Scenes.{rest, none, write, gives, refused}
@@ -14,6 +14,7 @@ use Rattle.class_rules.specs.Class.{noClass}
 use Rattle.rules.specs.declared.Access.{Access}
 use Rattle.rules.specs.declared.Field.{Field}
 use Rattle.rules.specs.declared.Handler.{Handler}
+use Rattle.rules.specs.declared.Input.{Input}
 use Rattle.rules.specs.declared.Register.{Register}
 use Rattle.rules.specs.declared.Register.the-variants.{IntrState, Local, Alert, Block}
 use Rattle.rules.specs.declared.Setting.{Setting}
@@ -75,15 +76,25 @@ state = Block Setting.State 0
 abbrev pub accum : Register
 accum = Block AccumCnt 0
 
+-- 65535 and 65536 written to 325 in turn
+abbrev pub writes325 : List Input
+writes325 =
+    rest (old (Access.Write 325 65535))
+    ∷ rest (old (Access.Write 325 65536))
+    ∷ rest (old (Access.Write 325 65535))
+    ∷ rest (old (Access.Write 325 65536))
+    ∷ []
+
 -- ── the list ──
 
 pub record List12 : Type 0 where
   -- P1 New, N = 1: read 321 gives 0x393C
   pub P1 : gives new (rest (old (Access.Read 321))) ≡ pos 0x393C
-  -- P2 Write 65535 to 325: 0; then 65536: -4, register unchanged
-  pub P2 :
-      answers new (rest (old (Access.Write 325 65535)) ∷ rest (old (Access.Write 325 65536)) ∷ rest (old (Access.Read 325)) ∷ [])
-      ≡ pos 0 ∷ refused 4 ∷ pos 65535 ∷ []
+  -- P2, written anew by request (v): 65535 to 325 is staged, 65536 gets -4 with the stage kept, 65535 again commits, 65536 gets -4 with the
+  -- register unchanged
+  pub P2 : answers new (writes325 ++ (rest (old (Access.Read 325)) ∷ [])) ≡ pos 0 ∷ refused 4 ∷ pos 0 ∷ refused 4 ∷ pos 65535 ∷ []
+  pub P2-held : heldBy new writes325 (Block AccumThresh 0) ≡ 0 ∷ 0 ∷ 65535 ∷ 65535 ∷ []
+  pub P2-stage : stagedBy new writes325 (Block AccumThresh 0) ≡ 65536 ∷ 65536 ∷ 0 ∷ 0 ∷ []
   -- P3 Write 0 to 320, then 321: -3. P4 Then 1 to 320: -3; 0 to 320: 0
   pub P3-P4 :
       answers new

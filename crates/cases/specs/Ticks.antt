@@ -1,13 +1,15 @@
 -- How the cases of document 01, "Ticks to reproduce", are played: inputs, and what is read after them.
 -- Assumes nothing.
 use Prim.Native.Nat.{ℕ}
-use mathlib.Core.List.{List, [], _∷_, map}
+use mathlib.Core.List.{List, map}
 use lib.IntN.{ℤ}
 use Rattle.rules.specs.Answer.{number}
 use Rattle.rules.specs.Access.{value}
 use Rattle.rules.specs.Record.{carried}
 use Rattle.rules.specs.Run.{run, ticks}
-use Rattle.rules.specs.Scenes.{rest, raise, bothHigh, write}
+use Rattle.rules.specs.Scenes as scenes
+use Rattle.rules.specs.Scenes.{rest, raise, bothHigh}
+use Rattle.rules.specs.Stages.{stage}
 use Rattle.rules.specs.declared.Access.{Access}
 use Rattle.rules.specs.declared.Edition.{Edition}
 use Rattle.rules.specs.declared.Handler.{Handler}
@@ -26,9 +28,9 @@ broken x = bothHigh 0 x
 abbrev pub old : Access → Access
 old x = carried Edition.Bytes24 x
 
--- the ticks that give a register a value
+-- the ticks that give a register a value: request (v), two equal writes
 abbrev pub configure : Register → ℕ → List Input
-configure q v = rest (write q v) ∷ []
+configure q v = map rest (scenes.configure q v)
 
 -- what each of the ticks xs answers
 abbrev pub answers : Handler → List Input → List ℤ
@@ -40,3 +42,7 @@ holds h xs q = value (run h xs) q
 
 abbrev pub heldBy : Handler → List Input → Register → List ℕ
 heldBy h xs q = map (λ (t : Ticked). value (t .handler) q) (ticks h xs)
+
+-- its stage after each of them, 0 for none and the staged value plus 1
+abbrev pub stagedBy : Handler → List Input → Register → List ℕ
+stagedBy h xs q = map (λ (t : Ticked). stage (t .handler) q) (ticks h xs)

@@ -9,6 +9,7 @@ use crate::play::configure;
 use crate::play::print;
 use crate::play::show;
 use crate::play::show_rest;
+use crate::play::stage;
 use crate::play::station;
 use rules::Access;
 
@@ -34,6 +35,7 @@ pub fn timeout() {
     print(b"no lines: a timeout falls back\n");
     let h = configure(station(100), TIMEOUT_CYC, 4);
     let h = configure(h, INTR_ENABLE, 1);
+    let h = stage(h, CTRL, NO_LINES);
     let h = show(h, Access::Nothing, RAISE);
     let h = show_rest(h, 1);
     let h = show(h, Access::Write(CTRL, NO_LINES), REST);
@@ -44,6 +46,7 @@ pub fn timeout() {
 pub fn phase() {
     print(b"no lines: a phase goes on\n");
     let h = configure(station(0), PHASE0_CYC, 3);
+    let h = stage(h, CTRL, NO_LINES);
     let h = show(h, Access::Nothing, RAISE);
     let h = show(h, Access::Write(CTRL, NO_LINES), REST);
     let h = show(h, Access::Nothing, RAISE);

@@ -1,11 +1,12 @@
 // The cases of document 01 that are run, its slips that look right, two waves of the public papers and a class with no lines, through the
-// code's own tick, and the trace writer. What each prints is held to the file `stdout`.
+// code's own tick, the trace writer and shadow writes. What each prints is held to the file `stdout`.
 mod play; // play.rt: one tick, played and shown
 mod refusals; // refusals.rt: answers of single accesses
 mod slips; // slips.rt: "Slips that look right"
 mod waves; // waves.rt: the waves of the public papers
 mod lines; // lines.rt: a class with no lines
 mod writing; // writing.rt: the trace writer
+mod shadow; // shadow.rt: shadow writes
 
 fn main() {
     refusals::making();
@@ -22,4 +23,6 @@ fn main() {
     lines::timeout();
     lines::phase();
     writing::two_records();
+    shadow::two_writes();
+    shadow::differing();
 }

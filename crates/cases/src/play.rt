@@ -55,6 +55,7 @@ pub fn print_number(n: u64) {
 // An answer: of those that the cases get, and a question mark for any other.
 pub fn print_answer(a: i64) {
     match a {
+        -12 => print(b"-12"),
         -11 => print(b"-11"),
         -10 => print(b"-10"),
         -6 => print(b"-6"),
@@ -67,6 +68,7 @@ pub fn print_answer(a: i64) {
         1 => print(b"1"),
         140 => print(b"140"),
         14652 => print(b"14652"),
+        65535 => print(b"65535"),
         _ => print(b"?"),
     }
 }
@@ -98,9 +100,14 @@ pub fn play(h: Handler, x: Access, pos: u64) -> Handler {
     handler::tick::tick(h, input(x, pos)).handler
 }
 
-// A register is given a value.
-pub fn configure(h: Handler, r: u16, v: u32) -> Handler {
+// A first write, which is staged.
+pub fn stage(h: Handler, r: u16, v: u32) -> Handler {
     play(h, Access::Write(r, v), REST)
+}
+
+// A register is given a value, by two equal writes.
+pub fn configure(h: Handler, r: u16, v: u32) -> Handler {
+    stage(stage(h, r, v), r, v)
 }
 
 // What register r holds, and a space.

@@ -1,6 +1,6 @@
 -- Demand 3, "A started escalation", of every list of ticks from every state that refusal 7 does not meet.
 -- It rests on these laws of the tick, and does not open it: of crate laws, Content (after-class, event-enabled, acted-place, line-is), Locks (acted-locked,
--- after-locked), Clears (no-clear), Frame (after-n), MapLaws (decode-number, decode-in-map), KeepsValid (run-valid), ValidLaws (facts),
+-- after-locked, after-left), Clears (no-clear), Frame (after-n), MapLaws (decode-number, decode-in-map), KeepsValid (run-valid), ValidLaws (facts),
 -- Refusal7 (ticked-handler, ticked-lines), Runs (run-next, ticks-at).
 -- Assumes nothing.
 use Prim.Native.Nat.{ℕ, _-_, _<_}
@@ -26,7 +26,7 @@ use Rattle.escalation.specs.Escalation.{stateIn, StartIs, Demand3}
 use Rattle.escalation.specs.List.{IsTick, before, inputAt, givenAt, classRead, met}
 use Rattle.escalation.proofs.Escalation.{escalates}
 use Rattle.escalation.proofs.Going.{step-place}
-use Rattle.escalation.proofs.Locks.{locks, no-clear}
+use Rattle.escalation.proofs.Locks.{locks, stages, no-clear}
 use Rattle.escalation.proofs.Start.{Unstarted, unstarted, to-phase, is-start, reason, has-line}
 use Rattle.escalation.proofs.Ticks.{at-next, given-handler}
 
@@ -57,7 +57,7 @@ module _ (g : Handler) (x : Input) (k : ℕ) (small : k < classCount) where
       back b = is-start (met g x k) (classRead g x k) _ (rw read-state (b .0)) (sym reached ∙ b .1)
 
 pub demand3 : (h : Handler) (xs : List Input) → valid h ≡ true → Demand3 h xs
-demand3 h xs v = record { start = start; escalation = escalates h xs v; locks = locks h xs v; no-clear = no-clear h xs v }
+demand3 h xs v = record { start = start; escalation = escalates h xs v; locks = locks h xs v; stages = stages h xs v; no-clear = no-clear h xs v }
   where
     start : (first k t : ℕ) → k < classCount → IsTick first xs t → StartIs (before first h xs t) (inputAt first xs t) k (givenAt first h xs t .handler)
     start first k t l a =

@@ -2,19 +2,20 @@
 -- Assumes nothing.
 use Prim.Native.Nat.{ℕ, _+_, _*_, _≤_, _<_}
 use mathlib.Core.Path.{_≡_, refl, sym, ap, _∙_}
+use mathlib.Core.Logic.{_⊎_, ⊎-elim}
 use mathlib.Core.Bool.{true, false, _&&_}
 use mathlib.Core.List.{List, [], _∷_}
 use native.Mathlib.Omega.{arith}
 use native.Mathlib.Nat.{add-zero}
 use borrow.Author.Tests.{lt-ltb, eq-eqb}
 use lib.Dec.{eqb}
-use lib.ListN.{getD, length, take}
+use lib.ListN.{getD, length, take, replicate}
 use Rattle.bits.proofs.IndexLaws.{true-and}
 use Rattle.laws.proofs.MapLaws.{decode-number}
 use Rattle.laws.proofs.ValidLaws.{facts}
 use Rattle.laws.specs.InMap.{inMap, settingExists}
 use Rattle.rules.specs.Scenes.{rest, write}
-use Rattle.rules.proofs.Scenes.{rules, settings, zeros}
+use Rattle.rules.proofs.Scenes.{rules, settings, zeros, station}
 use Rattle.rules.specs.Access.{value, locked, clears}
 use Rattle.rules.specs.Map.{numberOf, isRegister, guard}
 use Rattle.rules.specs.Run.{run}
@@ -27,7 +28,7 @@ use Rattle.rules.specs.declared.Register.{Register}
 use Rattle.rules.specs.declared.Register.the-variants.{Local, Alert, Block}
 use Rattle.rules.specs.declared.Setting.{Setting}
 use Rattle.rules.specs.declared.Setting.the-variants.{Ctrl, ClrRegwen, Clr, AccumThresh, TimeoutCyc, PhaseCyc}
-use Rattle.escalation.specs.Escalation.{Locked, valueOf}
+use Rattle.escalation.specs.Escalation.{Locked, valueOf, stageOf}
 use Rattle.escalation.specs.List.{noInput}
 use Rattle.escalation.proofs.Demand3.{demand3}
 use Rattle.escalation.proofs.StartExamples
@@ -111,3 +112,24 @@ locking ys = rest (write (Block Setting.Regwen 3) 0) ∷ ys
 stays-then : (ys : List Input) (t : ℕ) → 1 ≤ t → t ≤ length (locking ys) → valueOf (run (StartExamples.post 3 (settings 0x393F 0 0 zeros)) (take t (locking ys))) 1329 ≡ 0x393F
 unfolding rules
 stays-then ys t f l = demand3 (StartExamples.post 3 (settings 0x393F 0 0 zeros)) (locking ys) refl .locks 1 t 1329 f l refl .1
+
+-- request (v): ACCUM_THRESH of class 3 has 7 staged as the lock falls; whatever the ticks, the stage holds 7 or is gone, and the register stays 0
+abbrev open3 : Handler
+open3 = station 1 (replicate 248 0) (replicate 248 0) 3 (settings 0x393F 0 0 zeros)
+
+abbrev staging : List Input → List Input
+staging ys = rest (write (Block AccumThresh 3) 7) ∷ rest (write (Block Setting.Regwen 3) 0) ∷ ys
+
+stage-stays : (ys : List Input) (t : ℕ) → 2 ≤ t → t ≤ length (staging ys)
+    → (stageOf (run open3 (take t (staging ys))) 1333 ≡ 8) ⊎ (stageOf (run open3 (take t (staging ys))) 1333 ≡ 0)
+unfolding rules
+stage-stays ys t f l = demand3 open3 (staging ys) refl .stages 2 t 1333 f l refl
+
+never-commits : (ys : List Input) (t : ℕ) → 2 ≤ t → t ≤ length (staging ys) → valueOf (run open3 (take t (staging ys))) 1333 ≡ 0
+unfolding rules
+never-commits ys t f l = demand3 open3 (staging ys) refl .locks 2 t 1333 f l refl .1
+
+-- none open when it is locked: none ever, also for a register that the list's first state has locked
+none-reaches : (xs : List Input) (t : ℕ) → t ≤ length xs → stageOf (run scene (take t xs)) 1317 ≡ 0
+unfolding rules
+none-reaches xs t l = ⊎-elim (λ e. e) (λ e. e) (demand3 scene xs refl .stages 0 t 1317 (omega arith) l refl)

@@ -1,7 +1,8 @@
--- Demand 3's locks: a register once locked keeps its value through a list of ticks, and a locked CLR takes no clear.
+-- Demand 3's locks: a register once locked keeps its value through a list of ticks, no stage reaches it, and a locked CLR takes no clear.
 -- Assumes nothing.
 use Prim.Native.Nat.{ℕ, zero, suc, _+_, _-_, _≤_, _<_}
-use mathlib.Core.Path.{_≡_, refl, sym, ap, _∙_}
+use mathlib.Core.Path.{_≡_, refl, sym, ap, _∙_, subst}
+use mathlib.Core.Logic.{_⊎_, inl, inr, ⊎-elim}
 use mathlib.Core.Bool.{true, false}
 use mathlib.Core.List.{List}
 use native.Mathlib.Omega.{arith}
@@ -12,12 +13,13 @@ use Rattle.bits.proofs.IndexLaws.{true-and}
 use Rattle.laws.proofs.Clears
 use Rattle.laws.proofs.Cases.{by-kind}
 use Rattle.laws.proofs.Frame.{after-n}
-use Rattle.laws.proofs.Locks.{after-locked}
+use Rattle.laws.proofs.Locks.{StageLeft, after-locked, after-left}
 use Rattle.laws.proofs.MapLaws.{decode-number, decode-in-map}
 use Rattle.laws.proofs.ValidLaws.{facts}
 use Rattle.laws.specs.InMap.{inMap}
 use Rattle.rules.specs.Access.{value, locked, clears}
 use Rattle.rules.specs.Map.{decode, numberOf, isRegister, guard}
+use Rattle.rules.specs.Stages.{stage}
 use Rattle.rules.specs.State.{most, classCount}
 use Rattle.rules.specs.Tick.{after}
 use Rattle.rules.specs.Valid.{valid}
@@ -26,7 +28,7 @@ use Rattle.rules.specs.declared.Input.{Input}
 use Rattle.rules.specs.declared.Register.{Register}
 use Rattle.rules.specs.declared.Register.the-variants.{Block}
 use Rattle.rules.specs.declared.Setting.the-variants.{Clr}
-use Rattle.escalation.specs.Escalation.{Locked, valueOf}
+use Rattle.escalation.specs.Escalation.{Locked, valueOf, stageOf}
 use Rattle.escalation.proofs.Ticks.{at, input, at-valid, at-next}
 
 -- what is locked is a register
@@ -36,37 +38,61 @@ locked-register h q =
     by-kind (λ q. locked h q ≡ true → isRegister q ≡ true) (λ e. refl) (λ e. refl) (λ e. refl) (λ f j e. refl) (λ f i e. refl)
     (λ s k e. refl) (λ e. e) q
 
--- from the state f to the state g: as many alerts, q is still locked and holds the same
+-- from the state f to the state g: as many alerts, q is still locked and holds the same, and its stage is the same or none
 record Kept (f g : Handler) (q : Register) : Type 0 where
   pub n : g .n ≡ f .n
   pub still : locked g q ≡ true
   pub holds : value g q ≡ value f q
+  pub left : StageLeft (stage f q) (stage g q)
+
+-- one change of a stage after another
+left-then : (a b c : ℕ) → StageLeft a b → StageLeft b c → StageLeft a c
+left-then a b c f g = ⊎-elim (λ (e : c ≡ b). ⊎-elim (λ (d : b ≡ a). inl (e ∙ d)) (λ (d : b ≡ 0). inr (e ∙ d)) f) (λ (e : c ≡ 0). inr e) g
 
 -- one tick more
 kept-next : (f g : Handler) (x : Input) (q : Register) → f .n ≤ most → inMap (f .n) q ≡ true → Kept f g q → Kept f (after g x) q
 kept-next f g x q m a k =
-    let l = after-locked g x q (omega (arith, k .n)) (ap (λ (n : ℕ). inMap n q) (k .n) ∙ a) (k .still) in
-    record { n = after-n g x ∙ k .n; still = l .0; holds = l .1 ∙ k .holds }
+    let m : g .n ≤ most = omega (arith, k .n) in
+    let b : inMap (g .n) q ≡ true = ap (λ (n : ℕ). inMap n q) (k .n) ∙ a in
+    let l = after-locked g x q m b (k .still) in
+    record {
+      n = after-n g x ∙ k .n;
+      still = l .0;
+      holds = l .1 ∙ k .holds;
+      left = left-then (stage f q) (stage g q) (stage (after g x) q) (k .left) (after-left g x q m b (k .still));
+    }
 
 module _ (h : Handler) (xs : List Input) (v : valid h ≡ true) where
   -- d ticks more
   kept : (i d : ℕ) (q : Register) → i + d ≤ length xs → inMap (at h xs i .n) q ≡ true → locked (at h xs i) q ≡ true
       → Kept (at h xs i) (at h xs (i + d)) q
-  kept i zero q l a e = rw add-zero (record { n = refl; still = e; holds = refl })
+  kept i zero q l a e = rw add-zero (record { n = refl; still = e; holds = refl; left = inl refl })
   kept i (suc d) q l a e =
       let k = kept i d q (omega arith) a e in
       rw (add-suc, at-next h xs v (i + d) (omega arith))
       (kept-next (at h xs i) (at h xs (i + d)) (input xs (i + d)) q (facts (at h xs i) (at-valid h xs v i) .n) a k)
 
-  pub locks : (i j r : ℕ) → i ≤ j → j ≤ length xs → Locked (at h xs i) r → Locked (at h xs j) r × (valueOf (at h xs j) r ≡ valueOf (at h xs i) r)
-  locks i j r l m e =
+  -- register number r
+  kept-at : (i j r : ℕ) → i ≤ j → j ≤ length xs → Locked (at h xs i) r → Kept (at h xs i) (at h xs j) (decode (at h xs i .n) r)
+  kept-at i j r l m e =
       let q : Register = decode (at h xs i .n) r in
       let s : i + (j - i) ≡ j = omega arith in
-      let k : Kept (at h xs i) (at h xs j) q =
-      rw s at
-      (kept i (j - i) q (omega arith) (decode-in-map (at h xs i .n) r (locked-register (at h xs i) q e)) e) in
-      let d : decode (at h xs j .n) r ≡ q = ap (λ (n : ℕ). decode n r) (k .n) in
+      rw s at (kept i (j - i) q (omega arith) (decode-in-map (at h xs i .n) r (locked-register (at h xs i) q e)) e)
+
+  same-register : (i j r : ℕ) → Kept (at h xs i) (at h xs j) (decode (at h xs i .n) r) → decode (at h xs j .n) r ≡ decode (at h xs i .n) r
+  same-register i j r k = ap (λ (n : ℕ). decode n r) (k .n)
+
+  pub locks : (i j r : ℕ) → i ≤ j → j ≤ length xs → Locked (at h xs i) r → Locked (at h xs j) r × (valueOf (at h xs j) r ≡ valueOf (at h xs i) r)
+  locks i j r l m e =
+      let k = kept-at i j r l m e in
+      let d = same-register i j r k in
       (ap (locked (at h xs j)) d ∙ k .still, ap (value (at h xs j)) d ∙ k .holds)
+
+  pub stages : (i j r : ℕ) → i ≤ j → j ≤ length xs → Locked (at h xs i) r
+      → (stageOf (at h xs j) r ≡ stageOf (at h xs i) r) ⊎ (stageOf (at h xs j) r ≡ 0)
+  stages i j r l m e =
+      let k = kept-at i j r l m e in
+      subst (λ (q : Register). StageLeft (stageOf (at h xs i) r) (stage (at h xs j) q)) (sym (same-register i j r k)) (k .left)
 
   pub no-clear : (i j k : ℕ) → k < classCount → i ≤ j → j < length xs → Locked (at h xs i) (numberOf (Block Clr k))
       → clears (at h xs j) (input xs j .access) k ≡ false

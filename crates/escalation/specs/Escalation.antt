@@ -1,6 +1,6 @@
 -- Demand 3, "A started escalation": one claim about a whole list of ticks. proofs/Demand3.antt proves it of every list.
--- It speaks in the rules' own words: `run` and `ticks` are the list's states and outputs, `starts`, `drives`, `locked`, `value`, `decode` and
--- `clears` are those that each tick computes with. Nothing is modelled a second time.
+-- It speaks in the rules' own words: `run` and `ticks` are the list's states and outputs, `starts`, `drives`, `locked`, `value`, `stage`, `decode`
+-- and `clears` are those that each tick computes with. Nothing is modelled a second time.
 -- Assumes nothing.
 use Prim.Native.Nat.{ℕ, zero, suc, _+_, _≤_, _<_, max}
 use mathlib.Core.Path.{_≡_}
@@ -18,6 +18,7 @@ use Rattle.escalation.specs.List.{IsTick, before, inputAt, givenAt, noIn
 use Rattle.rules.specs.Access.{value, locked, clears}
 use Rattle.rules.specs.Map.{decode, numberOf}
 use Rattle.rules.specs.Run.{run}
+use Rattle.rules.specs.Stages.{stage}
 use Rattle.rules.specs.State.{classCount, classAt}
 use Rattle.rules.specs.declared.Handler.{Handler}
 use Rattle.rules.specs.declared.Input.{Input}
@@ -91,12 +92,15 @@ pub record Escalated (c : Class) (s t : ℕ) (o : Ticked) (k : ℕ) : Type 0 whe
 
 -- ── locks ──
 
--- register number r is locked in the state g, and what it holds there
+-- register number r is locked in the state g, what it holds there, and its stage's code, 0 for none
 abbrev pub Locked : Handler → ℕ → Type 0
 Locked g r = locked g (decode (g .n) r) ≡ true
 
 abbrev pub valueOf : Handler → ℕ → ℕ
 valueOf g r = value g (decode (g .n) r)
+
+abbrev pub stageOf : Handler → ℕ → ℕ
+stageOf g r = stage g (decode (g .n) r)
 
 -- ── demand 3, of the list of ticks with inputs xs from the state h ──
 
@@ -115,6 +119,10 @@ pub record Demand3 (h : Handler) (xs : List Input) : Type 0 where
   pub locks :
       (i j r : ℕ) → i ≤ j → j ≤ length xs → Locked (run h (take i xs)) r
       → Locked (run h (take j xs)) r × (valueOf (run h (take j xs)) r ≡ valueOf (run h (take i xs)) r)
+  -- request (v), "no stage ever reaches a locked register": its stage is, after every later tick of the list, the one that it had, or none
+  pub stages :
+      (i j r : ℕ) → i ≤ j → j ≤ length xs → Locked (run h (take i xs)) r
+      → (stageOf (run h (take j xs)) r ≡ stageOf (run h (take i xs)) r) ⊎ (stageOf (run h (take j xs)) r ≡ 0)
   -- "CLR holds no value; once it is locked, no later tick of the list has an accepted clear of its class"
   pub no-clear :
       (i j k : ℕ) → k < classCount → i ≤ j → j < length xs → Locked (run h (take i xs)) (numberOf (Block Clr k))

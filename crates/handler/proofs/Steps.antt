@@ -29,26 +29,26 @@ joined s assigned clears =
 
 module _ (g : Handler) (w : Wires) (fx : Effects) where
   -- class k's interrupt bit, from the mask of what is assigned
-  interrupt-by : (k : ℕ) → k < 4 → interruptBy (classAt g k) k (g .interrupts .state) (bitsOf 4 (assigned g w)) ≡ interruptNow g w k
+  interrupt-by : (k : ℕ) → k < 4 → interruptBy (classAt g k) k (g .interrupts .state) (bitsOf 4 (assigned g w fx)) ≡ interruptNow g w fx k
   unfolding interruptBy interruptNow event
-  interrupt-by k l = rw (bit-bitsOf 4 (assigned g w) k l)
+  interrupt-by k l = rw (bit-bitsOf 4 (assigned g w fx) k l)
 
   -- what it meets, from the masks
-  met-by : (k : ℕ) → k < 4 → metBy (classAt g k) k (g .interrupts .state) (bitsOf 4 (assigned g w)) (fx .clears) ≡ signals g w fx k
+  met-by : (k : ℕ) → k < 4 → metBy (classAt g k) k (g .interrupts .state) (bitsOf 4 (assigned g w fx)) (fx .clears) ≡ signals g w fx k
   unfolding metBy signals event
-  met-by k l = rw (interrupt-by k l, bit-bitsOf 4 (assigned g w) k l)
+  met-by k l = rw (interrupt-by k l, bit-bitsOf 4 (assigned g w fx) k l)
 
   -- the four classes, and INTR_STATE
-  classes-by : classesBy (g .classes) (g .interrupts .state) (bitsOf 4 (assigned g w)) (fx .clears)
+  classes-by : classesBy (g .classes) (g .interrupts .state) (bitsOf 4 (assigned g w fx)) (fx .clears)
       ≡ each classCount (λ k. classStep (signals g w fx k) (classAt g k))
   unfolding classesBy
   classes-by = each-ext classCount _ _ noClass (λ k l. ap (λ (s : Signals). classStep s (classAt g k)) (met-by k l))
 
-  interrupts-by : interruptsBy (g .classes) (g .interrupts .state) (bitsOf 4 (assigned g w)) ≡ bitsOf 4 (interruptNow g w)
+  interrupts-by : interruptsBy (g .classes) (g .interrupts .state) (bitsOf 4 (assigned g w fx)) ≡ bitsOf 4 (interruptNow g w fx)
   unfolding interruptsBy
-  interrupts-by = is-bitsOf 4 _ (interruptNow g w) (bitsOf-lt 4 _) (λ k l. bit-bitsOf 4 _ k l ∙ interrupt-by k l)
+  interrupts-by = is-bitsOf 4 _ (interruptNow g w fx) (bitsOf-lt 4 _) (λ k l. bit-bitsOf 4 _ k l ∙ interrupt-by k l)
 
   -- so the code's parts are the state after steps 2 to 4
-  pub stepped-by : joined (sampled g w) (bitsOf 4 (assigned g w)) (fx .clears) ≡ stepped g w fx
+  pub stepped-by : joined (sampled g w fx) (bitsOf 4 (assigned g w fx)) (fx .clears) ≡ stepped g w fx
   unfolding stepped sampled
-  stepped-by = ap₂ (λ (cs : List Class) (i : ℕ). withStepped cs i (sampled g w)) classes-by interrupts-by
+  stepped-by = ap₂ (λ (cs : List Class) (i : ℕ). withStepped cs i (sampled g w fx)) classes-by interrupts-by

@@ -35,7 +35,7 @@ ends a g = record { handler = g; answer = a; output = outputOf g }
 
 -- the five calls of a tick: a is step 1, s step 2, i and cs are INTR_STATE and the classes after steps 3 and 4, o is step 5
 module _ (h : Handler) (x : Input) (a : Accessed) (s : Sampled) (i : ℕ) (cs : List Class) (o : Output) where
-  pub tick-by : a ≡ accessed h (x .access) → SampledBy (a .handler) (x .sample .alerts) s
+  pub tick-by : a ≡ accessed h (x .access) → SampledBy (a .handler) (x .sample .alerts) (a .effects) s
       → i ≡ interruptsBy (s .handler .classes) (s .handler .interrupts .state) (s .assigned)
       → cs ≡ classesBy (s .handler .classes) (s .handler .interrupts .state) (s .assigned) (a .effects .clears)
       → o ≡ record { interrupts = interruptsOn i (s .handler .interrupts .enable); lines = linesOn cs }
@@ -46,5 +46,5 @@ module _ (h : Handler) (x : Input) (a : Accessed) (s : Sampled) (i : ℕ) (cs : 
       ap (λ (p : Output). record { handler = withStepped cs i (s .handler); answer = a .answer; output = p }) eo
       ∙ ap₂ (λ (j : ℕ) (ds : List Class). ends (a .answer) (withStepped ds j (s .handler))) ei ec
       ∙ ap₂ (λ (g : Handler) (m : ℕ). ends (a .answer) (joined g m (a .effects .clears))) (es .handler) (es .assigns)
-      ∙ ap (λ (b : Accessed). ends (b .answer) (joined (sampled (b .handler) w) (bitsOf 4 (assigned (b .handler) w)) (b .effects .clears))) ea
+      ∙ ap (λ (b : Accessed). ends (b .answer) (joined (sampled (b .handler) w (b .effects)) (bitsOf 4 (assigned (b .handler) w (b .effects))) (b .effects .clears))) ea
       ∙ ap (ends (answerTo h (x .access))) (stepped-by (acted h (x .access)) w (effects h (x .access)))

@@ -37,7 +37,8 @@ pub fn step(h: Handler, x: Input) -> Ticked
     let accessed = access(h, sent);
     let g = accessed.handler;
     let answer = accessed.answer;
-    let sampled = sample(g, wires);
+    let effects = accessed.effects;
+    let sampled = sample(g, wires, effects);
     let mut next = sampled.handler;
     let before = next.classes;
     let state = interrupts_after(before, next.interrupts.state, sampled.assigned);
@@ -45,7 +46,7 @@ pub fn step(h: Handler, x: Input) -> Ticked
         before,
         next.interrupts.state,
         sampled.assigned,
-        accessed.effects.clears,
+        effects.clears,
     );
     let enable = next.interrupts.enable;
     next.classes = classes;

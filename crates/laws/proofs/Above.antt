@@ -1,23 +1,24 @@
 -- N never changes, and no tick changes what the state holds at N and above.
 -- Assumes nothing.
 use Prim.Native.Nat.{ℕ, _-_, _*_, _/_, _%_, _^_, _≤_, _<_}
-use mathlib.Core.Path.{_≡_, refl, ap, _∙_}
-use mathlib.Core.Bool.{true, _&&_}
+use mathlib.Core.Path.{_≡_, refl, sym, ap, _∙_, subst}
+use mathlib.Core.Bool.{Bool, true, false, _&&_}
 use mathlib.Core.List.{List, [], _∷_}
 use native.Mathlib.Omega.{arith}
-use borrow.Author.Tests.{le-ltb, ltb-true, eqb-true}
+use borrow.Author.Tests.{le-ltb, ltb-true, lt-ltb, eqb-true, ne-eqb}
 use lib.Dec.{eqb, ltb}
 use lib.ListN.{getD, getD-replicate}
 use Rattle.bits.proofs.BitLaws.{bit-ones}
 use Rattle.bits.proofs.IndexLaws.{and-true}
 use Rattle.bits.specs.Bits.{place}
 use Rattle.bits.specs.Index.{placeIn}
-use Rattle.rules.specs.Access.{store, fieldStored, written, acted, effects}
+use Rattle.rules.specs.Access.{store, fieldStored, named, acted, effects}
 use Rattle.rules.specs.Batch.{batch, batchOf, batchInputs, batchVerdict}
-use Rattle.rules.specs.Map.{decode, isRegister}
+use Rattle.rules.specs.Map.{decode, numberOf, isRegister}
 use Rattle.rules.specs.Run.{run}
 use Rattle.rules.specs.Samples.{alertEvent, rearmed, sampled}
-use Rattle.rules.specs.State.{most, words, alert, alertColumn, armed, newHandler, badCount, made}
+use Rattle.rules.specs.Stages.{stageIn, stage}
+use Rattle.rules.specs.State.{most, words, alert, alertColumn, armed, withStages, newHandler, badCount, made}
 use Rattle.rules.specs.Tick.{stepped, after, tick, ticked}
 use Rattle.rules.specs.Valid.{valid}
 use Rattle.rules.specs.declared.Access.{Access}
@@ -32,27 +33,34 @@ use Rattle.rules.specs.declared.Made.{Made}
 use Rattle.rules.specs.declared.Receivers.{Receivers}
 use Rattle.rules.specs.declared.Register.{Register}
 use Rattle.rules.specs.declared.Register.the-variants.{Alert}
+use Rattle.rules.specs.declared.Stages.{Stages}
 use Rattle.rules.specs.declared.Ticked.{Ticked}
 use Rattle.rules.specs.declared.Wires.{Wires}
 use Rattle.laws.specs.Above.{SameAbove, EntriesNew, atReset}
 use Rattle.laws.specs.InMap.{inMap}
 use Rattle.laws.specs.Columns.{sameField}
+use Rattle.laws.specs.RegisterFile.{stores, storedBy}
+use Rattle.laws.specs.StageFile.{names}
 use Rattle.laws.proofs.Cases.{pick, by-kind}
-use Rattle.laws.proofs.MapLaws.{decode-in-map}
-use Rattle.laws.proofs.Step1.{acted-either}
+use Rattle.laws.proofs.MapLaws.{decode-in-map, number-eq}
+use Rattle.laws.proofs.Step1.{acted-is}
+use Rattle.laws.proofs.KeepsValid.{new-stage}
+use Rattle.laws.proofs.StageFile.{in-most, stage-other}
+use Rattle.laws.proofs.StageLaws.{number-none}
 use Rattle.laws.proofs.StateLaws.{alert-store, alert-sampled, armed-sampled}
 
--- a state with the same N, alerts and receivers
-kept : (h g : Handler) → g .n ≡ h .n → g .alerts ≡ h .alerts → g .receivers ≡ h .receivers → SameAbove h g
-kept h g n a r =
+-- a state with the same N, alerts, receivers and stages
+kept : (h g : Handler) → g .n ≡ h .n → g .alerts ≡ h .alerts → g .receivers ≡ h .receivers → g .stages ≡ h .stages → SameAbove h g
+kept h g n a r s =
     record {
       n = n;
       alerts = λ f i l b. ap (λ (x : Alerts). getD (alertColumn f x) i 0) a;
       receivers = λ i l b. ap (λ (x : Receivers). placeIn (x .armed) i) r;
+      stages = λ f i l b. ap (λ (x : Stages). stageIn x (Alert f i)) s;
     }
 
 same : (h : Handler) → SameAbove h h
-same h = kept h h refl refl refl
+same h = kept h h refl refl refl refl
 
 -- one change after another
 then : (h g k : Handler) → SameAbove h g → SameAbove g k → SameAbove h k
@@ -61,6 +69,7 @@ then h g k a b =
       n = b .n ∙ a .n;
       alerts = λ f i l c. b .alerts f i (omega (arith, a .n)) c ∙ a .alerts f i l c;
       receivers = λ i l c. b .receivers i (omega (arith, a .n)) c ∙ a .receivers i l c;
+      stages = λ f i l c. b .stages f i (omega (arith, a .n)) c ∙ a .stages f i l c;
     }
 
 -- ── step 1 ──
@@ -76,34 +85,64 @@ alert-kept h g j v f i l b =
 store-above : (h : Handler) (q : Register) (v : ℕ) → (isRegister q ≡ true → inMap (h .n) q ≡ true) → SameAbove h (store h q v)
 unfolding store
 store-above h q v =
-    by-kind (λ q. (isRegister q ≡ true → inMap (h .n) q ≡ true) → SameAbove h (store h q v)) (λ e. kept h _ refl refl refl)
-    (λ e. kept h _ refl refl refl) (λ e. kept h _ refl refl refl) (λ g j e. kept h _ refl refl refl)
+    by-kind (λ q. (isRegister q ≡ true → inMap (h .n) q ≡ true) → SameAbove h (store h q v)) (λ e. kept h _ refl refl refl refl)
+    (λ e. kept h _ refl refl refl refl) (λ e. kept h _ refl refl refl refl) (λ g j e. kept h _ refl refl refl refl)
     (λ g j e. record {
       n = refl;
       alerts = λ f i l b. alert-kept h g j v f i (omega (arith, ltb-true j (h .n) (e refl))) b;
       receivers = λ i l b. refl;
+      stages = λ f i l b. refl;
     })
-    (λ s k e. kept h _ refl refl refl) (λ e. same h) q
+    (λ s k e. kept h _ refl refl refl refl) (λ e. same h) q
 
-written-above : (h : Handler) (x : Access) → SameAbove h (written h x)
-written-above h Nothing = same h
-written-above h (Read r) = same h
-written-above h (Write r v) = store-above h (decode (h .n) r) v (decode-in-map (h .n) r)
-written-above h Malformed = same h
+stored-above : (h : Handler) (x : Access) → SameAbove h (storedBy h x)
+stored-above h Nothing = same h
+stored-above h (Read r) = same h
+stored-above h (Write r v) =
+    pick (SameAbove h) (stores h r v) (store h (decode (h .n) r) v) h (λ _. store-above h (decode (h .n) r) v (decode-in-map (h .n) r)) (λ _. same h)
+stored-above h Malformed = same h
+
+-- and so no stage of one
+unnamed : (h : Handler) (x : Access) (f : Field) (i : ℕ) → h .n ≤ i → i < most → names h x (Alert f i) ≡ false
+unnamed h x f i l b = ne-eqb (numberOf (named h x)) (numberOf (Alert f i)) (λ (e : numberOf (named h x) ≡ numberOf (Alert f i)). go (isRegister (named h x)) refl e)
+  where
+    in-map : (y : Access) → isRegister (named h y) ≡ true → inMap (h .n) (named h y) ≡ true
+    in-map Nothing = λ e. e
+    in-map (Read r) = decode-in-map (h .n) r
+    in-map (Write r v) = decode-in-map (h .n) r
+    in-map Malformed = λ e. e
+
+    alert : inMap most (Alert f i) ≡ true
+    alert = lt-ltb i most b
+
+    go : (t : Bool) → isRegister (named h x) ≡ t → numberOf (named h x) ≡ numberOf (Alert f i) → ⊥
+    go true d e =
+        let a : inMap (h .n) (named h x) ≡ true = in-map x d in
+        let q : named h x ≡ Alert f i = number-eq most (named h x) (Alert f i) (omega arith) (in-most (h .n) (named h x) (omega arith) a) alert e in
+        let o : i < h .n = ltb-true i (h .n) (sym (ap (inMap (h .n)) q) ∙ a) in
+        omega arith
+    go false d e = number-none (named h x) (Alert f i) d alert e
+
+restaged-above : (h g : Handler) (s : Stages) → SameAbove h g
+    → ((f : Field) (i : ℕ) → h .n ≤ i → i < most → stageIn s (Alert f i) ≡ stage h (Alert f i)) → SameAbove h (withStages s g)
+restaged-above h g s a f = record { n = a .n; alerts = a .alerts; receivers = a .receivers; stages = f }
 
 acted-above : (h : Handler) (x : Access) → SameAbove h (acted h x)
-acted-above h x = acted-either h x (SameAbove h) (λ _. written-above h x) (λ _. same h)
+acted-above h x =
+    subst (SameAbove h) (sym (acted-is h x))
+    (restaged-above h (storedBy h x) (acted h x .stages) (stored-above h x)
+    (λ f i l b. stage-other h (omega arith) (Alert f i) (lt-ltb i most b) x (unnamed h x f i l b)))
 
 -- ── steps 2 to 4: samples at N and above count for nothing ──
 
-module _ (g : Handler) (w : Wires) where
+module _ (g : Handler) (w : Wires) (fx : Effects) where
   no-event : (i : ℕ) → g .n ≤ i → alertEvent g w i ≡ true → ⊥
   unfolding alertEvent
   no-event i l e = omega (arith, ltb-true i (g .n) (and-true (ltb i (g .n)) _ e .0))
 
-  sampled-alerts : (f : Field) (i : ℕ) → g .n ≤ i → i < most → alert (sampled g w) f i ≡ alert g f i
+  sampled-alerts : (f : Field) (i : ℕ) → g .n ≤ i → i < most → alert (sampled g w fx) f i ≡ alert g f i
   sampled-alerts f i l b =
-      alert-sampled g w f i b
+      alert-sampled g w fx f i b
       ∙ pick (λ (m : ℕ). m ≡ alert g f i) (sameField Field.Cause f && alertEvent g w i) 1 (alert g f i)
       (λ e. absurd (no-event i l (and-true (sameField Field.Cause f) (alertEvent g w i) e .1))) (λ _. refl)
 
@@ -111,10 +150,15 @@ module _ (g : Handler) (w : Wires) where
   unfolding rearmed
   rearmed-above i l = rw (le-ltb i (g .n) l)
 
-  stepped-above : (fx : Effects) → SameAbove g (stepped g w fx)
+  stepped-above : SameAbove g (stepped g w fx)
   unfolding stepped sampled
-  stepped-above fx =
-      record { n = refl; alerts = sampled-alerts; receivers = λ i l b. armed-sampled g w i b ∙ rearmed-above i l }
+  stepped-above =
+      record {
+        n = refl;
+        alerts = sampled-alerts;
+        receivers = λ i l b. armed-sampled g w fx i b ∙ rearmed-above i l;
+        stages = λ f i l b. refl;
+      }
 
 -- ── ticks ──
 
@@ -159,5 +203,5 @@ pub made-entries : (n : ℕ) → EntriesNew (made n .handler)
 unfolding made
 made-entries n =
     pick (λ (m : Made). EntriesNew (m .handler)) (badCount n) _ _
-    (λ _. record { alerts = new-alerts 0; receivers = new-armed 0 })
-    (λ _. record { alerts = new-alerts n; receivers = new-armed n })
+    (λ _. record { alerts = new-alerts 0; receivers = new-armed 0; stages = λ f i l. new-stage 0 (Alert f i) (lt-ltb i most l) })
+    (λ _. record { alerts = new-alerts n; receivers = new-armed n; stages = λ f i l. new-stage n (Alert f i) (lt-ltb i most l) })

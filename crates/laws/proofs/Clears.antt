@@ -10,8 +10,9 @@ use borrow.Author.Tests.{eqb-true, eq-eqb}
 use lib.Dec.{eqb}
 use Rattle.bits.proofs.IndexLaws.{and-true, true-and}
 use Rattle.bits.specs.Bits.{fits}
-use Rattle.rules.specs.Access.{locked, bars, settingIsClr, isClrOf, clears}
+use Rattle.rules.specs.Access.{locked, bars, unlike, settingIsClr, isClrOf, clears}
 use Rattle.rules.specs.Map.{decode, isRegister, bits, readOnly, isLock}
+use Rattle.rules.specs.Stages.{stageIn}
 use Rattle.rules.specs.declared.Access.{Access}
 use Rattle.rules.specs.declared.Access.the-variants.{Nothing, Read, Write, Malformed}
 use Rattle.rules.specs.declared.Handler.{Handler}
@@ -65,7 +66,7 @@ clears-by h Malformed k e = never (clears-both h Malformed k e .1)
 
 -- and such a write is one
 pub clears-when : (h : Handler) (x : Access) (k : ℕ) → ClearedBy h x k → clears h x k ≡ true
-unfolding readOnly bits
+unfolding readOnly bits stageIn
 clears-when h x k c =
     subst (λ (y : Access). clears h y k ≡ true) (sym (c .access))
     (clears-if h (Write (c .number) 1) k (block-lt (h .n) (c .number) Clr k (c .names))
@@ -83,6 +84,7 @@ clears-when h x k c =
           way = at readOnly;
           width = at (λ q. not (fits (bits q) 1));
           free = at (λ q. bars h q 1) ∙ clr-bars h k 1 ∙ c .free;
+          same = at (λ q. unlike h q 1);
         }
 
 -- a write of 1 to an unlocked CLR is an accepted clear, and nothing else is

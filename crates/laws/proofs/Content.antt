@@ -14,9 +14,10 @@ use Rattle.bits.proofs.IndexLaws.{and-true, any-at, any-some}
 use Rattle.class_rules.specs.Class.{enabled, drives}
 use Rattle.class_rules.specs.Step.{classStep}
 use Rattle.class_rules.specs.declared.Class.{Class}
-use Rattle.rules.specs.Access.{value, locked, bars, withSetting, store, accepted, acted, settingIsClr, isClrOf, effects, clears}
-use Rattle.rules.specs.Map.{decode, isRegister, settingBits, settingRow, bits, onlyRead, readOnly, guard, isLock}
+use Rattle.rules.specs.Access.{value, locked, bars, unlike, withSetting, store, accepted, isFirst, acted, settingIsClr, isClrOf, effects, clears}
+use Rattle.rules.specs.Map.{decode, isRegister, settingBits, settingRow, bits, onlyRead, readOnly, guard, isLock, isShadowed}
 use Rattle.rules.specs.Samples as samples
+use Rattle.rules.specs.Stages.{classStages, stageIn}
 use Rattle.rules.specs.State.{classCount, classAt}
 use Rattle.rules.specs.Tick.{event, interruptNow, signals, stepped, lines, after}
 use Rattle.rules.specs.declared.Access.{Access}
@@ -28,7 +29,8 @@ use Rattle.rules.specs.declared.Register.{Register}
 use Rattle.rules.specs.declared.Register.the-variants.{Block}
 use Rattle.rules.specs.declared.Setting.{Setting}
 use Rattle.rules.specs.declared.Wires.{Wires}
-use Rattle.laws.specs.Block.{classStored, settingLocked, blockAccepts, blockWritten, blockClears, ofBlock, writesBlock, Unmoved}
+use Rattle.laws.specs.Block.{classStored, settingLocked, blockAccepts, blockFirst, blockWritten, blockClears, ofBlock, writesBlock, Unmoved}
+use Rattle.laws.specs.RegisterFile.{stores}
 use Rattle.laws.proofs.Clears.{clears-by}
 use Rattle.laws.proofs.Cases.{by-kind, by-setting, cond-same}
 use Rattle.laws.proofs.Frame.{stepped-class}
@@ -54,14 +56,14 @@ signal-clear h x g w k = refl
 -- an event is of an enabled class
 pub event-enabled : (g : Handler) (w : Wires) (fx : Effects) (k : ℕ) → signals g w fx k .event ≡ true → enabled (classAt g k) ≡ true
 unfolding signals event
-event-enabled g w fx k e = and-true (samples.assigned g w k) (enabled (classAt g k)) e .1
+event-enabled g w fx k e = and-true (samples.assigned g w fx k) (enabled (classAt g k)) e .1
 
 -- its interrupt bit: as the access left it, or set by an event
 pub after-bit : (h : Handler) (x : Input) (k : ℕ) → k < classCount
     → bit (after h x .interrupts .state) k
-    ≡ (bit (acted h (x .access) .interrupts .state) k || event (acted h (x .access)) (x .sample .alerts) k)
+    ≡ (bit (acted h (x .access) .interrupts .state) k || event (acted h (x .access)) (x .sample .alerts) (effects h (x .access)) k)
 unfolding after stepped interruptNow
-after-bit h x k l = bit-bitsOf 4 (interruptNow (acted h (x .access)) (x .sample .alerts)) k l
+after-bit h x k l = bit-bitsOf 4 (interruptNow (acted h (x .access)) (x .sample .alerts) (effects h (x .access))) k l
 
 -- a line is on where a class drives it
 pub line-is : (h : Handler) (e : ℕ) → e < 4 → (bit (lines h) e ≡ true) ↔ ((k : ℕ) × (k < classCount) × (drives (classAt h k) e ≡ true))
@@ -77,11 +79,13 @@ line-is h e l = (λ b. any-some on classCount (sym is ∙ b), λ d. is ∙ any-a
 -- ── step 1 ──
 
 module _ (h : Handler) (r v k : ℕ) where
-  -- class k after a write
-  acted-class : k < classCount → classAt (acted h (Write r v)) k ≡ cond (accepted h (Write r v)) (classStored (decode (h .n) r) v k (classAt h k)) (classAt h k)
-  acted-class l = ap (λ (g : Handler). classAt g k) (acted-is h (Write r v)) ∙ go (accepted h (Write r v))
+  -- class k after a write: changed if the write commits
+  acted-class : k < classCount
+      → classAt (acted h (Write r v)) k ≡ cond (stores h r v) (classStored (decode (h .n) r) v k (classAt h k)) (classAt h k)
+  acted-class l = ap (λ (g : Handler). classAt g k) (acted-is h (Write r v)) ∙ go (stores h r v)
     where
-      go : (b : Bool) → classAt (cond b (store h (decode (h .n) r) v) h) k ≡ cond b (classStored (decode (h .n) r) v k (classAt h k)) (classAt h k)
+      go : (b : Bool)
+          → classAt (cond b (store h (decode (h .n) r) v) h) k ≡ cond b (classStored (decode (h .n) r) v k (classAt h k)) (classAt h k)
       go true = class-stored h (decode (h .n) r) v k l
       go false = refl
 
@@ -92,25 +96,30 @@ module _ (h : Handler) (r v k : ℕ) where
     block-locked =
         by-setting (λ s. locked h (Block s k) ≡ settingLocked s (classAt h k)) refl refl refl refl refl refl refl (λ p. refl) refl refl s
 
-    -- and a write to it is accepted by the block
-    block-accepted : accepted h (Write r v) ≡ blockAccepts s v (classAt h k)
-    unfolding blockAccepts readOnly bits isLock
+    -- and a write to it is accepted by the block and its stages
+    pub block-accepted : accepted h (Write r v) ≡ blockAccepts s v (classAt h k) (classStages (h .stages) k)
+    unfolding blockAccepts readOnly bits isLock stageIn
     block-accepted =
         accepted-write h r v
-        ∙ ap (λ (q : Register). isRegister q && (not (readOnly q) && (fits (bits q) v && not (bars h q v)))) e
-        ∙ ap (λ (b : Bool). not (onlyRead (settingRow s .way)) && (fits (settingBits s) v && not (b && not (settingRow s .lock && eqb v 0)))) block-locked
+        ∙ ap (λ (q : Register). isRegister q && (not (readOnly q) && (fits (bits q) v && (not (bars h q v) && not (unlike h q v))))) e
+        ∙ ap (λ (b : Bool). not (onlyRead (settingRow s .way)) && (fits (settingBits s) v && (not (b && not (settingRow s .lock && eqb v 0)) && not (unlike h (Block s k) v)))) block-locked
 
-    -- a write to class k's block, by the block alone (request (x) will cite this law and the two on clears)
-    pub acted-class-own : classAt (acted h (Write r v)) k ≡ blockWritten s v (classAt h k)
+    -- as a first write to it is one
+    pub block-first : isFirst h (decode (h .n) r) ≡ blockFirst s (classStages (h .stages) k)
+    unfolding isShadowed stageIn
+    block-first = ap (isFirst h) e
+
+    -- a write to class k's block, by the block and its stages alone (request (x) will cite this law, those on clears and those on stages)
+    pub acted-class-own : classAt (acted h (Write r v)) k ≡ blockWritten s v (classAt h k) (classStages (h .stages) k)
     unfolding blockWritten
     acted-class-own =
         acted-class (block-lt (h .n) r s k e)
-        ∙ ap₂ (λ (b : Bool) (q : Register). cond b (classStored q v k (classAt h k)) (classAt h k)) block-accepted e
-        ∙ ap (λ (t : Bool). cond (blockAccepts s v (classAt h k)) (cond t (withSetting s v (classAt h k)) (classAt h k)) (classAt h k))
+        ∙ ap₂ (λ (b : Bool) (q : Register). cond b (classStored q v k (classAt h k)) (classAt h k)) (ap₂ (λ (a b : Bool). a && not b) block-accepted block-first) e
+        ∙ ap (λ (t : Bool). cond (blockAccepts s v (classAt h k) (classStages (h .stages) k) && not (blockFirst s (classStages (h .stages) k))) (cond t (withSetting s v (classAt h k)) (classAt h k)) (classAt h k))
         (eq-eqb k k refl)
 
     -- and whether it is an accepted clear (for request (x))
-    pub clears-own : clears h (Write r v) k ≡ blockClears s v (classAt h k)
+    pub clears-own : clears h (Write r v) k ≡ blockClears s v (classAt h k) (classStages (h .stages) k)
     unfolding blockClears
     clears-own =
         clears-if h (Write r v) k (block-lt (h .n) r s k e)
@@ -127,13 +136,13 @@ stored-other q v k c =
 
 -- an access that does not write class k's block leaves it
 pub acted-class-other : (h : Handler) (x : Access) (k : ℕ) → k < classCount → writesBlock h x k ≡ false → classAt (acted h x) k ≡ classAt h k
-acted-class-other h Nothing k l e = ap (λ (g : Handler). classAt g k) (acted-is h Nothing ∙ sym (cond-same (accepted h Nothing) h))
-acted-class-other h (Read r) k l e = ap (λ (g : Handler). classAt g k) (acted-is h (Read r) ∙ sym (cond-same (accepted h (Read r)) h))
+acted-class-other h Nothing k l e = ap (λ (g : Handler). classAt g k) (acted-is h Nothing)
+acted-class-other h (Read r) k l e = ap (λ (g : Handler). classAt g k) (acted-is h (Read r))
 acted-class-other h (Write r v) k l e =
     acted-class h r v k l
-    ∙ ap (λ (c : Class). cond (accepted h (Write r v)) c (classAt h k)) (stored-other (decode (h .n) r) v k (classAt h k) e)
-    ∙ sym (cond-same (accepted h (Write r v)) (classAt h k))
-acted-class-other h Malformed k l e = ap (λ (g : Handler). classAt g k) (acted-is h Malformed ∙ sym (cond-same (accepted h Malformed) h))
+    ∙ ap (λ (c : Class). cond (stores h r v) c (classAt h k)) (stored-other (decode (h .n) r) v k (classAt h k) e)
+    ∙ sym (cond-same (stores h r v) (classAt h k))
+acted-class-other h Malformed k l e = ap (λ (g : Handler). classAt g k) (acted-is h Malformed)
 
 -- or clears it (for request (x))
 pub clears-other : (h : Handler) (x : Access) (k : ℕ) → writesBlock h x k ≡ false → clears h x k ≡ false
@@ -165,7 +174,7 @@ stored-place q v k c =
 pub acted-place : (h : Handler) (x : Access) (k : ℕ) → k < classCount → Unmoved (classAt h k) (classAt (acted h x) k)
 acted-place h Nothing k l = same (acted-class-other h Nothing k l refl)
 acted-place h (Read r) k l = same (acted-class-other h (Read r) k l refl)
-acted-place h (Write r v) k l = subst (Unmoved (classAt h k)) (sym (acted-class h r v k l)) (go (accepted h (Write r v)))
+acted-place h (Write r v) k l = subst (Unmoved (classAt h k)) (sym (acted-class h r v k l)) (go (stores h r v))
   where
     go : (b : Bool) → Unmoved (classAt h k) (cond b (classStored (decode (h .n) r) v k (classAt h k)) (classAt h k))
     go true = stored-place (decode (h .n) r) v k (classAt h k)

@@ -14,6 +14,7 @@ use Rattle.class_rules.specs.declared.Signals.{Signals}
 use Rattle.rules.specs.Access.{settingValue, value, acted, effects}
 use Rattle.rules.specs.Map.{settingRow}
 use Rattle.rules.specs.Samples.{sampled}
+use Rattle.rules.specs.Stages.{stageIn, stage}
 use Rattle.rules.specs.State.{most, classCount, classAt}
 use Rattle.rules.specs.Tick.{signals, stepped, after}
 use Rattle.rules.specs.declared.Effects.{Effects}
@@ -23,12 +24,15 @@ use Rattle.rules.specs.declared.Register.{Register}
 use Rattle.rules.specs.declared.Register.the-variants.{Local, Alert, Block}
 use Rattle.rules.specs.declared.Setting.{Setting}
 use Rattle.rules.specs.declared.Setting.the-variants.{ClrRegwen}
+use Rattle.rules.specs.declared.Stages.{Stages}
 use Rattle.rules.specs.declared.Wires.{Wires}
 use Rattle.laws.specs.InMap.{inMap, settingExists}
 use Rattle.laws.specs.Frame.{movesItself}
 use Rattle.laws.specs.RegisterFile.{commits}
+use Rattle.laws.specs.StageFile.{names}
 use Rattle.laws.proofs.Cases.{by-kind, by-field, by-setting}
 use Rattle.laws.proofs.RegisterFile.{acted-other, acted-n}
+use Rattle.laws.proofs.StageFile.{stage-other}
 
 -- it is said not to move, and does
 moving : {A : Type 0} → true ≡ false → A
@@ -46,6 +50,11 @@ module _ (g : Handler) (w : Wires) (fx : Effects) where
   pub stepped-n : stepped g w fx .n ≡ g .n
   unfolding stepped sampled
   stepped-n = refl
+
+  -- no stage is touched
+  pub stepped-stages : stepped g w fx .stages ≡ g .stages
+  unfolding stepped sampled
+  stepped-stages = refl
 
   -- class k after steps 2 to 4
   pub stepped-class : (k : ℕ) → k < classCount → classAt (stepped g w fx) k ≡ classStep (signals g w fx k) (classAt g k)
@@ -91,6 +100,15 @@ module _ (g : Handler) (w : Wires) (fx : Effects) where
 pub after-n : (h : Handler) (x : Input) → after h x .n ≡ h .n
 unfolding after
 after-n h x = stepped-n (acted h (x .access)) (x .sample .alerts) (effects h (x .access)) ∙ acted-n h (x .access)
+
+-- a stage is what the access left, and so changed only by an access that names its register
+pub after-stage : (h : Handler) (x : Input) (q : Register) → stage (after h x) q ≡ stage (acted h (x .access)) q
+unfolding after
+after-stage h x q = ap (λ (s : Stages). stageIn s q) (stepped-stages (acted h (x .access)) (x .sample .alerts) (effects h (x .access)))
+
+pub after-stage-other : (h : Handler) (x : Input) (q : Register) → h .n ≤ most → inMap most q ≡ true → names h (x .access) q ≡ false
+    → stage (after h x) q ≡ stage h q
+after-stage-other h x q m a e = after-stage h x q ∙ stage-other h m q a (x .access) e
 
 -- what the access does not write and does not move by itself is as before
 pub after-frame : (h : Handler) (x : Input) (q : Register) → h .n ≤ most → inMap (h .n) q ≡ true → commits h (x .access) q ≡ false

@@ -1,15 +1,15 @@
 -- A tick never leads to a state that refusal 7 would meet: a new handler is valid, and every step of a tick keeps it so.
 -- Assumes nothing.
 use Prim.Native.Nat.{ℕ, _^_, _≤_, _<_}
-use mathlib.Core.Path.{_≡_, refl, sym, subst}
+use mathlib.Core.Path.{_≡_, refl, sym, ap, _∙_, subst}
 use mathlib.Core.Bool.{Bool, true, false, false≢true, _&&_, _||_}
 use mathlib.Core.List.{List, [], _∷_}
 use native.Mathlib.Omega.{arith}
-use borrow.Author.Tests.{ltb-false}
+use borrow.Author.Tests.{ltb-true, ltb-false}
 use lib.Dec.{eqb, ltb}
 use lib.ListN.{getD, replicate, getD-replicate}
 use Rattle.bits.proofs.BitLaws.{bitsOf-lt}
-use Rattle.bits.proofs.IndexLaws.{at-each}
+use Rattle.bits.proofs.IndexLaws.{and-true, at-each}
 use Rattle.class_rules.specs.Class.{noClass, stateOf}
 use Rattle.class_rules.specs.Step.{classStep}
 use Rattle.rules.specs.Access.{acted, effects}
@@ -17,6 +17,7 @@ use Rattle.rules.specs.Batch.{batch, batchOf, batchInputs, batchVerdict}
 use Rattle.rules.specs.Map.{fieldBits}
 use Rattle.rules.specs.Run.{run}
 use Rattle.rules.specs.Samples.{sampled, marked, alertEvent, occurs}
+use Rattle.rules.specs.Stages.{settingStage, noClassStages, stageIn, stage}
 use Rattle.rules.specs.State.{most, localCount, classCount, local, alert, classAt, resetClass, newHandler, badCount, made}
 use Rattle.rules.specs.Tick.{signals, stepped, after, tick, ticked}
 use Rattle.rules.specs.Valid.{valid}
@@ -26,11 +27,16 @@ use Rattle.rules.specs.declared.Effects.{Effects}
 use Rattle.rules.specs.declared.Handler.{Handler}
 use Rattle.rules.specs.declared.Input.{Input}
 use Rattle.rules.specs.declared.Made.{Made}
+use Rattle.rules.specs.declared.Register.{Register}
+use Rattle.rules.specs.declared.Register.the-variants.{Local, Alert}
+use Rattle.rules.specs.declared.Setting.{Setting}
 use Rattle.rules.specs.declared.Ticked.{Ticked}
 use Rattle.rules.specs.declared.Wires.{Wires}
 use Rattle.laws.specs.Columns.{sameField}
 use Rattle.laws.specs.Facts.{ClassValid, Valid}
-use Rattle.laws.proofs.Cases.{pick}
+use Rattle.laws.specs.InMap.{inMap, settingExists}
+use Rattle.laws.proofs.Cases.{pick, by-kind, by-field, by-setting}
+use Rattle.laws.proofs.StageFile.{in-most}
 use Rattle.laws.proofs.StateLaws.{local-sampled, alert-sampled}
 use Rattle.laws.proofs.KeepsAccess.{acted-valid}
 use Rattle.laws.proofs.KeepsClass.{step-valid}
@@ -52,9 +58,10 @@ stepped-facts g w fx t =
       n = t .n;
       state = bitsOf-lt 4 _;
       enable = t .enable;
-      locals = λ f j b. rw (local-sampled g w f j b) (marked-fits f (occurs g w j) (local g f j) (t .locals f j b));
-      alerts = λ f i b. rw (alert-sampled g w f i (omega (arith, t .n))) (marked-fits f (alertEvent g w i) (alert g f i) (t .alerts f i b));
+      locals = λ f j b. rw (local-sampled g w fx f j b) (marked-fits f (occurs g w fx j) (local g f j) (t .locals f j b));
+      alerts = λ f i b. rw (alert-sampled g w fx f i (omega (arith, t .n))) (marked-fits f (alertEvent g w i) (alert g f i) (t .alerts f i b));
       classes = λ k b. rw (at-each classCount (λ j. classStep (signals g w fx j) (classAt g j)) k noClass b) (step-valid (signals g w fx k) (classAt g k) (t .classes k b));
+      stages = t .stages;
     }
 
 -- steps 2 to 4 keep a state valid, whatever the wires and the clears
@@ -121,6 +128,26 @@ new-alerts n Field.En i = same-fits most 0 2 i (omega arith)
 new-alerts n Field.Class i = same-fits most 0 4 i (omega arith)
 new-alerts n Field.Cause i = same-fits most 0 2 i (omega arith)
 
+-- no stage is open
+new-block : (t : Setting) → settingExists t ≡ true → settingStage t (record { lengths = replicate 4 0; timeout = 0; ctrl = 0; thresh = 0 }) ≡ 0
+new-block =
+    by-setting (λ t. settingExists t ≡ true → settingStage t (record { lengths = replicate 4 0; timeout = 0; ctrl = 0; thresh = 0 }) ≡ 0) (λ _. refl) (λ _. refl)
+    (λ _. refl) (λ _. refl) (λ _. refl) (λ _. refl) (λ _. refl) (λ p e. getD-replicate 4 p 0 0 (ltb-true p 4 e)) (λ _. refl) (λ _. refl)
+
+pub new-stage : (n : ℕ) (q : Register) → inMap most q ≡ true → stage (newHandler n) q ≡ 0
+unfolding newHandler stageIn
+new-stage n =
+    by-kind P (λ a. refl) (λ a. refl) (λ a. refl)
+    (λ f j. by-field (λ f. P (Local f j)) (λ a. refl) (λ a. getD-replicate localCount j 0 0 (ltb-true j localCount a))
+    (λ a. getD-replicate localCount j 0 0 (ltb-true j localCount a)) (λ a. refl) f)
+    (λ f i. by-field (λ f. P (Alert f i)) (λ a. refl) (λ a. getD-replicate most i 0 0 (ltb-true i most a))
+    (λ a. getD-replicate most i 0 0 (ltb-true i most a)) (λ a. refl) f)
+    (λ t k a. let b = and-true (ltb k classCount) (settingExists t) a in
+    ap (settingStage t) (getD-replicate classCount k _ noClassStages (ltb-true k classCount (b .0))) ∙ new-block t (b .1)) (λ a. refl)
+  where
+    P : Register → Type 0
+    P q = inMap most q ≡ true → stage (newHandler n) q ≡ 0
+
 new-facts : (n : ℕ) → n ≤ most → Valid (newHandler n)
 unfolding newHandler
 new-facts n l =
@@ -131,6 +158,7 @@ new-facts n l =
       locals = new-locals n;
       alerts = λ f i h. new-alerts n f i (omega arith);
       classes = λ k h. subst ClassValid (sym (getD-replicate classCount k resetClass noClass h)) reset-valid;
+      stages = λ q a. rw (new-stage n q (in-most n q l a)) (omega arith);
     }
 
 -- a count that refusal 6 does not meet

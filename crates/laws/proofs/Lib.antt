@@ -6,8 +6,11 @@ pub mod CarryLaws
 pub mod Step1
 pub mod Refusals
 pub mod RegisterFile
+pub mod StageFile
 pub mod StateLaws
+pub mod StageLaws
 pub mod StateNumber
+pub mod StageFits
 pub mod ValidLaws
 pub mod KeepsClass
 pub mod KeepsAccess
@@ -18,6 +21,7 @@ pub mod Above
 pub mod Locks
 pub mod Clears
 pub mod Content
+pub mod StageContent
 pub mod Runs
 pub mod PartLaws
 pub mod BatchLaws
@@ -26,3 +30,4 @@ pub mod RecordLaws
 pub mod WellFormedLaws
 pub mod Recordable
 pub mod WriterLaws
+pub mod Inert

@@ -1,14 +1,15 @@
 -- A locked register keeps its value and stays locked, in an access, in steps 2 to 4 and so in a tick.
 -- Assumes nothing.
-use Prim.Native.Nat.{ℕ, _≤_}
+use Prim.Native.Nat.{ℕ, _+_, _≤_}
 use mathlib.Core.Path.{_≡_, refl, sym, ap, _∙_, subst}
 use mathlib.Core.Logic.{_⊎_, inl, inr, ⊎-elim}
 use mathlib.Core.Bool.{Bool, true, false, false≢true, cond, not, _&&_}
 use borrow.Author.Tests.{eqb-true, ltb-true, not-false}
 use lib.Dec.{eqb, ltb}
 use Rattle.bits.proofs.IndexLaws.{and-true, true-and}
-use Rattle.rules.specs.Access.{value, locked, bars, accepted, acted, effects}
-use Rattle.rules.specs.Map.{decode, numberOf, isRegister, guard, isLock}
+use Rattle.rules.specs.Access.{value, locked, bars, verdict, accepts, accepted, isFirst, drops, acted, effects}
+use Rattle.rules.specs.Map.{decode, numberOf, isRegister, guard, isLock, isShadowed}
+use Rattle.rules.specs.Stages.{stage, isOpen}
 use Rattle.rules.specs.State.{most, classCount}
 use Rattle.rules.specs.Tick.{stepped, after}
 use Rattle.rules.specs.declared.Access.{Access}
@@ -18,15 +19,18 @@ use Rattle.rules.specs.declared.Input.{Input}
 use Rattle.rules.specs.declared.Register.{Register}
 use Rattle.rules.specs.declared.Register.the-variants.{Local, Alert, Block}
 use Rattle.rules.specs.declared.Setting.the-variants.{ClrRegwen}
+use Rattle.rules.specs.declared.Verdict.{Verdict}
 use Rattle.rules.specs.declared.Wires.{Wires}
 use Rattle.laws.specs.InMap.{inMap}
 use Rattle.laws.specs.Frame.{movesItself}
-use Rattle.laws.specs.RegisterFile.{target, newValue, writes}
-use Rattle.laws.proofs.Cases.{by-kind, by-field, by-setting}
-use Rattle.laws.proofs.Frame.{stepped-frame, clrwen-falls}
+use Rattle.laws.specs.StageFile.{names, stageGiven, stageBy}
+use Rattle.laws.specs.RegisterFile.{target, newValue, writes, stores}
+use Rattle.laws.proofs.Cases.{pick, by-kind, by-field, by-setting}
+use Rattle.laws.proofs.Frame.{stepped-frame, clrwen-falls, after-stage}
 use Rattle.laws.proofs.MapLaws.{number-eq}
-use Rattle.laws.proofs.RegisterFile.{target-in-map, accepted-in-map, acted-value, acted-n}
+use Rattle.laws.proofs.RegisterFile.{target-in-map, accepted-in-map, stores-accepted, acted-value, acted-n}
 use Rattle.laws.proofs.Refusals.{unrefused}
+use Rattle.laws.proofs.StageFile.{in-most, acted-stage}
 
 -- ── the REGWEN that guards a register ──
 
@@ -113,20 +117,21 @@ acted-keeps : (h : Handler) (x : Access) → h .n ≤ most → (q : Register) �
 acted-keeps h Access.Nothing m q a e = acted-value h Access.Nothing q m a
 acted-keeps h (Access.Read r) m q a e = acted-value h (Access.Read r) q m a
 acted-keeps h (Access.Write r v) m q a e =
-    acted-value h (Access.Write r v) q m a ∙ go (accepted h (Access.Write r v) && writes (decode (h .n) r) q) refl
+    acted-value h (Access.Write r v) q m a ∙ go (stores h r v && writes (decode (h .n) r) q) refl
   where
     w : Register
     w = decode (h .n) r
 
-    go : (b : Bool) → (accepted h (Access.Write r v) && writes w q) ≡ b → cond b (newValue w (value h q) v) (value h q) ≡ value h q
+    go : (b : Bool) → (stores h r v && writes w q) ≡ b → cond b (newValue w (value h q) v) (value h q) ≡ value h q
     go true d =
-        let b = and-true (accepted h (Access.Write r v)) (writes w q) d in
+        let c = and-true (stores h r v) (writes w q) d in
+        let b : accepted h (Access.Write r v) ≡ true = stores-accepted h r v (c .0) in
         let t : target w ≡ q =
-        number-eq (h .n) (target w) q m (target-in-map (h .n) w (accepted-in-map h r v (b .0))) a
-        (eqb-true (numberOf (target w)) (numberOf q) (b .1)) in
+        number-eq (h .n) (target w) q m (target-in-map (h .n) w (accepted-in-map h r v b)) a
+        (eqb-true (numberOf (target w)) (numberOf q) (c .1)) in
         let i : w ≡ q = target-locked h w (ap (locked h) t ∙ e) ∙ t in
         ap (λ (x : Register). newValue x (value h q) v) i
-        ∙ locked-takes h q e v (ap (λ (x : Register). bars h x v) (sym i) ∙ unrefused h (Access.Write r v) (b .0) .free)
+        ∙ locked-takes h q e v (ap (λ (x : Register). bars h x v) (sym i) ∙ unrefused h (Access.Write r v) b .free)
     go false d = refl
 acted-keeps h Access.Malformed m q a e = acted-value h Access.Malformed q m a
 
@@ -134,6 +139,61 @@ acted-keeps h Access.Malformed m q a e = acted-value h Access.Malformed q m a
 pub acted-locked : (h : Handler) (x : Access) (q : Register) → h .n ≤ most → inMap (h .n) q ≡ true → locked h q ≡ true
     → (locked (acted h x) q ≡ true) × (value (acted h x) q ≡ value h q)
 acted-locked h x q m = stays h (acted h x) (acted-keeps h x m) q
+
+-- ── the stage of a locked register ──
+
+-- a shadowed register is no lock
+shadowed-lock : (q : Register) → isShadowed q ≡ true → isLock q ≡ false
+unfolding isShadowed isLock
+shadowed-lock =
+    by-kind P (λ e. refl) (λ e. refl) (λ e. refl) (λ f j. by-field (λ f. P (Local f j)) never (λ e. refl) (λ e. refl) (λ e. refl) f)
+    (λ f i. by-field (λ f. P (Alert f i)) never (λ e. refl) (λ e. refl) (λ e. refl) f)
+    (λ s k. by-setting (λ s. P (Block s k)) never (λ e. refl) never (λ e. refl) (λ e. refl) (λ e. refl) (λ e. refl) (λ p e. refl) (λ e. refl)
+    (λ e. refl) s) (λ e. refl)
+  where
+    P : Register → Type 0
+    P q = isShadowed q ≡ true → isLock q ≡ false
+
+    never : {A : Type 0} → false ≡ true → A
+    never e = absurd (false≢true e)
+
+-- a stage is the one that was there, or none
+abbrev pub StageLeft : ℕ → ℕ → Type 0
+StageLeft old new = (new ≡ old) ⊎ (new ≡ 0)
+
+module _ (h : Handler) (q : Register) (m : h .n ≤ most) (a : inMap (h .n) q ≡ true) (e : locked h q ≡ true) where
+  -- no accepted write to it is a first one
+  no-first : (r v : ℕ) → names h (Access.Write r v) q ≡ true → accepted h (Access.Write r v) ≡ true → isFirst h (decode (h .n) r) ≡ false
+  no-first r v d c = go (isFirst h (decode (h .n) r)) refl
+    where
+      is : decode (h .n) r ≡ q
+      is = number-eq (h .n) (decode (h .n) r) q m (accepted-in-map h r v c) a (eqb-true (numberOf (decode (h .n) r)) (numberOf q) d)
+
+      shut : isShadowed (decode (h .n) r) ≡ true → bars h (decode (h .n) r) v ≡ true
+      shut s = true-and (ap (locked h) is ∙ e) (ap (λ (t : Bool). not (t && eqb v 0)) (shadowed-lock (decode (h .n) r) s))
+
+      go : (b : Bool) → isFirst h (decode (h .n) r) ≡ b → b ≡ false
+      go true f =
+          let s = and-true (isShadowed (decode (h .n) r)) (not (isOpen (h .stages) (decode (h .n) r))) f .0 in
+          sym (shut s) ∙ unrefused h (Access.Write r v) c .free
+      go false f = refl
+
+  -- an accepted access leaves its stage or none
+  given-left : (x : Access) → names h x q ≡ true → accepted h x ≡ true → StageLeft (stage h q) (stageGiven h x (stage h q))
+  given-left Access.Nothing d c = inl refl
+  given-left (Access.Read r) d c = inr refl
+  given-left (Access.Write r v) d c = inr (ap (λ (b : Bool). cond b (v + 1) 0) (no-first r v d c))
+  given-left Access.Malformed d c = inl refl
+
+  -- "no stage ever reaches a locked register": an access leaves the stage of a locked register or none
+  pub acted-left : (x : Access) → StageLeft (stage h q) (stage (acted h x) q)
+  acted-left x =
+      subst (StageLeft (stage h q)) (sym (acted-stage h m q (in-most (h .n) q m a) x))
+      (pick (StageLeft (stage h q)) (names h x q) _ _ (λ d. go d (verdict h x) refl) (λ _. inl refl))
+    where
+      go : names h x q ≡ true → (t : Verdict) → verdict h x ≡ t → StageLeft (stage h q) (stageBy t h x (stage h q))
+      go d Verdict.Accepted c = given-left x d (ap accepts c)
+      go d (Verdict.Refused n) c = pick (StageLeft (stage h q)) (drops n) 0 (stage h q) (λ _. inr refl) (λ _. inl refl)
 
 -- ── steps 2 to 4 ──
 
@@ -174,6 +234,11 @@ module _ (g : Handler) (w : Wires) (fx : Effects) where
   stepped-locked q = stays g (stepped g w fx) stepped-keeps q
 
 -- ── the tick ──
+
+-- whatever comes in, a locked register keeps its stage or has none after a tick
+pub after-left : (h : Handler) (x : Input) (q : Register) → h .n ≤ most → inMap (h .n) q ≡ true → locked h q ≡ true
+    → StageLeft (stage h q) (stage (after h x) q)
+after-left h x q m a e = subst (StageLeft (stage h q)) (sym (after-stage h x q)) (acted-left h q m a e (x .access))
 
 -- whatever comes in, a locked register keeps its value and stays locked in a tick
 pub after-locked : (h : Handler) (x : Input) (q : Register) → h .n ≤ most → inMap (h .n) q ≡ true → locked h q ≡ true

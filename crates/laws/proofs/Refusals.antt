@@ -1,17 +1,20 @@
--- Refusals: the first case that holds is given, and a refused access is as no access.
+-- Refusals: the first case that holds is given, and what a refused access changes.
 -- Assumes nothing.
 use Prim.Native.Nat.{ℕ, zero, suc, _^_, _≤_, _<_}
 use mathlib.Core.Path.{_≡_, refl, sym, ap, ap₂, _∙_, subst}
-use mathlib.Core.Logic.{_↔_, inl, inr}
-use mathlib.Core.Bool.{Bool, true, false, false≢true, cond, not, _&&_}
+use mathlib.Core.Logic.{_⊎_, _↔_, inl, inr, ⊎-elim}
+use mathlib.Core.Bool.{Bool, true, false, false≢true, cond, not, _&&_, _||_}
 use mathlib.Core.List.{List, [], _∷_}
 use native.Mathlib.Omega.{arith}
+use lib.Dec.{eqb}
 use lib.IntN.{pos, negℤ, negℤ-negℤ}
 use lib.ListN.{getD, length}
 use Rattle.bits.specs.Bits.{bitsOf, fits}
-use Rattle.rules.specs.Access.{value, bars, accessCases, verdict, accepts, accepted, written, noEffects, accessedBy, accessed, acted, answerTo, effects}
+use Rattle.rules.specs.Access.{value, bars, unlike, accessCases, verdict, accepts, accepted, named, drops, kept, raisedBy, accessedBy, accessed, acted, answerTo, effects}
 use Rattle.rules.specs.Answer.{refusalNumber, number, Case, firstOf}
 use Rattle.rules.specs.Map.{decode, isRegister, bits, readOnly}
+use Rattle.rules.specs.Stages.{dropped}
+use Rattle.rules.specs.State.{withStages}
 use Rattle.rules.specs.Tick.{stepped, outputOf, noOutput, after, tick, ticked}
 use Rattle.rules.specs.Valid.{valid}
 use Rattle.rules.specs.declared.Access.{Access}
@@ -22,8 +25,8 @@ use Rattle.rules.specs.declared.Refusal.{Refusal}
 use Rattle.rules.specs.declared.Sample.{Sample}
 use Rattle.rules.specs.declared.Ticked.{Ticked}
 use Rattle.rules.specs.declared.Verdict.{Verdict}
-use Rattle.laws.specs.Refusals.{First, Unrefused, AccessNumber}
-use Rattle.laws.proofs.Step1.{acted-is, effects-refused}
+use Rattle.laws.specs.Refusals.{First, Unrefused, AccessRefusal, AccessNumber}
+use Rattle.laws.proofs.Step1.{dropsBy}
 
 -- ── the first case, of any list of cases ──
 
@@ -105,68 +108,122 @@ unrefused h x e =
       way = clear 2 (omega arith);
       width = clear 3 (omega arith);
       free = clear 4 (omega arith);
+      same = clear 5 (omega arith);
     }
   where
-    clear : (i : ℕ) → i < 5 → getD (accessCases h x) i none .holds ≡ false
+    clear : (i : ℕ) → i < 6 → getD (accessCases h x) i none .holds ≡ false
     clear = first-accepts (accessCases h x) none .0 (accepts-is (verdict h x) e)
 
 -- and what meets no case is accepted
 pub is-accepted : (h : Handler) (x : Access) → Unrefused h x → accepted h x ≡ true
 unfolding verdict firstOf
-is-accepted h x u = rw (u .formed, u .exists, u .way, u .width, u .free)
+is-accepted h x u = rw (u .formed, u .exists, u .way, u .width, u .free, u .same)
 
--- a write is accepted if its number is a register's, which is not read only, holds the value and is not locked
+-- a write is accepted if its number is a register's, which is not read only, holds the value, is not locked and has no other stage open
 pub accepted-write : (h : Handler) (r v : ℕ)
     → accepted h (Access.Write r v)
-    ≡ (isRegister (decode (h .n) r) && (not (readOnly (decode (h .n) r)) && (fits (bits (decode (h .n) r)) v && not (bars h (decode (h .n) r) v))))
+    ≡ (isRegister (decode (h .n) r) && (not (readOnly (decode (h .n) r)) && (fits (bits (decode (h .n) r)) v
+    && (not (bars h (decode (h .n) r) v) && not (unlike h (decode (h .n) r) v)))))
 unfolding verdict firstOf
-accepted-write h r v = go (isRegister (decode (h .n) r)) (readOnly (decode (h .n) r)) (fits (bits (decode (h .n) r)) v) (bars h (decode (h .n) r) v)
+accepted-write h r v =
+    go (isRegister (decode (h .n) r)) (readOnly (decode (h .n) r)) (fits (bits (decode (h .n) r)) v) (bars h (decode (h .n) r) v)
+    (unlike h (decode (h .n) r) v)
   where
-    go : (a b c d : Bool)
+    go : (a b c d e : Bool)
         → accepts (cond (not a) (Verdict.Refused Refusal.NoRegister) (cond b (Verdict.Refused Refusal.WrongWay)
-        (cond (not c) (Verdict.Refused Refusal.TooWide) (cond d (Verdict.Refused Refusal.Locked) Verdict.Accepted))))
-        ≡ (a && (not b && (c && not d)))
-    go false b c d = refl
-    go true true c d = refl
-    go true false false d = refl
-    go true false true true = refl
-    go true false true false = refl
+        (cond (not c) (Verdict.Refused Refusal.TooWide) (cond d (Verdict.Refused Refusal.Locked)
+        (cond e (Verdict.Refused Refusal.Differs) Verdict.Accepted)))))
+        ≡ (a && (not b && (c && (not d && not e))))
+    go false b c d e = refl
+    go true true c d e = refl
+    go true false false d e = refl
+    go true false true true e = refl
+    go true false true false true = refl
+    go true false true false false = refl
 
--- ── a refused access is as no access ──
+-- and its stage is dropped, refused or not, if it is a register's, not read only, and holds the value
+pub drops-write : (h : Handler) (r v : ℕ)
+    → dropsBy (verdict h (Access.Write r v))
+    ≡ (isRegister (decode (h .n) r) && (not (readOnly (decode (h .n) r)) && (fits (bits (decode (h .n) r)) v && not (accepted h (Access.Write r v)))))
+unfolding verdict firstOf
+drops-write h r v =
+    go (isRegister (decode (h .n) r)) (readOnly (decode (h .n) r)) (fits (bits (decode (h .n) r)) v) (bars h (decode (h .n) r) v)
+    (unlike h (decode (h .n) r) v)
+  where
+    by : Bool → Bool → Bool → Bool → Bool → Verdict
+    by a b c d e =
+        cond (not a) (Verdict.Refused Refusal.NoRegister) (cond b (Verdict.Refused Refusal.WrongWay)
+        (cond (not c) (Verdict.Refused Refusal.TooWide) (cond d (Verdict.Refused Refusal.Locked)
+        (cond e (Verdict.Refused Refusal.Differs) Verdict.Accepted))))
+
+    go : (a b c d e : Bool) → dropsBy (by a b c d e) ≡ (a && (not b && (c && not (accepts (by a b c d e)))))
+    go false b c d e = refl
+    go true true c d e = refl
+    go true false false d e = refl
+    go true false true true e = refl
+    go true false true false true = refl
+    go true false true false false = refl
+
+-- ── a refused access ──
+
+module _ (h : Handler) (x : Access) (m : Refusal) (e : verdict h x ≡ Verdict.Refused m) where
+  -- "3 and 12 are now the refusals that may change something": the stage of the register that is named, and nothing else
+  pub acted-refused : acted h x ≡ kept m h x
+  unfolding acted accessed
+  acted-refused = ap (λ (t : Verdict). accessedBy t h x .handler) e
+
+  pub effects-refused : effects h x ≡ record { clears = 0; raises = raisedBy m }
+  unfolding effects accessed
+  effects-refused = ap (λ (t : Verdict). accessedBy t h x .effects) e
+
+  -- every other leaves the state
+  pub refused-keeps : drops m ≡ false → acted h x ≡ h
+  refused-keeps d = acted-refused ∙ ap (λ (b : Bool). cond b (withStages (dropped (named h x) (h .stages)) h) h) d
+
+-- and raises no local alert
+raises-none : (m : Refusal) → drops m ≡ false → raisedBy m ≡ 0
+raises-none m = go (eqb (refusalNumber m) 3) (eqb (refusalNumber m) 12)
+  where
+    go : (a b : Bool) → (a || b) ≡ false → cond b (2 ^ 5) 0 ≡ 0
+    go true b d = absurd (false≢true (sym d))
+    go false true d = absurd (false≢true (sym d))
+    go false false d = refl
 
 module _ (h : Handler) where
-  -- the access changes nothing
-  pub acted-refused : (x : Access) → accepted h x ≡ false → acted h x ≡ h
-  acted-refused x e = acted-is h x ∙ ap (λ (b : Bool). cond b (written h x) h) e
-
-  -- no more does none
+  -- no access
   acted-nothing : acted h Access.Nothing ≡ h
   unfolding acted accessed verdict firstOf
   acted-nothing = refl
 
-  -- and has no effect
-  effects-nothing : effects h Access.Nothing ≡ noEffects
+  effects-nothing : effects h Access.Nothing ≡ record { clears = 0; raises = 0 }
   unfolding effects accessed verdict firstOf bitsOf
   effects-nothing = refl
 
-  module _ (x : Access) (s : Sample) (e : accepted h x ≡ false) where
-    -- the state after the tick
-    pub refused-as-none : after h (record { access = x; sample = s }) ≡ after h (record { access = Access.Nothing; sample = s })
+  module _ (x : Access) (s : Sample) (m : Refusal) (e : verdict h x ≡ Verdict.Refused m) where
+    -- a refused access is as none on the state without the stage that it drops, but for local 5
+    pub refused-after : after h (record { access = x; sample = s }) ≡ stepped (kept m h x) (s .alerts) (record { clears = 0; raises = raisedBy m })
     unfolding after
-    refused-as-none =
-        ap₂ (λ (g : Handler) (fx : Effects). stepped g (s .alerts) fx) (acted-refused x e ∙ sym acted-nothing)
-        (effects-refused h x e ∙ sym effects-nothing)
+    refused-after = ap₂ (λ (g : Handler) (fx : Effects). stepped g (s .alerts) fx) (acted-refused h x m e) (effects-refused h x m e)
+
+    -- one refused with 1, 2, 4 or 5 is as none, in the state after the tick
+    pub refused-as-none : drops m ≡ false → after h (record { access = x; sample = s }) ≡ after h (record { access = Access.Nothing; sample = s })
+    unfolding after
+    refused-as-none d =
+        ap₂ (λ (g : Handler) (fx : Effects). stepped g (s .alerts) fx) (refused-keeps h x m e d ∙ sym acted-nothing)
+        (effects-refused h x m e ∙ ap (λ (a : ℕ). record { clears = 0; raises = a }) (raises-none m d) ∙ sym effects-nothing)
 
     -- and its outputs
-    pub refused-output : tick h (record { access = x; sample = s }) .output ≡ tick h (record { access = Access.Nothing; sample = s }) .output
+    pub refused-output : drops m ≡ false
+        → tick h (record { access = x; sample = s }) .output ≡ tick h (record { access = Access.Nothing; sample = s }) .output
     unfolding tick
-    refused-output = ap outputOf refused-as-none
+    refused-output d = ap outputOf (refused-as-none d)
 
     -- so too where refusal 7 is asked first
-    pub refused-ticked : (ticked h (record { access = x; sample = s }) .handler ≡ ticked h (record { access = Access.Nothing; sample = s }) .handler)
+    pub refused-ticked : drops m ≡ false
+        → (ticked h (record { access = x; sample = s }) .handler ≡ ticked h (record { access = Access.Nothing; sample = s }) .handler)
         × (ticked h (record { access = x; sample = s }) .output ≡ ticked h (record { access = Access.Nothing; sample = s }) .output)
     unfolding ticked tick
-    refused-ticked = go (valid h)
+    refused-ticked d = go (valid h)
       where
         refused : Ticked
         refused = record { handler = h; answer = Answer.Refused Refusal.BadState; output = noOutput }
@@ -174,28 +231,39 @@ module _ (h : Handler) where
         go : (b : Bool)
             → (cond b (tick h (record { access = x; sample = s })) refused .handler ≡ cond b (tick h (record { access = Access.Nothing; sample = s })) refused .handler)
             × (cond b (tick h (record { access = x; sample = s })) refused .output ≡ cond b (tick h (record { access = Access.Nothing; sample = s })) refused .output)
-        go true = (refused-as-none, refused-output)
+        go true = (refused-as-none d, refused-output d)
         go false = (refl, refl)
+
+-- one refused with 3 is as none on the state without the stage
+pub locked-after : (h : Handler) (x : Access) (s : Sample) → verdict h x ≡ Verdict.Refused Refusal.Locked
+    → after h (record { access = x; sample = s })
+    ≡ after (withStages (dropped (named h x) (h .stages)) h) (record { access = Access.Nothing; sample = s })
+unfolding after
+locked-after h x s e =
+    let g : Handler = withStages (dropped (named h x) (h .stages)) h in
+    ap₂ (λ (k : Handler) (fx : Effects). stepped k (s .alerts) fx) (acted-refused h x Refusal.Locked e ∙ sym (acted-nothing g))
+    (effects-refused h x Refusal.Locked e ∙ sym (effects-nothing g))
 
 -- ── the numbers that come back ──
 
--- the five refusals of an access
-access-refusal : (h : Handler) (x : Access) (m : Refusal) → verdict h x ≡ Verdict.Refused m → (1 ≤ refusalNumber m) × (refusalNumber m ≤ 5)
+-- the six refusals of an access
+access-refusal : (h : Handler) (x : Access) (m : Refusal) → verdict h x ≡ Verdict.Refused m → AccessRefusal (refusalNumber m)
 unfolding verdict
 access-refusal h x m e = let f = first-is (accessCases h x) none m .0 e in subst P (f .names) (small (f .place) (f .inside))
   where
     P : Refusal → Type 0
-    P m = (1 ≤ refusalNumber m) × (refusalNumber m ≤ 5)
+    P m = AccessRefusal (refusalNumber m)
 
-    small : (i : ℕ) → i < 5 → P (getD (accessCases h x) i none .refusal)
-    small zero l = (omega arith, omega arith)
-    small (suc zero) l = (omega arith, omega arith)
-    small (suc (suc zero)) l = (omega arith, omega arith)
-    small (suc (suc (suc zero))) l = (omega arith, omega arith)
-    small (suc (suc (suc (suc zero)))) l = (omega arith, omega arith)
-    small (suc (suc (suc (suc (suc i))))) l = absurd (omega arith)
+    small : (i : ℕ) → i < 6 → P (getD (accessCases h x) i none .refusal)
+    small zero l = inl (omega arith, omega arith)
+    small (suc zero) l = inl (omega arith, omega arith)
+    small (suc (suc zero)) l = inl (omega arith, omega arith)
+    small (suc (suc (suc zero))) l = inl (omega arith, omega arith)
+    small (suc (suc (suc (suc zero)))) l = inl (omega arith, omega arith)
+    small (suc (suc (suc (suc (suc zero))))) l = inr refl
+    small (suc (suc (suc (suc (suc (suc i)))))) l = absurd (omega arith)
 
--- a read gives 0 to 4,294,967,295, anything else accepted 0, and a refusal -1 to -5
+-- a read gives 0 to 4,294,967,295, anything else accepted 0, and a refusal -1 to -5 or -12
 pub answer-number : (h : Handler) (x : Access) → ((r : ℕ) → value h (decode (h .n) r) < 2 ^ 32) → AccessNumber (number (answerTo h x))
 unfolding answerTo accessed number
 answer-number h x w = go (verdict h x) refl x
@@ -205,18 +273,18 @@ answer-number h x w = go (verdict h x) refl x
     go Verdict.Accepted e (Access.Read r) = inl (value h (decode (h .n) r), omega (arith, w r), refl)
     go Verdict.Accepted e (Access.Write r v) = inl (0, omega arith, refl)
     go Verdict.Accepted e Access.Malformed = inl (0, omega arith, refl)
-    go (Verdict.Refused m) e y = let b = access-refusal h x m e in inr (refusalNumber m, b .0, b .1, refl)
+    go (Verdict.Refused m) e y = inr (refusalNumber m, access-refusal h x m e, refl)
 
 -- so no access answers -6, which a new handler answers alone
-pub answer-refusal : (h : Handler) (x : Access) (m : ℕ) → number (answerTo h x) ≡ negℤ (pos m) → m ≤ 5
+pub answer-refusal : (h : Handler) (x : Access) (m : ℕ) → number (answerTo h x) ≡ negℤ (pos m) → (m ≤ 5) ⊎ (m ≡ 12)
 unfolding answerTo accessed number
 answer-refusal h x m = go (verdict h x) refl x
   where
-    value-least : (v m : ℕ) → pos v ≡ negℤ (pos m) → m ≤ 5
-    value-least v zero e = omega arith
+    value-least : (v m : ℕ) → pos v ≡ negℤ (pos m) → (m ≤ 5) ⊎ (m ≡ 12)
+    value-least v zero e = inl (omega arith)
     value-least v (suc m) e = absurd (let z : _≡_ {A = ℕ} 0 1 = cc in omega arith)
 
-    go : (t : Verdict) → verdict h x ≡ t → (y : Access) → number (accessedBy t h y .answer) ≡ negℤ (pos m) → m ≤ 5
+    go : (t : Verdict) → verdict h x ≡ t → (y : Access) → number (accessedBy t h y .answer) ≡ negℤ (pos m) → (m ≤ 5) ⊎ (m ≡ 12)
     go Verdict.Accepted e Access.Nothing d = value-least 0 m d
     go Verdict.Accepted e (Access.Read r) d = value-least (value h (decode (h .n) r)) m d
     go Verdict.Accepted e (Access.Write r v) d = value-least 0 m d
@@ -224,4 +292,5 @@ answer-refusal h x m = go (verdict h x) refl x
     go (Verdict.Refused r) e y d =
         let i : pos (refusalNumber r) ≡ pos m = sym (negℤ-negℤ (pos (refusalNumber r))) ∙ ap negℤ d ∙ negℤ-negℤ (pos m) in
         let j : refusalNumber r ≡ m = cc in
-        omega (arith, access-refusal h x r e .1)
+        ⊎-elim (λ (b : (1 ≤ refusalNumber r) × (refusalNumber r ≤ 5)). inl (omega (arith, b .1)))
+        (λ (b : refusalNumber r ≡ 12). inr (sym j ∙ b)) (access-refusal h x r e)

@@ -1,4 +1,4 @@
--- The registers as one file: an accepted write changes the register that it names, by its rule, and no other.
+-- The registers as one file: a committed write changes the register that it names, by its rule, and no other.
 -- Assumes nothing.
 use Prim.Native.Nat.{ℕ, _≤_, _<_}
 use mathlib.Core.Path.{_≡_, refl, sym, ap, _∙_, subst}
@@ -10,7 +10,7 @@ use lib.Dec.{eqb, ltb}
 use lib.ListN.{getD}
 use Rattle.bits.proofs.IndexLaws.{and-true}
 use Rattle.class_rules.specs.Class.{noClass}
-use Rattle.rules.specs.Access.{settingValue, value, fieldStored, withSetting, store, accepted, written, acted, answerTo}
+use Rattle.rules.specs.Access.{settingValue, value, fieldStored, withSetting, store, accepted, isFirst, acted, answerTo}
 use Rattle.rules.specs.Map.{decode, numberOf, isRegister, fieldRow, row, onlyWritten, writeOnly, offset}
 use Rattle.rules.specs.State.{most, localCount, classCount, fieldIndex, local, alert, classAt, localColumn, alertColumn}
 use Rattle.rules.specs.declared.Access.{Access}
@@ -24,12 +24,13 @@ use Rattle.rules.specs.declared.Setting.{Setting}
 use Rattle.rules.specs.declared.Way.{Way}
 use Rattle.laws.specs.InMap.{inMap, settingExists}
 use Rattle.laws.specs.Block.{classStored}
-use Rattle.laws.specs.RegisterFile.{target, newValue, writes, commits, committed, asWritten, plain}
-use Rattle.laws.proofs.Cases.{by-kind, by-field}
+use Rattle.laws.specs.RegisterFile.{target, newValue, writes, stores, commits, committed, storedBy, asWritten, plain}
+use Rattle.laws.proofs.Cases.{pick, by-kind, by-field}
 use Rattle.laws.proofs.ColumnLaws.{at-changed, column-stored, local-column, alert-column, setting-value}
 use Rattle.laws.proofs.MapLaws.{decode-in-map, number-eq}
 use Rattle.laws.proofs.Refusals.{unrefused, is-accepted}
-use Rattle.laws.proofs.Step1.{acted-is, acted-either, answer-accepted}
+use Rattle.laws.proofs.StageLaws.{value-stages}
+use Rattle.laws.proofs.Step1.{acted-but-stages, answer-accepted}
 
 -- ── what a store makes of each part ──
 
@@ -161,31 +162,37 @@ value-stored h q p v m a b = go (writes q p) refl
 pub accepted-in-map : (h : Handler) (r v : ℕ) → accepted h (Write r v) ≡ true → inMap (h .n) (decode (h .n) r) ≡ true
 accepted-in-map h r v e = decode-in-map (h .n) r (not-false (isRegister (decode (h .n) r)) (unrefused h (Write r v) e .exists))
 
--- an access changes what an accepted write writes, and no other register; a refused one changes none
+-- a write that commits is accepted
+pub stores-accepted : (h : Handler) (r v : ℕ) → stores h r v ≡ true → accepted h (Write r v) ≡ true
+stores-accepted h r v e = and-true (accepted h (Write r v)) (not (isFirst h (decode (h .n) r))) e .0
+
+-- an access changes what a committed write writes, and no other register; a staged one and a refused one change none
 pub acted-value : (h : Handler) (x : Access) (p : Register) → h .n ≤ most → inMap (h .n) p ≡ true
     → value (acted h x) p ≡ cond (commits h x p) (committed h x (value h p)) (value h p)
-acted-value h Nothing p m a = acted-either h Nothing (λ g. value g p ≡ value h p) (λ _. refl) (λ _. refl)
-acted-value h (Read r) p m a = acted-either h (Read r) (λ g. value g p ≡ value h p) (λ _. refl) (λ _. refl)
-acted-value h (Write r v) p m a = ap (λ (g : Handler). value g p) (acted-is h (Write r v)) ∙ go (accepted h (Write r v)) refl
+acted-value h x p m a = acted-but-stages h x (λ g. value g p ≡ cond (commits h x p) (committed h x (value h p)) (value h p))
+    (λ s. value-stages s (storedBy h x) p ∙ go x)
   where
-    q : Register
-    q = decode (h .n) r
+    wrote : (r v : ℕ) (b : Bool) → stores h r v ≡ b
+        → value (cond b (store h (decode (h .n) r) v) h) p
+        ≡ cond (b && writes (decode (h .n) r) p) (newValue (decode (h .n) r) (value h p) v) (value h p)
+    wrote r v true e = value-stored h (decode (h .n) r) p v m (accepted-in-map h r v (stores-accepted h r v e)) a
+    wrote r v false e = refl
 
-    go : (b : Bool) → accepted h (Write r v) ≡ b
-        → value (cond b (store h q v) h) p ≡ cond (b && writes q p) (newValue q (value h p) v) (value h p)
-    go true e = value-stored h q p v m (accepted-in-map h r v e) a
-    go false e = refl
-acted-value h Malformed p m a = acted-either h Malformed (λ g. value g p ≡ value h p) (λ _. refl) (λ _. refl)
-
--- N stays in an access
-pub acted-n : (h : Handler) (x : Access) → acted h x .n ≡ h .n
-acted-n h x = acted-either h x (λ g. g .n ≡ h .n) (λ _. go x) (λ _. refl)
-  where
-    go : (x : Access) → written h x .n ≡ h .n
+    go : (y : Access) → value (storedBy h y) p ≡ cond (commits h y p) (committed h y (value h p)) (value h p)
     go Nothing = refl
     go (Read r) = refl
-    go (Write r v) = store-n h (decode (h .n) r) v
+    go (Write r v) = wrote r v (stores h r v) refl
     go Malformed = refl
+
+-- N stays in what an access stores, and so in the access
+pub stored-n : (h : Handler) (x : Access) → storedBy h x .n ≡ h .n
+stored-n h Nothing = refl
+stored-n h (Read r) = refl
+stored-n h (Write r v) = pick (λ (g : Handler). g .n ≡ h .n) (stores h r v) _ _ (λ _. store-n h (decode (h .n) r) v) (λ _. refl)
+stored-n h Malformed = refl
+
+pub acted-n : (h : Handler) (x : Access) → acted h x .n ≡ h .n
+acted-n h x = acted-but-stages h x (λ g. g .n ≡ h .n) (λ _. stored-n h x)
 
 -- ── what follows ──
 
@@ -195,13 +202,15 @@ pub acted-other : (h : Handler) (x : Access) (p : Register) → h .n ≤ most �
 acted-other h x p m a e =
     acted-value h x p m a ∙ ap (λ (b : Bool). cond b (committed h x (value h p)) (value h p)) e
 
--- an accepted write gives the register that it writes its new value
-pub acted-target : (h : Handler) (r v : ℕ) → h .n ≤ most → accepted h (Write r v) ≡ true
+-- a committed write gives the register that it writes its new value
+pub acted-target : (h : Handler) (r v : ℕ) → h .n ≤ most → stores h r v ≡ true
     → value (acted h (Write r v)) (target (decode (h .n) r)) ≡ newValue (decode (h .n) r) (value h (target (decode (h .n) r))) v
 acted-target h r v m e =
-    ap (λ (g : Handler). value g (target (decode (h .n) r))) (acted-is h (Write r v))
-    ∙ ap (λ (b : Bool). value (cond b (store h (decode (h .n) r) v) h) (target (decode (h .n) r))) e
-    ∙ own h (decode (h .n) r) v m (accepted-in-map h r v e)
+    acted-but-stages h (Write r v) (λ g. value g (target q) ≡ newValue q (value h (target q)) v)
+    (λ s. value-stages s (storedBy h (Write r v)) (target q) ∙ ap (λ (b : Bool). value (cond b (store h q v) h) (target q)) e ∙ own h q v m (accepted-in-map h r v (stores-accepted h r v e)))
+  where
+    q : Register
+    q = decode (h .n) r
 
 -- what takes a value as it is written can be read
 as-written : (w : Way) → asWritten w ≡ true → onlyWritten w ≡ false
@@ -227,10 +236,10 @@ pub read-answer : (h : Handler) (r : ℕ) → isRegister (decode (h .n) r) ≡ t
     → answerTo h (Read r) ≡ Answer.Value (value h (decode (h .n) r))
 read-answer h r a b =
     answer-accepted h (Read r)
-    (is-accepted h (Read r) (record { formed = refl; exists = ap not a; way = b; width = refl; free = refl }))
+    (is-accepted h (Read r) (record { formed = refl; exists = ap not a; way = b; width = refl; free = refl; same = refl }))
 
--- write, then read: the value comes back
-pub write-read : (h : Handler) (r v : ℕ) → h .n ≤ most → accepted h (Write r v) ≡ true → plain (decode (h .n) r) ≡ true
+-- commit, then read: the value comes back
+pub write-read : (h : Handler) (r v : ℕ) → h .n ≤ most → stores h r v ≡ true → plain (decode (h .n) r) ≡ true
     → answerTo (acted h (Write r v)) (Read r) ≡ Answer.Value v
 unfolding writeOnly
 write-read h r v m e f =

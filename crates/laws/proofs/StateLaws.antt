@@ -14,6 +14,7 @@ use Rattle.bits.specs.Bits.{place, wordOf}
 use Rattle.rules.specs.Access.{store, fieldStored}
 use Rattle.rules.specs.Samples.{sampled, alertEvent, occurs, rearmed, marked}
 use Rattle.rules.specs.State.{most, words, localCount, fieldIndex, local, alert, armed, localColumn, alertColumn, put}
+use Rattle.rules.specs.declared.Effects.{Effects}
 use Rattle.rules.specs.declared.Field.{Field}
 use Rattle.rules.specs.declared.Handler.{Handler}
 use Rattle.rules.specs.declared.Register.the-variants.{Local, Alert}
@@ -29,7 +30,7 @@ same-field f g e = field-eq f g (eqb-true (fieldIndex f) (fieldIndex g) e)
 -- ── a store: what is written at i, and all else as it was ──
 
 -- an entry of a column that is anew if b
-column-put : (b : Bool) (n : ℕ) (xs ys : List ℕ) (i v j : ℕ) → j < n → (b ≡ true → xs ≡ ys) → getD (cond b (put n xs 0 i v) ys) j 0 ≡ cond (b && eqb j i) v (getD ys j 0)
+pub column-put : (b : Bool) (n : ℕ) (xs ys : List ℕ) (i v j : ℕ) → j < n → (b ≡ true → xs ≡ ys) → getD (cond b (put n xs 0 i v) ys) j 0 ≡ cond (b && eqb j i) v (getD ys j 0)
 column-put true n xs ys i v j h e = at-put n xs 0 i j h v ∙ ap (λ (zs : List ℕ). cond (eqb j i) v (getD zs j 0)) (e refl)
 column-put false n xs ys i v j h e = refl
 
@@ -52,9 +53,9 @@ module _ (h : Handler) (f : Field) (i v : ℕ) (g : Field) (j : ℕ) where
 
 -- ── the samples: CAUSE is set where there is an event, and all else is as it was ──
 
-module _ (g : Handler) (w : Wires) where
+module _ (g : Handler) (w : Wires) (fx : Effects) where
   -- register f of alert i
-  pub alert-sampled : (f : Field) (i : ℕ) → i < most → alert (sampled g w) f i ≡ marked (sameField Field.Cause f && alertEvent g w i) (alert g f i)
+  pub alert-sampled : (f : Field) (i : ℕ) → i < most → alert (sampled g w fx) f i ≡ marked (sameField Field.Cause f && alertEvent g w i) (alert g f i)
   unfolding sampled
   alert-sampled Field.Regwen i l = refl
   alert-sampled Field.En i l = refl
@@ -62,15 +63,15 @@ module _ (g : Handler) (w : Wires) where
   alert-sampled Field.Cause i l = at-each most (λ j. marked (alertEvent g w j) (alert g Field.Cause j)) i 0 l
 
   -- register f of local alert i
-  pub local-sampled : (f : Field) (i : ℕ) → i < localCount → local (sampled g w) f i ≡ marked (sameField Field.Cause f && occurs g w i) (local g f i)
+  pub local-sampled : (f : Field) (i : ℕ) → i < localCount → local (sampled g w fx) f i ≡ marked (sameField Field.Cause f && occurs g w fx i) (local g f i)
   unfolding sampled
   local-sampled Field.Regwen i l = refl
   local-sampled Field.En i l = refl
   local-sampled Field.Class i l = refl
-  local-sampled Field.Cause i l = at-each localCount (λ j. marked (occurs g w j) (local g Field.Cause j)) i 0 l
+  local-sampled Field.Cause i l = at-each localCount (λ j. marked (occurs g w fx j) (local g Field.Cause j)) i 0 l
 
   -- the receiver of alert i, of those that have a bit
-  pub armed-sampled : (i : ℕ) → i < 64 * words → armed (sampled g w) i ≡ rearmed g w i
+  pub armed-sampled : (i : ℕ) → i < 64 * words → armed (sampled g w fx) i ≡ rearmed g w i
   unfolding sampled
   armed-sampled i l =
       let d : i / 64 < words = omega arith in

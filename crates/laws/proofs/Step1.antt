@@ -1,33 +1,71 @@
 -- Step 1 by its verdict: what an access leaves, and which classes have an accepted clear.
 -- Assumes nothing.
 use Prim.Native.Nat.{ℕ, _<_}
-use mathlib.Core.Path.{_≡_, refl, sym, _∙_, subst}
-use mathlib.Core.Bool.{true, false, false≢true, cond, _&&_}
+use mathlib.Core.Path.{_≡_, refl, sym, ap, _∙_, subst}
+use mathlib.Core.Bool.{Bool, true, false, false≢true, cond, not, _&&_}
 use native.Mathlib.Omega.{arith}
 use native.Mathlib.Decide.{decLt}
 use Rattle.bits.specs.Bits.{bit, bitsOf}
 use Rattle.bits.proofs.BitLaws.{bit-bitsOf, bit-none, bit-above, bitsOf-lt}
 use Rattle.bits.proofs.IndexLaws.{and-true}
-use Rattle.rules.specs.Access.{verdict, accepts, accepted, written, given, writesClr, noEffects, accessedBy, accessed, acted, answerTo, effects, clears}
-use Rattle.rules.specs.State.{classCount}
+use Rattle.rules.specs.Access.{store, verdict, accepts, accepted, isFirst, written, given, writesClr, drops, kept, accessedBy, accessed, acted, answerTo, effects, clears}
+use Rattle.rules.specs.Map.{decode}
+use Rattle.rules.specs.Stages.{staged, dropped}
+use Rattle.rules.specs.State.{classCount, withStages}
 use Rattle.rules.specs.declared.Access.{Access}
 use Rattle.rules.specs.declared.Handler.{Handler}
+use Rattle.rules.specs.declared.Refusal.{Refusal}
+use Rattle.rules.specs.declared.Register.{Register}
+use Rattle.rules.specs.declared.Stages.{Stages}
 use Rattle.rules.specs.declared.Verdict.{Verdict}
+use Rattle.laws.specs.RegisterFile.{storedBy}
 use Rattle.laws.proofs.Cases.{pick}
 
-module _ (h : Handler) (x : Access) where
-  -- an accepted write is done; a refused access leaves the state
-  pub acted-is : acted h x ≡ cond (accepted h x) (written h x) h
-  unfolding acted accessed
-  acted-is = go (verdict h x)
-    where
-      go : (v : Verdict) → accessedBy v h x .handler ≡ cond (accepts v) (written h x) h
-      go Verdict.Accepted = refl
-      go (Verdict.Refused m) = refl
+-- a stage is dropped by these verdicts: 3 and 12
+abbrev pub dropsBy : Verdict → Bool
+dropsBy Verdict.Accepted = false
+dropsBy (Verdict.Refused m) = drops m
 
-  -- what holds of the written state, and of the state before, holds of what the access leaves
-  pub acted-either : (P : Handler → Type 0) → (accepted h x ≡ true → P (written h x)) → (accepted h x ≡ false → P h) → P (acted h x)
-  acted-either P a r = subst P (sym acted-is) (pick P (accepted h x) (written h x) h a r)
+module _ (h : Handler) (x : Access) where
+  -- but for the stages, an access leaves what it stores
+  pub acted-is : acted h x ≡ withStages (acted h x .stages) (storedBy h x)
+  unfolding acted accessed written
+  acted-is = go x (verdict h x) refl
+    where
+      by : (v : Verdict) (y : Access) → Type 0
+      by v y = accessedBy v h y .handler ≡ withStages (accessedBy v h y .handler .stages) (storedBy h y)
+
+      -- a refused access stores nothing
+      kept-is : (m : Refusal) (y : Access) → kept m h y ≡ withStages (kept m h y .stages) h
+      kept-is m y = pick (λ (g : Handler). g ≡ withStages (g .stages) h) (drops m) _ _ (λ _. refl) (λ _. refl)
+
+      -- an accepted write, first or not
+      written-is : (q : Register) (v : ℕ) → written h q v ≡ withStages (written h q v .stages) (cond (not (isFirst h q)) (store h q v) h)
+      written-is q v = at (isFirst h q)
+        where
+          at : (b : Bool) → cond b (withStages (staged q v (h .stages)) h) (withStages (dropped q (h .stages)) (store h q v))
+              ≡ withStages (cond b (withStages (staged q v (h .stages)) h) (withStages (dropped q (h .stages)) (store h q v)) .stages)
+              (cond (not b) (store h q v) h)
+          at true = refl
+          at false = refl
+
+      go : (y : Access) (v : Verdict) → verdict h y ≡ v → by v y
+      go Access.Nothing Verdict.Accepted d = refl
+      go (Access.Read r) Verdict.Accepted d = refl
+      go (Access.Write r v) Verdict.Accepted d =
+          written-is (decode (h .n) r) v
+          ∙ ap (λ (t : Verdict). withStages (written h (decode (h .n) r) v .stages) (cond (accepts t && not (isFirst h (decode (h .n) r))) (store h (decode (h .n) r) v) h)) (sym d)
+      go Access.Malformed Verdict.Accepted d = refl
+      go Access.Nothing (Verdict.Refused m) d = kept-is m Access.Nothing
+      go (Access.Read r) (Verdict.Refused m) d = kept-is m (Access.Read r)
+      go (Access.Write r v) (Verdict.Refused m) d =
+          kept-is m (Access.Write r v)
+          ∙ ap (λ (t : Verdict). withStages (kept m h (Access.Write r v) .stages) (cond (accepts t && not (isFirst h (decode (h .n) r))) (store h (decode (h .n) r) v) h)) (sym d)
+      go Access.Malformed (Verdict.Refused m) d = kept-is m Access.Malformed
+
+  -- so what holds of that whatever the stages holds of what the access leaves
+  pub acted-but-stages : (P : Handler → Type 0) → ((s : Stages) → P (withStages s (storedBy h x))) → P (acted h x)
+  acted-but-stages P f = subst P (sym acted-is) (f (acted h x .stages))
 
   -- an accepted access answers what it gives
   pub answer-accepted : accepted h x ≡ true → answerTo h x ≡ given h x
@@ -37,15 +75,6 @@ module _ (h : Handler) (x : Access) where
       go : (v : Verdict) → accepts v ≡ true → accessedBy v h x .answer ≡ given h x
       go Verdict.Accepted e = refl
       go (Verdict.Refused m) e = absurd (false≢true e)
-
-  -- a refused access has no effect on the later steps
-  pub effects-refused : accepted h x ≡ false → effects h x ≡ noEffects
-  unfolding effects accessed
-  effects-refused e = go (verdict h x) e
-    where
-      go : (v : Verdict) → accepts v ≡ false → accessedBy v h x .effects ≡ noEffects
-      go Verdict.Accepted e = absurd (false≢true (sym e))
-      go (Verdict.Refused m) e = refl
 
   -- class k has an accepted clear if the access is accepted and writes 1 to its CLR
   pub clears-if : (k : ℕ) → k < classCount → clears h x k ≡ (accepted h x && writesClr h x k)

@@ -23,6 +23,7 @@ use Rattle.rules.specs.declared.Setting.{Setting}
 use Rattle.laws.specs.InMap.{inMap, settingExists}
 use Rattle.laws.specs.Facts.{ClassValid, Valid}
 use Rattle.laws.proofs.Cases.{by-kind, by-setting}
+use Rattle.laws.proofs.StageFits.{stages-at, stages-of}
 
 four-true : (a b c d : Bool) → (a && (b && (c && d))) ≡ true → (a ≡ true) × (b ≡ true) × (c ≡ true) × (d ≡ true)
 four-true true true c d e = (refl, refl, and-true c d e .0, and-true c d e .1)
@@ -121,13 +122,15 @@ facts h e =
     let c = and-true _ _ (b .1) in
     let d = and-true _ _ (c .1) in
     let f = and-true _ _ (d .1) in
+    let g = and-true _ _ (f .1) in
     record {
       n = leb-true _ _ (a .0);
       state = ltb-true _ _ (b .0);
       enable = ltb-true _ _ (c .0);
       locals = columns-at (λ g. localColumn g (h .locals)) localCount (d .0);
       alerts = columns-at (λ g. alertColumn g (h .alerts)) (h .n) (f .0);
-      classes = λ k l. class-facts (classAt h k) (all-at (λ x. classFits (classAt h x)) classCount (f .1) k l);
+      classes = λ k l. class-facts (classAt h k) (all-at (λ x. classFits (classAt h x)) classCount (g .0) k l);
+      stages = stages-at (h .n) (h .stages) (g .1);
     }
 
 -- and a state with the facts is one that it does not meet
@@ -139,7 +142,8 @@ is-valid h v =
     (true-and (lt-ltb _ _ (v .enable))
     (true-and (columns-of (λ g. localColumn g (h .locals)) localCount (v .locals))
     (true-and (columns-of (λ g. alertColumn g (h .alerts)) (h .n) (v .alerts))
-    (all-of (λ x. classFits (classAt h x)) classCount (λ k l. class-fits (classAt h k) (v .classes k l)))))))
+    (true-and (all-of (λ x. classFits (classAt h x)) classCount (λ k l. class-fits (classAt h k) (v .classes k l)))
+    (stages-of (h .n) (h .stages) (v .stages)))))))
 
 -- ── every register ──
 

@@ -5,10 +5,13 @@ use mathlib.Core.Path.{_≡_}
 use mathlib.Core.Bool.{true}
 use Rattle.class_rules.specs.Class.{phaseCyc, stateOf, stateFits, countFits}
 use Rattle.class_rules.specs.declared.Class.{Class}
-use Rattle.rules.specs.Map.{fieldBits}
+use Rattle.rules.specs.Map.{fieldBits, bits}
+use Rattle.rules.specs.Stages.{stage}
 use Rattle.rules.specs.State.{most, localCount, classCount, local, alert, classAt}
 use Rattle.rules.specs.declared.Field.{Field}
 use Rattle.rules.specs.declared.Handler.{Handler}
+use Rattle.rules.specs.declared.Register.{Register}
+use Rattle.laws.specs.InMap.{inMap}
 
 -- a class's registers hold no more than their fields' bits, STATE is a state's number, and the count suits the state
 pub record ClassValid (c : Class) : Type 0 where
@@ -23,7 +26,7 @@ pub record ClassValid (c : Class) : Type 0 where
   pub state : stateFits (c .state) ≡ true
   pub suits : countFits (stateOf (c .state)) (c .count) ≡ true
 
--- N is at most the most, and every register of the handler holds what its field can
+-- N is at most the most, every register of the handler holds what its field can, and so does every stage
 pub record Valid (h : Handler) : Type 0 where
   pub n : h .n ≤ most
   pub state : h .interrupts .state < 16
@@ -31,3 +34,5 @@ pub record Valid (h : Handler) : Type 0 where
   pub locals : (f : Field) (j : ℕ) → j < localCount → local h f j < 2 ^ fieldBits f
   pub alerts : (f : Field) (i : ℕ) → i < h .n → alert h f i < 2 ^ fieldBits f
   pub classes : (k : ℕ) → k < classCount → ClassValid (classAt h k)
+  -- a stage's code is that of none or of a value that its field can hold
+  pub stages : (q : Register) → inMap (h .n) q ≡ true → stage h q ≤ 2 ^ bits q

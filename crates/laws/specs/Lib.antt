@@ -2,6 +2,7 @@ pub mod InMap
 pub mod Carry
 pub mod Facts
 pub mod RegisterFile
+pub mod StageFile
 pub mod Refusals
 pub mod Frame
 pub mod Above

@@ -4,7 +4,7 @@ use Prim.Native.Nat.{ℕ}
 use mathlib.Core.Bool.{Bool, true, false, cond, not, _&&_, _||_}
 use lib.Dec.{eqb}
 use Rattle.bits.specs.Bits.{bit, bitsOf}
-use Rattle.rules.specs.Access.{accepted, fieldStored}
+use Rattle.rules.specs.Access.{accepted, isFirst, fieldStored, store}
 use Rattle.rules.specs.Map.{decode, numberOf, isRegister, settingRow, row}
 use Rattle.rules.specs.declared.Access.{Access}
 use Rattle.rules.specs.declared.Access.the-variants.{Nothing, Read, Write, Malformed}
@@ -50,12 +50,23 @@ newValue Unassigned old v = old
 abbrev pub writes : Register → Register → Bool
 writes q p = eqb (numberOf (target q)) (numberOf p)
 
+-- an accepted write that is no first write to a shadowed register
+abbrev pub stores : Handler → ℕ → ℕ → Bool
+stores h r v = accepted h (Write r v) && not (isFirst h (decode (h .n) r))
+
 -- the access changes p
 abbrev pub commits : Handler → Access → Register → Bool
 commits h Nothing p = false
 commits h (Read r) p = false
-commits h (Write r v) p = accepted h (Write r v) && writes (decode (h .n) r) p
+commits h (Write r v) p = stores h r v && writes (decode (h .n) r) p
 commits h Malformed p = false
+
+-- the state with what the access stores
+abbrev pub storedBy : Handler → Access → Handler
+storedBy h Nothing = h
+storedBy h (Read r) = h
+storedBy h (Write r v) = cond (stores h r v) (store h (decode (h .n) r) v) h
+storedBy h Malformed = h
 
 -- what a register that held old then holds
 abbrev pub committed : Handler → Access → ℕ → ℕ

@@ -7,7 +7,7 @@ use rules::Setting;
 use rules::Way;
 ghost use mathlib.Core.Path.{_≡_};
 ghost use Prim.Native.Nat.{_^_};
-ghost use Rattle.rules.specs.Map.{isRegister, onlyWritten, writeOnly, onlyRead, readOnly, bits, isLock, lockOf, guardBy, guard};
+ghost use Rattle.rules.specs.Map.{isRegister, onlyWritten, writeOnly, onlyRead, readOnly, bits, isLock, isShadowed, lockOf, guardBy, guard};
 
 // Whether there is such a register.
 pub fn is_register(q: Register) -> bool
@@ -70,6 +70,14 @@ pub fn is_lock(q: Register) -> bool
 {
     let row = row_of(q);
     row.lock
+}
+
+// Whether it takes two equal writes.
+pub fn is_shadowed(q: Register) -> bool
+    ensures { λ r. ⌜ r ≡ isShadowed q ⌝ }
+{
+    let row = row_of(q);
+    row.shadowed
 }
 
 // The lock of the alert or local alert that q belongs to, and lock s of its class.

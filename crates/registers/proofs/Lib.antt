@@ -1,3 +1,4 @@
 pub mod Past
 pub mod Stores
 pub mod Accesses
+pub mod Restages

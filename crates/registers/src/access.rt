@@ -1,7 +1,11 @@
 // "One tick", step 1: the access, on the state before any event of this tick.
 use crate::read::value_of;
+use crate::restage::drop_stage;
+use crate::restage::stage_value;
+use crate::stage::stage_of;
 use crate::verdict::verdict_of;
 use crate::write::stored;
+use map::column::is_shadowed;
 use map::number::register_at;
 use masks::class_bit;
 use rules::Access;
@@ -9,14 +13,17 @@ use rules::Accessed;
 use rules::Answer;
 use rules::Effects;
 use rules::Handler;
+use rules::Refusal;
 use rules::Register;
 use rules::Setting;
 use rules::Verdict;
 ghost use mathlib.Core.Path.{_≡_};
 ghost use mathlib.Core.Bool.{false, _&&_};
 ghost use lib.Dec.{eqb};
+ghost use Prim.Native.Nat.{_^_, _<_};
 ghost use Rattle.bits.specs.Bits.{bitsOf};
-ghost use Rattle.rules.specs.Access.{settingIsClr, isClrOf, tooWide, written, given, writesClr, accessed};
+ghost use Rattle.rules.specs.Map.{bits};
+ghost use Rattle.rules.specs.Access.{settingIsClr, isClrOf, tooWide, isFirst, written, left, given, writesClr, named, drops, kept, raisedBy, accessed};
 
 fn is_clr(s: Setting) -> bool
     ensures { λ r. ⌜ r ≡ settingIsClr s ⌝ }
@@ -50,53 +57,143 @@ fn clears_of(q: Register, v: u32) -> u8
     }
 }
 
-// What an accepted access does: a read gives the value, anything else 0.
+// The effects of an accepted access: its clears.
+fn clear(clears: u8) -> Effects
+    ensures { λ r. ⌜ r ≡ record { clears = clears; raises = 0 } ⌝ }
+{
+    Effects { clears, raises: 0 }
+}
+
+// A first write to a shadowed register, while it has no stage.
+fn is_first(h: Handler, q: Register) -> bool
+    ensures { λ r. ⌜ r ≡ isFirst h q ⌝ }
+{
+    is_shadowed(q) & !(stage_of(h, q) != 0)
+}
+
+// An accepted write: the first to a shadowed register is staged, any other is stored and leaves no stage.
+fn write(h: Handler, q: Register, v: u32) -> Handler
+    requires { ⌜ v < 2 ^ bits q ⌝ }
+    ensures { λ r. ⌜ r ≡ written h q v ⌝ }
+{
+    if is_first(h, q) {
+        stage_value(h, q, v)
+    } else {
+        drop_stage(stored(h, q, v), q)
+    }
+}
+
+// What an accepted access does: a read gives the value and drops the stage, anything else gives 0.
 fn act(h: Handler, x: Access) -> Accessed
     requires { ⌜ tooWide h x ≡ false ⌝ }
-    ensures { λ r. ⌜ r ≡ (record { handler = written h x; answer = given h x; effects = record { clears = bitsOf 4 (writesClr h x) } }) ⌝ }
+    ensures { λ r. ⌜ r ≡ (record { handler = left h x; answer = given h x; effects = record { clears = bitsOf 4 (writesClr h x); raises = 0 } }) ⌝ }
 {
     match x {
         Access::Nothing => Accessed {
             handler: h,
             answer: Answer::Done,
-            effects: Effects { clears: 0 },
+            effects: clear(0),
         },
         Access::Read(r) => {
             let q = register_at(h.n, r);
             Accessed {
-                handler: h,
+                handler: drop_stage(h, q),
                 answer: Answer::Value(value_of(h, q)),
-                effects: Effects { clears: 0 },
+                effects: clear(0),
             }
         }
         Access::Write(r, v) => {
             let q = register_at(h.n, r);
             Accessed {
-                handler: stored(h, q, v),
+                handler: write(h, q, v),
                 answer: Answer::Done,
-                effects: Effects {
-                    clears: clears_of(q, v),
-                },
+                effects: clear(clears_of(q, v)),
             }
         }
         Access::Malformed => Accessed {
             handler: h,
             answer: Answer::Done,
-            effects: Effects { clears: 0 },
+            effects: clear(0),
         },
     }
 }
 
-// Step 1: the state after it, the answer, and its effects on the later steps. A refused access does nothing.
+// The register that an access names.
+fn name(h: Handler, x: Access) -> Register
+    ensures { λ r. ⌜ r ≡ named h x ⌝ }
+{
+    match x {
+        Access::Nothing => Register::Unassigned,
+        Access::Read(r) => register_at(h.n, r),
+        Access::Write(r, _) => register_at(h.n, r),
+        Access::Malformed => Register::Unassigned,
+    }
+}
+
+// 3 and 12 drop the stage of the register that is named.
+fn drops_stage(m: Refusal) -> bool
+    ensures { λ r. ⌜ r ≡ drops m ⌝ }
+{
+    match m {
+        Refusal::NoRegister => false,
+        Refusal::WrongWay => false,
+        Refusal::Locked => true,
+        Refusal::TooWide => false,
+        Refusal::BadRecord => false,
+        Refusal::BadCount => false,
+        Refusal::BadState => false,
+        Refusal::BadLength => false,
+        Refusal::ShortList => false,
+        Refusal::NoRecord => false,
+        Refusal::ShortBuffer => false,
+        Refusal::Differs => true,
+    }
+}
+
+// 12 raises local 5, shadow update.
+fn raises_of(m: Refusal) -> u8
+    ensures { λ r. ⌜ r ≡ raisedBy m ⌝ }
+{
+    match m {
+        Refusal::NoRegister => 0,
+        Refusal::WrongWay => 0,
+        Refusal::Locked => 0,
+        Refusal::TooWide => 0,
+        Refusal::BadRecord => 0,
+        Refusal::BadCount => 0,
+        Refusal::BadState => 0,
+        Refusal::BadLength => 0,
+        Refusal::ShortList => 0,
+        Refusal::NoRecord => 0,
+        Refusal::ShortBuffer => 0,
+        Refusal::Differs => 32,
+    }
+}
+
+// What a refused access leaves.
+fn keep(h: Handler, x: Access, m: Refusal) -> Handler
+    ensures { λ r. ⌜ r ≡ kept m h x ⌝ }
+{
+    if drops_stage(m) {
+        drop_stage(h, name(h, x))
+    } else {
+        h
+    }
+}
+
+// Step 1: the state after it, the answer, and its effects on the later steps.
 pub fn access(h: Handler, x: Access) -> Accessed
     ensures { λ r. ⌜ r ≡ accessed h x ⌝ }
 {
     match verdict_of(h, x) {
         Verdict::Accepted => act(h, x),
         Verdict::Refused(m) => Accessed {
-            handler: h,
+            handler: keep(h, x, m),
             answer: Answer::Refused(m),
-            effects: Effects { clears: 0 },
+            effects: Effects {
+                clears: 0,
+                raises: raises_of(m),
+            },
         },
     }
 }

@@ -1,5 +1,7 @@
 // Step 1 of a tick: what a register holds, the verdict on an access, and what the access does.
 pub mod access;
 pub mod read;
+mod restage;
+mod stage;
 pub mod verdict;
 mod write;

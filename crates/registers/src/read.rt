@@ -13,7 +13,7 @@ ghost use Rattle.rules.specs.State.{localColumn, alertColumn};
 ghost use Rattle.rules.specs.Access.{settingValue, value};
 
 // Entry i of a column, and 0 past its end.
-fn entry(xs: &[u8], i: usize) -> u8
+pub fn entry(xs: &[u8], i: usize) -> u8
     ensures { λ r. ⌜ r ≡ getD (now (xs .entry)) i 0 ⌝ }
 {
     if i < xs.len() { xs[i] } else { 0 }

@@ -1,5 +1,6 @@
-// "One tick", step 1: the refusals of an access, in the order 5, 1, 2, 4, 3.
+// "One tick", step 1: the refusals of an access, in the order 5, 1, 2, 4, 3, 12.
 use crate::read::value_of;
+use crate::stage::stage_of;
 use map::column::guard_of;
 use map::column::is_lock;
 use map::column::is_register;
@@ -17,7 +18,7 @@ ghost use mathlib.Core.Bool.{false, not};
 ghost use Rattle.bits.specs.Bits.{fits};
 ghost use Rattle.rules.specs.Map.{isRegister, bits, writeOnly, readOnly};
 ghost use Rattle.rules.specs.Answer.{firstOf};
-ghost use Rattle.rules.specs.Access.{locked, bars, inOrder, verdict};
+ghost use Rattle.rules.specs.Access.{locked, bars, unlike, inOrder, verdict};
 
 // A register is locked while the REGWEN that guards it is 0.
 pub fn is_locked(h: Handler, q: Register) -> bool
@@ -34,9 +35,17 @@ fn is_barred(h: Handler, q: Register, v: u32) -> bool
     is_locked(h, q) & !(is_lock(q) & (v == 0))
 }
 
-// The first refusal whose case holds, in the order 5, 1, 2, 4, 3, or acceptance.
-fn first_refusal(bad: bool, none: bool, wrong: bool, wide: bool, shut: bool) -> Verdict
-    ensures { λ r. ⌜ r ≡ firstOf (inOrder bad none wrong wide shut) ⌝ }
+// The register has a stage open with another value.
+fn is_unlike(h: Handler, q: Register, v: u32) -> bool
+    ensures { λ r. ⌜ r ≡ unlike h q v ⌝ }
+{
+    let code = stage_of(h, q);
+    (code != 0) & (code != v as u64 + 1)
+}
+
+// The first refusal whose case holds, in the order 5, 1, 2, 4, 3, 12, or acceptance.
+fn first_refusal(bad: bool, none: bool, wrong: bool, wide: bool, shut: bool, other: bool) -> Verdict
+    ensures { λ r. ⌜ r ≡ firstOf (inOrder bad none wrong wide shut other) ⌝ }
 {
     if bad {
         Verdict::Refused(Refusal::BadRecord)
@@ -48,6 +57,8 @@ fn first_refusal(bad: bool, none: bool, wrong: bool, wide: bool, shut: bool) -> 
         Verdict::Refused(Refusal::TooWide)
     } else if shut {
         Verdict::Refused(Refusal::Locked)
+    } else if other {
+        Verdict::Refused(Refusal::Differs)
     } else {
         Verdict::Accepted
     }
@@ -55,18 +66,19 @@ fn first_refusal(bad: bool, none: bool, wrong: bool, wide: bool, shut: bool) -> 
 
 // The refusals of a read.
 fn read_verdict(q: Register) -> Verdict
-    ensures { λ r. ⌜ r ≡ firstOf (inOrder false (not (isRegister q)) (writeOnly q) false false) ⌝ }
+    ensures { λ r. ⌜ r ≡ firstOf (inOrder false (not (isRegister q)) (writeOnly q) false false false) ⌝ }
 {
-    first_refusal(false, !is_register(q), write_only(q), false, false)
+    first_refusal(false, !is_register(q), write_only(q), false, false, false)
 }
 
 // The refusals of a write.
 fn write_verdict(h: Handler, q: Register, v: u32) -> Verdict
-    ensures { λ r. ⌜ r ≡ firstOf (inOrder false (not (isRegister q)) (readOnly q) (not (fits (bits q) v)) (bars h q v)) ⌝ }
+    ensures { λ r. ⌜ r ≡ firstOf (inOrder false (not (isRegister q)) (readOnly q) (not (fits (bits q) v)) (bars h q v) (unlike h q v)) ⌝ }
 {
     let wide = !((v as u64) < limit(q));
     let shut = is_barred(h, q, v);
-    first_refusal(false, !is_register(q), read_only(q), wide, shut)
+    let other = is_unlike(h, q, v);
+    first_refusal(false, !is_register(q), read_only(q), wide, shut, other)
 }
 
 // The verdict on an access.
@@ -74,9 +86,9 @@ pub fn verdict_of(h: Handler, x: Access) -> Verdict
     ensures { λ r. ⌜ r ≡ verdict h x ⌝ }
 {
     match x {
-        Access::Nothing => first_refusal(false, false, false, false, false),
+        Access::Nothing => first_refusal(false, false, false, false, false, false),
         Access::Read(r) => read_verdict(register_at(h.n, r)),
         Access::Write(r, v) => write_verdict(h, register_at(h.n, r), v),
-        Access::Malformed => first_refusal(true, false, false, false, false),
+        Access::Malformed => first_refusal(true, false, false, false, false, false),
     }
 }

@@ -47,7 +47,7 @@ fn field_stored(f: Field, old: u8, v: u8) -> u8
 }
 
 // The column with w at i, where there is such an entry.
-fn set_entry(xs: &mut [u8], i: usize, w: u8)
+pub fn set_entry(xs: &mut [u8], i: usize, w: u8)
     ensures { λ r. ⌜ now (xs .exit) ≡ set (now (xs .entry)) i w ⌝ }
 {
     if i < xs.len() {

@@ -3,10 +3,9 @@
 use Prim.Native.Nat.{ℕ}
 use mathlib.Core.Path.{_≡_, refl}
 use mathlib.Core.Bool.{true, false}
-use mathlib.Core.List.{List, [], _∷_, map}
+use mathlib.Core.List.{List, [], _∷_, _++_, map}
 use lib.IntN.{ℤ, pos}
-use Rattle.rules.specs.Access.{acted, answerTo, clears, accessed}
-use Rattle.rules.specs.Answer.{number}
+use Rattle.rules.specs.Access.{acted, clears, accessed}
 use Rattle.rules.specs.Samples.{sampled}
 use Rattle.rules.specs.State.{newHandler, withInterrupts}
 use Rattle.rules.specs.declared.Access.{Access}
@@ -15,36 +14,25 @@ use Rattle.rules.specs.declared.Handler.{Handler}
 use Rattle.rules.specs.declared.Register.the-variants.{IntrEnable, Local, Alert, Block}
 use Rattle.rules.specs.declared.Setting.{Setting}
 use Rattle.rules.specs.declared.Setting.the-variants.{Ctrl, ClrRegwen, AccumThresh, TimeoutCyc, PhaseCyc}
-use Rattle.rules.specs.Scenes.{raise, write, gives, refused}
-use Rattle.rules.proofs.Scenes.{rules, ready}
-
--- the state after these accesses, and the number that an access answers
-abbrev acts : Handler → List Access → Handler
-acts h [] = h
-acts h (x ∷ xs) = acts (acted h x) xs
-
-abbrev answers : Handler → Access → ℤ
-answers h x = number (answerTo h x)
-
-abbrev reads : Handler → ℕ → ℤ
-reads h r = answers h (Access.Read r)
+use Rattle.rules.specs.Scenes.{raise, write, configure, gives, refused}
+use Rattle.rules.proofs.Scenes.{rules, acts, answers, reads, ready}
 
 -- a handler whose registers all differ where they can
 abbrev full : Handler
 full =
     acts (newHandler 248)
-    (write (Block TimeoutCyc 2) 4294967295
-    ∷ write (Block (PhaseCyc 0) 2) 10
-    ∷ write (Block (PhaseCyc 1) 2) 11
-    ∷ write (Block (PhaseCyc 2) 2) 12
-    ∷ write (Block (PhaseCyc 3) 2) 13
-    ∷ write (Block AccumThresh 2) 65535
-    ∷ write (Block Ctrl 2) 0x3FFF
-    ∷ write (Alert Field.En 247) 1
-    ∷ write (Alert Field.Class 247) 3
-    ∷ write (Local Field.En 6) 1
-    ∷ write (Local Field.Class 6) 2
-    ∷ write IntrEnable 9
+    (configure (Block TimeoutCyc 2) 4294967295
+    ++ configure (Block (PhaseCyc 0) 2) 10
+    ++ configure (Block (PhaseCyc 1) 2) 11
+    ++ configure (Block (PhaseCyc 2) 2) 12
+    ++ configure (Block (PhaseCyc 3) 2) 13
+    ++ configure (Block AccumThresh 2) 65535
+    ++ configure (Block Ctrl 2) 0x3FFF
+    ++ configure (Alert Field.En 247) 1
+    ++ configure (Alert Field.Class 247) 3
+    ++ configure (Local Field.En 6) 1
+    ++ configure (Local Field.Class 6) 2
+    ++ write IntrEnable 9
     ∷ write (Alert Field.Regwen 246) 0
     ∷ write (Local Field.Regwen 5) 0
     ∷ write (Block ClrRegwen 3) 0
@@ -68,8 +56,9 @@ reads-back : (allRead (1312 ∷ 1313 ∷ 1314 ∷ 1316 ∷ 1317 ∷ 1318 ∷ [])
 unfolding rules
 reads-back = (refl, refl, refl, refl, refl)
 
--- P2 and P3: a refused write, too wide or locked, leaves the register
-refused-writes : (reads (acts (newHandler 1) (Access.Write 1285 65535 ∷ Access.Write 1285 65536 ∷ [])) 1285 ≡ pos 65535)
+-- P2, as request (v) writes it anew, and P3: a refused write, too wide or locked, leaves the register
+refused-writes : (reads (acts (newHandler 1) (Access.Write 1285 65535 ∷ Access.Write 1285 65536 ∷ Access.Write 1285 65535 ∷ Access.Write 1285 65536 ∷ [])) 1285
+    ≡ pos 65535)
     × (reads (acts (newHandler 1) (Access.Write 1280 0 ∷ Access.Write 1281 7 ∷ [])) 1281 ≡ pos 0x393C)
     × (reads (acts (newHandler 1) (Access.Write 1280 0 ∷ Access.Write 1280 1 ∷ [])) 1280 ≡ pos 0)
     × (acted (newHandler 1) (Access.Write 1284 7) ≡ newHandler 1)
@@ -90,7 +79,7 @@ intr = (refl, refl, refl, refl, refl)
 
 -- "In CAUSE a written 1 clears": a 0 leaves it
 abbrev caused : Handler
-caused = sampled (ready 9) (raise 0 Access.Nothing .sample .alerts)
+caused = sampled (ready 9) (raise 0 Access.Nothing .sample .alerts) (record { clears = 0; raises = 0 })
 
 cause : (reads caused 1024 ≡ pos 1) × (reads (acted caused (Access.Write 1024 0)) 1024 ≡ pos 1) × (reads (acted caused (Access.Write 1024 1)) 1024 ≡ pos 0)
 unfolding rules

@@ -10,7 +10,7 @@ use Rattle.rules.specs.State.{newHandler, made, withClasses}
 use Rattle.rules.specs.declared.Access.{Access}
 use Rattle.rules.specs.declared.Answer.{Answer}
 use Rattle.rules.specs.declared.Handler.{Handler}
-use Rattle.rules.specs.declared.Refusal.the-variants.{NoRegister, WrongWay, Locked, TooWide, BadRecord, BadCount, BadState, BadLength, ShortList, NoRecord, ShortBuffer}
+use Rattle.rules.specs.declared.Refusal.the-variants.{NoRegister, WrongWay, Locked, TooWide, BadRecord, BadCount, BadState, BadLength, ShortList, NoRecord, ShortBuffer, Differs}
 use Rattle.rules.specs.Scenes.{rest, gives, refused}
 use Rattle.rules.proofs.Scenes.{rules, then}
 
@@ -29,8 +29,9 @@ numbers : (number (Answer.Value 4294967295) ≡ pos 4294967295)
     × (number (Answer.Refused ShortList) ≡ negsuc 8)
     × (number (Answer.Refused NoRecord) ≡ negsuc 9)
     × (number (Answer.Refused ShortBuffer) ≡ negsuc 10)
+    × (number (Answer.Refused Differs) ≡ negsuc 11)
 unfolding rules
-numbers = (refl, refl, refl, refl, refl, refl, refl, refl, refl, refl, refl, refl, refl, refl)
+numbers = (refl, refl, refl, refl, refl, refl, refl, refl, refl, refl, refl, refl, refl, refl, refl)
 
 -- "N is 0 or over 64: a handler of no alerts, otherwise as new"; request (iii): 6 reads 248
 makes : (made 0 ≡ record { handler = newHandler 0; answer = refused 6 })
@@ -48,7 +49,7 @@ no-alerts : gives (newHandler 0) (rest (Access.Read 1281)) ≡ pos 0x393C
 unfolding rules
 no-alerts = refl
 
--- "All REGWEN and CLR_REGWEN start at 1, all CTRL at 0x393C, every other register at 0, classes Idle, alerts re-armed"
+-- "All REGWEN and CLR_REGWEN start at 1, all CTRL at 0x393C, every other register at 0, classes Idle, alerts re-armed"; no stage is open
 new : newHandler 1
     ≡ record {
       n = 1;
@@ -69,6 +70,12 @@ new : newHandler 1
       alerts = record { regwen = replicate 248 1; en = replicate 248 0; class = replicate 248 0; cause = replicate 248 0 };
       locals = record { regwen = replicate 7 1; en = replicate 7 0; class = replicate 7 0; cause = replicate 7 0 };
       interrupts = record { state = 0; enable = 0 };
+      stages =
+          record {
+            classes = replicate 4 (record { lengths = replicate 4 0; timeout = 0; ctrl = 0; thresh = 0 });
+            alerts = record { en = replicate 248 0; class = replicate 248 0 };
+            locals = record { en = replicate 7 0; class = replicate 7 0 };
+          };
     }
 unfolding rules
 new = refl

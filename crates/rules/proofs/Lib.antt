@@ -7,3 +7,5 @@ pub mod SampleExamples
 pub mod TickExamples
 pub mod TraceExamples
 pub mod WriterExamples
+pub mod StageExamples
+pub mod ShadowExamples

@@ -5,7 +5,7 @@ use mathlib.Core.Path.{_≡_, refl}
 use mathlib.Core.Bool.{true, false}
 use mathlib.Core.List.{List, [], _∷_, map}
 use lib.ListN.{replicate}
-use Rattle.rules.specs.Map.{decode, numberOf, row, bits, readOnly, writeOnly, guard, isLock, isRegister}
+use Rattle.rules.specs.Map.{decode, numberOf, row, bits, readOnly, writeOnly, guard, isLock, isShadowed, isRegister}
 use Rattle.rules.specs.declared.Field.{Field}
 use Rattle.rules.specs.declared.Register.{Register}
 use Rattle.rules.specs.declared.Register.the-variants.{IntrState, IntrEnable, IntrTest, Local, Alert, Block, Unassigned}
@@ -110,6 +110,15 @@ guards : (map (λ r. numberOf (guard (decode 248 r))) (261 ∷ 517 ∷ 773 ∷ 1
     × (map (λ q. numberOf (guard q)) (IntrState ∷ IntrEnable ∷ IntrTest ∷ []) ≡ 3 ∷ 3 ∷ 3 ∷ [])
 unfolding rules
 guards = (refl, refl, refl, refl)
+
+-- request (v): "EN and CLASS of alerts and local alerts, and CTRL, ACCUM_THRESH, TIMEOUT_CYC and the phase lengths"
+shadowed : (map isShadowed (IntrState ∷ IntrEnable ∷ IntrTest ∷ Unassigned ∷ []) ≡ replicate 4 false)
+    × (map (λ r. isShadowed (decode 248 r)) (18 ∷ 26 ∷ 34 ∷ 42 ∷ 261 ∷ 517 ∷ 773 ∷ 1029 ∷ [])
+    ≡ false ∷ true ∷ true ∷ false ∷ false ∷ true ∷ true ∷ false ∷ [])
+    × (map isShadowed (blockOf 0)
+    ≡ false ∷ true ∷ false ∷ false ∷ false ∷ true ∷ true ∷ true ∷ true ∷ true ∷ true ∷ false ∷ false ∷ false ∷ false ∷ [])
+unfolding rules
+shadowed = (refl, refl, refl)
 
 -- the REGWEN and CLR_REGWEN
 lock-registers : (map (λ r. isLock (decode 248 r)) (0 ∷ 18 ∷ 26 ∷ 261 ∷ 517 ∷ []) ≡ false ∷ true ∷ false ∷ true ∷ false ∷ [])

@@ -45,10 +45,13 @@ arming = (refl, refl, refl, refl, refl, refl, refl)
 abbrev off : Handler
 off = station 1 (replicate 248 0) (replicate 248 0) 0 (settings 0x393F 0 0 zeros)
 
+abbrev enable : Access
+enable = write (Alert Field.En 0) 1
+
 disabled : (armed (run off (raise 0 none ∷ [])) 0 ≡ false)
-    × (holds off (raise 0 none ∷ raise 0 (write (Alert Field.En 0) 1) ∷ []) (Alert Field.Cause 0) ≡ 0)
-    × (holds off (raise 0 (write (Alert Field.En 0) 1) ∷ []) (Alert Field.Cause 0) ≡ 1)
-    × (accum off (raise 0 none ∷ raise 0 (write (Alert Field.En 0) 1) ∷ []) ≡ 0)
+    × (holds off (rest enable ∷ raise 0 none ∷ raise 0 enable ∷ []) (Alert Field.Cause 0) ≡ 0)
+    × (holds off (rest enable ∷ raise 0 enable ∷ []) (Alert Field.Cause 0) ≡ 1)
+    × (accum off (rest enable ∷ raise 0 none ∷ raise 0 enable ∷ []) ≡ 0)
     × (holds off (raise 0 none ∷ []) (Alert Field.Cause 0) ≡ 0)
 unfolding rules
 disabled = (refl, refl, refl, refl, refl)
@@ -60,9 +63,9 @@ unfolding rules
 together = (refl, refl)
 
 -- an alert's event with its class off sets its cause, and no interrupt
-class-off : (holds (newHandler 1) (raise 0 (write (Alert Field.En 0) 1) ∷ []) (Alert Field.Cause 0) ≡ 1)
-    × (holds (newHandler 1) (raise 0 (write (Alert Field.En 0) 1) ∷ []) IntrState ≡ 0)
-    × (accum (newHandler 1) (raise 0 (write (Alert Field.En 0) 1) ∷ []) ≡ 0)
+class-off : (holds (newHandler 1) (rest enable ∷ raise 0 enable ∷ []) (Alert Field.Cause 0) ≡ 1)
+    × (holds (newHandler 1) (rest enable ∷ raise 0 enable ∷ []) IntrState ≡ 0)
+    × (accum (newHandler 1) (rest enable ∷ raise 0 enable ∷ []) ≡ 0)
 unfolding rules
 class-off = (refl, refl, refl)
 
@@ -127,11 +130,11 @@ locals : (holds integrity (bothHigh 1 none ∷ []) (Local Field.Cause 2) ≡ 1)
     × (holds on1 (bothHigh 1 none ∷ []) IntrState ≡ 2)
     × (holds on1 (bothHigh 1 none ∷ []) (Block AccumCnt 1) ≡ 1)
     × (holds on1 (raise 1 none ∷ []) (Local Field.Cause 2) ≡ 0)
-    × (holds on1 (bothHigh 1 (write (Local Field.En 2) 0) ∷ []) (Local Field.Cause 2) ≡ 0)
+    × (holds on1 (rest (write (Local Field.En 2) 0) ∷ bothHigh 1 (write (Local Field.En 2) 0) ∷ []) (Local Field.Cause 2) ≡ 0)
 unfolding rules
 locals = (refl, refl, refl, refl, refl, refl, refl, refl, refl)
 
--- "Only 2 can occur in the base": all local alerts enabled, all causes but that of 2 stay 0
+-- of the wires only 2 comes: all local alerts enabled, all causes but that of 2 stay 0
 abbrev all7 : Handler
 all7 =
     withLocals (record { regwen = replicate 7 1; en = replicate 7 1; class = replicate 7 0; cause = replicate 7 0 })

@@ -1,7 +1,8 @@
 -- States that the examples share.
 -- Assumes nothing.
 use Prim.Native.Nat.{ℕ}
-use mathlib.Core.List.{List, _∷_}
+use mathlib.Core.List.{List, [], _∷_}
+use lib.IntN.{ℤ}
 use lib.ListN.{set, replicate}
 use Rattle.bits.specs.Bits.{bit, bitsOf, wordOf}
 use Rattle.bits.specs.Index.{eachFrom, anyTo, allTo}
@@ -11,10 +12,11 @@ use Rattle.class_rules.specs.Class.{stateOf, drives, classFits}
 use Rattle.class_rules.specs.Step.{counted, startsFrom, movedFrom, classStep}
 use Rattle.rules.specs.Answer.{number, firstOf}
 use Rattle.rules.specs.State.{put, newHandler, made, resetClass, withAlerts, withClasses}
-use Rattle.rules.specs.Map.{blockAt, decode, numberOf, bits, writeOnly, readOnly, guard, isLock}
+use Rattle.rules.specs.Map.{blockAt, decode, numberOf, bits, writeOnly, readOnly, guard, isLock, isShadowed}
+use Rattle.rules.specs.Stages.{stageIn, withStage, dropped}
 use Rattle.rules.specs.Scenes.{rest}
-use Rattle.rules.specs.Valid.{valid}
-use Rattle.rules.specs.Access.{value, locked, verdict, store, acted, answerTo, effects, clears, accessed}
+use Rattle.rules.specs.Valid.{classStagesFit, stagesFit, valid}
+use Rattle.rules.specs.Access.{value, locked, verdict, store, written, acted, answerTo, effects, clears, accessed}
 use Rattle.rules.specs.Samples.{alertEvent, alertBroken, rearmed, raised, occurs, sampled, assigned}
 use Rattle.rules.specs.Tick.{event, interruptNow, signals, stepped, interrupts, lines, outputOf, after, tick, ticked}
 use Rattle.rules.specs.Run.{run, ticks}
@@ -29,8 +31,19 @@ use Rattle.rules.specs.declared.Handler.{Handler}
 
 -- names every definition that an example computes with: `unfolding rules` opens them all
 unfoldable pub rules : ℕ → ℕ
-unfolding bit bitsOf wordOf eachFrom anyTo allTo pack unpack stateOf drives classFits counted startsFrom movedFrom classStep number firstOf put newHandler made blockAt decode numberOf carried24 bits writeOnly readOnly guard isLock valid value locked verdict store acted answerTo effects clears accessed alertEvent alertBroken rearmed raised occurs sampled assigned event interruptNow signals stepped interrupts lines outputOf after tick ticked run ticks accessOf heldIn inputOf Word.wordOf recordOf recordable inputsOf admits batchVerdict batchOf batch recordsOf anyUnrecordable writeVerdict writeOf Writer.write
+unfolding bit bitsOf wordOf eachFrom anyTo allTo pack unpack stateOf drives classFits counted startsFrom movedFrom classStep number firstOf put newHandler made blockAt decode numberOf carried24 bits writeOnly readOnly guard isLock isShadowed stageIn withStage dropped classStagesFit stagesFit valid value locked verdict store written acted answerTo effects clears accessed alertEvent alertBroken rearmed raised occurs sampled assigned event interruptNow signals stepped interrupts lines outputOf after tick ticked run ticks accessOf heldIn inputOf Word.wordOf recordOf recordable inputsOf admits batchVerdict batchOf batch recordsOf anyUnrecordable writeVerdict writeOf Writer.write
 rules n = n
+
+-- the state after these accesses, and the number that an access or a read answers
+abbrev pub acts : Handler → List Access → Handler
+acts h [] = h
+acts h (x ∷ xs) = acts (acted h x) xs
+
+abbrev pub answers : Handler → Access → ℤ
+answers h x = number (answerTo h x)
+
+abbrev pub reads : Handler → ℕ → ℤ
+reads h r = answers h (Access.Read r)
 
 -- the state after an access with all wires at (0,1)
 abbrev pub then : Handler → Access → Handler

@@ -17,7 +17,7 @@ use Rattle.rules.specs.declared.Register.the-variants.{IntrState, IntrEn
 use Rattle.rules.specs.declared.Setting.{Setting}
 use Rattle.rules.specs.declared.Setting.the-variants.{Ctrl, ClrRegwen, Clr, AccumCnt, TimeoutCyc, PhaseCyc, EscCnt}
 use Rattle.rules.specs.declared.Ticked.{Ticked}
-use Rattle.rules.specs.Scenes.{rest, raise, none, write, gives, refused}
+use Rattle.rules.specs.Scenes.{rest, raise, none, write, configure, gives, refused}
 use Rattle.rules.proofs.Scenes.{rules, settings, zeros, station, pair, ready}
 
 abbrev holds : Handler → List Input → Register → ℕ
@@ -85,20 +85,20 @@ due-now : (state (timed 1) (raise 0 none ∷ []) ≡ 1)
     × (state (timed 2) (rest (write IntrTest 1) ∷ []) ≡ 1)
     × (holds (timed 2) (rest (write IntrTest 1) ∷ []) (Block AccumCnt 0) ≡ 0)
     × (state (timed 2) (raise 0 none ∷ rest (write IntrState 1) ∷ []) ≡ 0)
-    × (state (timed 2) (raise 0 none ∷ rest (write (Block TimeoutCyc 0) 0) ∷ []) ≡ 0)
+    × (state (timed 2) (rest (write (Block TimeoutCyc 0) 0) ∷ raise 0 none ∷ rest (write (Block TimeoutCyc 0) 0) ∷ []) ≡ 0)
     × (state (timed 2) (rest (write IntrTest 2) ∷ []) ≡ 0)
 unfolding rules
 due-now = (refl, refl, refl, refl, refl, refl, refl, refl, refl, refl)
 
 -- request (i): a Timeout whose line enables are switched off falls back to Idle, the interrupt bit still 1; it is due again once one is back
 abbrev waiting : List Input
-waiting = raise 0 none ∷ rest (write (Block Ctrl 0) noLines) ∷ []
+waiting = rest (write (Block Ctrl 0) noLines) ∷ raise 0 none ∷ rest (write (Block Ctrl 0) noLines) ∷ []
 
 falls-back : (state (timed 9) (raise 0 none ∷ []) ≡ 1)
     × (state (timed 9) waiting ≡ 0)
     × (holds (timed 9) waiting (Block EscCnt 0) ≡ 0)
     × (holds (timed 9) waiting IntrState ≡ 1)
-    × (state (timed 9) (waiting ++ (rest (write (Block Ctrl 0) 0x3907) ∷ [])) ≡ 1)
+    × (state (timed 9) (waiting ++ map rest (configure (Block Ctrl 0) 0x3907)) ≡ 1)
 unfolding rules
 falls-back = (refl, refl, refl, refl, refl)
 
@@ -128,11 +128,14 @@ unfolding rules
 under-lock = (refl, refl, refl)
 
 -- a write acts in its own tick: EN or all lines off in a phase, which goes on; a length shortened below the count
-in-phase : (state started (rest (write (Block Ctrl 0) 0) ∷ rest none ∷ []) ≡ 4)
-    × (holds started (rest (write (Block Ctrl 0) noLines) ∷ rest none ∷ []) (Block EscCnt 0) ≡ 3)
-    × (state started (rest (write (Block Ctrl 0) noLines) ∷ replicate 11 (rest none)) ≡ 3)
-    × (ticked started (rest (write (Block Ctrl 0) noLines)) .output .lines ≡ 0)
-    × (state started (rest none ∷ rest none ∷ rest (write (Block (PhaseCyc 0) 0) 1) ∷ []) ≡ 5)
+abbrev linesOff : Access
+linesOff = write (Block Ctrl 0) noLines
+
+in-phase : (state started (map rest (configure (Block Ctrl 0) 0) ++ (rest none ∷ [])) ≡ 4)
+    × (holds started (rest linesOff ∷ rest linesOff ∷ []) (Block EscCnt 0) ≡ 3)
+    × (state started (rest linesOff ∷ rest linesOff ∷ replicate 10 (rest none)) ≡ 3)
+    × (ticked (run started (rest linesOff ∷ [])) (rest linesOff) .output .lines ≡ 0)
+    × (state started (rest none ∷ map rest (configure (Block (PhaseCyc 0) 0) 1)) ≡ 5)
 unfolding rules
 in-phase = (refl, refl, refl, refl, refl)
 

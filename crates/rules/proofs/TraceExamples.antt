@@ -129,11 +129,14 @@ two-records : (batch Bytes24 (newHandler 1) (reads321 ++ writes1023) (7 ∷ 8 �
 unfolding rules
 two-records = (refl, refl, refl)
 
--- a batch runs each record on the state that the one before it left: EN of alert 0, EN and line 0 of class 0, then a rise
-abbrev rises : List ℕ
-rises = bytes 0x88000000 1 0 (2 ^ 63) ++ bytes 0x94100000 5 0 (2 ^ 63) ++ bytes 0x54C00000 0 (2 ^ 63) 0 ++ bytes 0x54C00000 0 (2 ^ 63) 0
+-- a batch runs each record on the state that the one before it left: EN of alert 0, EN and line 0 of class 0, twice each, then a rise
+abbrev twice : List ℕ → List ℕ
+twice b = b ++ b
 
-run-on : batch Bytes24 (newHandler 1) rises (0 ∷ 0 ∷ 0 ∷ 0 ∷ []) .out ≡ 0 ∷ 0 ∷ 0x0800000000000000 ∷ 4 ∷ []
+abbrev rises : List ℕ
+rises = twice (bytes 0x88000000 1 0 (2 ^ 63)) ++ twice (bytes 0x94100000 5 0 (2 ^ 63)) ++ bytes 0x54C00000 0 (2 ^ 63) 0 ++ bytes 0x54C00000 0 (2 ^ 63) 0
+
+run-on : batch Bytes24 (newHandler 1) rises (replicate 6 0) .out ≡ 0 ∷ 0 ∷ 0 ∷ 0 ∷ 0x0800000000000000 ∷ 4 ∷ []
 unfolding rules
 run-on = refl
 

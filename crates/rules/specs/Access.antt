@@ -1,6 +1,6 @@
 -- "One tick", step 1: the access, on the state before any event of this tick.
 -- Assumes nothing.
-use Prim.Native.Nat.{ℕ}
+use Prim.Native.Nat.{ℕ, _+_, _^_}
 use mathlib.Core.Bool.{Bool, true, false, cond, not, _&&_, _||_}
 use mathlib.Core.List.{List, [], _∷_}
 use lib.Dec.{eqb}
@@ -8,9 +8,10 @@ use Rattle.bits.specs.Bits.{bit, bitsOf, fits}
 use Rattle.bits.specs.Index.{each}
 use Rattle.class_rules.specs.Class.{noClass, phaseCyc}
 use Rattle.class_rules.specs.declared.Class.{Class}
-use Rattle.rules.specs.Answer.{Case, firstOf}
-use Rattle.rules.specs.Map.{offset, decode, isRegister, bits, writeOnly, readOnly, guard, isLock}
-use Rattle.rules.specs.State.{most, localCount, classCount, local, alert, classAt, localColumn, alertColumn, withInterrupts, withLocals, withAlerts, withClasses, withLocalColumn, withAlertColumn, put}
+use Rattle.rules.specs.Answer.{Case, firstOf, refusalNumber}
+use Rattle.rules.specs.Map.{offset, decode, isRegister, bits, writeOnly, readOnly, guard, isLock, isShadowed}
+use Rattle.rules.specs.Stages.{stage, isOpen, staged, dropped}
+use Rattle.rules.specs.State.{most, localCount, classCount, local, alert, classAt, localColumn, alertColumn, withInterrupts, withLocals, withAlerts, withClasses, withStages, withLocalColumn, withAlertColumn, put}
 use Rattle.rules.specs.declared.Access.{Access}
 use Rattle.rules.specs.declared.Access.the-variants.{Nothing, Read, Write, Malformed}
 use Rattle.rules.specs.declared.Accessed.{Accessed}
@@ -18,7 +19,8 @@ use Rattle.rules.specs.declared.Answer.{Answer}
 use Rattle.rules.specs.declared.Effects.{Effects}
 use Rattle.rules.specs.declared.Field.{Field}
 use Rattle.rules.specs.declared.Handler.{Handler}
-use Rattle.rules.specs.declared.Refusal.the-variants.{NoRegister, WrongWay, Locked, TooWide, BadRecord}
+use Rattle.rules.specs.declared.Refusal.{Refusal}
+use Rattle.rules.specs.declared.Refusal.the-variants.{NoRegister, WrongWay, Locked, TooWide, BadRecord, Differs}
 use Rattle.rules.specs.declared.Register.{Register}
 use Rattle.rules.specs.declared.Register.the-variants.{IntrState, IntrEnable, IntrTest, Local, Alert, Block, Unassigned}
 use Rattle.rules.specs.declared.Setting.{Setting}
@@ -92,18 +94,29 @@ barred h (Read r) = false
 barred h (Write r v) = bars h (decode (h .n) r) v
 barred h Malformed = false
 
--- for an access the order is 5, 1, 2, 4, 3, after 7; each with whether its case holds
-abbrev pub inOrder : Bool → Bool → Bool → Bool → Bool → List Case
-inOrder bad none wrong wide shut =
+-- 12: the register has a stage open with another value
+abbrev pub unlike : Handler → Register → ℕ → Bool
+unlike h q v = isOpen (h .stages) q && not (eqb (stage h q) (v + 1))
+
+abbrev pub differs : Handler → Access → Bool
+differs h Nothing = false
+differs h (Read r) = false
+differs h (Write r v) = unlike h (decode (h .n) r) v
+differs h Malformed = false
+
+-- for an access the order is 5, 1, 2, 4, 3, 12, after 7; each with whether its case holds
+abbrev pub inOrder : Bool → Bool → Bool → Bool → Bool → Bool → List Case
+inOrder bad none wrong wide shut other =
     record { refusal = BadRecord; holds = bad }
     ∷ record { refusal = NoRegister; holds = none }
     ∷ record { refusal = WrongWay; holds = wrong }
     ∷ record { refusal = TooWide; holds = wide }
     ∷ record { refusal = Locked; holds = shut }
+    ∷ record { refusal = Differs; holds = other }
     ∷ []
 
 abbrev pub accessCases : Handler → Access → List Case
-accessCases h x = inOrder (malformed x) (noRegister h x) (wrongWay h x) (tooWide h x) (barred h x)
+accessCases h x = inOrder (malformed x) (noRegister h x) (wrongWay h x) (tooWide h x) (barred h x) (differs h x)
 
 unfoldable pub verdict : Handler → Access → Verdict
 verdict h x = firstOf (accessCases h x)
@@ -155,11 +168,22 @@ accepts (Verdict.Refused m) = false
 abbrev pub accepted : Handler → Access → Bool
 accepted h x = accepts (verdict h x)
 
-abbrev pub written : Handler → Access → Handler
-written h Nothing = h
-written h (Read r) = h
-written h (Write r v) = store h (decode (h .n) r) v
-written h Malformed = h
+-- the first write to a shadowed register, while it has no stage
+abbrev pub isFirst : Handler → Register → Bool
+isFirst h q = isShadowed q && not (isOpen (h .stages) q)
+
+-- request (v): the first write is staged, and acts on nothing; the second, equal one is stored and its stage is gone; what is not
+-- shadowed is stored at once
+unfoldable pub written : Handler → Register → ℕ → Handler
+written h q v =
+    cond (isFirst h q) (withStages (staged q v (h .stages)) h) (withStages (dropped q (h .stages)) (store h q v))
+
+-- a read of a register drops its stage
+abbrev pub left : Handler → Access → Handler
+left h Nothing = h
+left h (Read r) = withStages (dropped (decode (h .n) r) (h .stages)) h
+left h (Write r v) = written h (decode (h .n) r) v
+left h Malformed = h
 
 -- a read gives the value, anything else accepted 0
 abbrev pub given : Handler → Access → Answer
@@ -188,14 +212,32 @@ writesClr h (Read r) k = false
 writesClr h (Write r v) k = isClrOf k (decode (h .n) r) && eqb v 1
 writesClr h Malformed k = false
 
--- what an access leaves, answers and hands to the later steps goes by its verdict: a refused one does nothing
-abbrev pub noEffects : Effects
-noEffects = record { clears = 0 }
+-- ── a refused access ──
 
+-- the register that an access names
+abbrev pub named : Handler → Access → Register
+named h Nothing = Unassigned
+named h (Read r) = decode (h .n) r
+named h (Write r v) = decode (h .n) r
+named h Malformed = Unassigned
+
+-- 3 and 12 drop the stage of the register that is named; every other refusal touches no stage
+abbrev pub drops : Refusal → Bool
+drops m = eqb (refusalNumber m) 3 || eqb (refusalNumber m) 12
+
+abbrev pub kept : Refusal → Handler → Access → Handler
+kept m h x = cond (drops m) (withStages (dropped (named h x) (h .stages)) h) h
+
+-- 12 raises local 5, shadow update
+abbrev pub raisedBy : Refusal → ℕ
+raisedBy m = cond (eqb (refusalNumber m) 12) (2 ^ 5) 0
+
+-- what an access leaves, answers and hands to the later steps goes by its verdict
 abbrev pub accessedBy : Verdict → Handler → Access → Accessed
 accessedBy Verdict.Accepted h x =
-    record { handler = written h x; answer = given h x; effects = record { clears = bitsOf 4 (writesClr h x) } }
-accessedBy (Verdict.Refused m) h x = record { handler = h; answer = Answer.Refused m; effects = noEffects }
+    record { handler = left h x; answer = given h x; effects = record { clears = bitsOf 4 (writesClr h x); raises = 0 } }
+accessedBy (Verdict.Refused m) h x =
+    record { handler = kept m h x; answer = Answer.Refused m; effects = record { clears = 0; raises = raisedBy m } }
 
 unfoldable pub accessed : Handler → Access → Accessed
 accessed h x = accessedBy (verdict h x) h x

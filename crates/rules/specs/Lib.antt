@@ -1,6 +1,7 @@
 pub mod Answer
 pub mod State
 pub mod Map
+pub mod Stages
 pub mod Valid
 pub mod Access
 pub mod Samples

@@ -94,38 +94,39 @@ isRegister Unassigned = false
 
 -- ── what is known of each register: the map's table, a row for each ──
 
--- a row: bits, way, guard, whether it is a lock, whether steps 2 to 4 of a tick move it
-abbrev line : ℕ → Way → Guard → Bool → Bool → Row
-line b w g l m = record { bits = b; way = w; guard = g; lock = l; moves = m }
+-- a row: bits, way, guard, whether it is a lock, whether steps 2 to 4 of a tick move it, whether it is shadowed: EN and CLASS of alerts and
+-- local alerts, and CTRL, ACCUM_THRESH, TIMEOUT_CYC and the phase lengths
+abbrev line : ℕ → Way → Guard → Bool → Bool → Bool → Row
+line b w g l m s = record { bits = b; way = w; guard = g; lock = l; moves = m; shadowed = s }
 
 -- of an alert or a local alert
 abbrev pub fieldRow : Field → Row
-fieldRow Field.Regwen = line 1 Both ByRegwen true false
-fieldRow Field.En = line 1 Both ByRegwen false false
-fieldRow Field.Class = line 2 Both ByRegwen false false
-fieldRow Field.Cause = line 1 OneClears Free false true
+fieldRow Field.Regwen = line 1 Both ByRegwen true false false
+fieldRow Field.En = line 1 Both ByRegwen false false true
+fieldRow Field.Class = line 2 Both ByRegwen false false true
+fieldRow Field.Cause = line 1 OneClears Free false true false
 
 -- of a class's block
 abbrev pub settingRow : Setting → Row
-settingRow Setting.Regwen = line 1 Both ByRegwen true false
-settingRow Ctrl = line 14 Both ByRegwen false false
-settingRow ClrRegwen = line 1 Both ByClrRegwen true true
-settingRow Clr = line 1 WriteOnly ByClrRegwen false false
-settingRow AccumCnt = line 16 ReadOnly Free false true
-settingRow AccumThresh = line 16 Both ByRegwen false false
-settingRow TimeoutCyc = line 32 Both ByRegwen false false
-settingRow (PhaseCyc p) = line 32 Both ByRegwen false false
-settingRow EscCnt = line 32 ReadOnly Free false true
-settingRow Setting.State = line 3 ReadOnly Free false true
+settingRow Setting.Regwen = line 1 Both ByRegwen true false false
+settingRow Ctrl = line 14 Both ByRegwen false false true
+settingRow ClrRegwen = line 1 Both ByClrRegwen true true false
+settingRow Clr = line 1 WriteOnly ByClrRegwen false false false
+settingRow AccumCnt = line 16 ReadOnly Free false true false
+settingRow AccumThresh = line 16 Both ByRegwen false false true
+settingRow TimeoutCyc = line 32 Both ByRegwen false false true
+settingRow (PhaseCyc p) = line 32 Both ByRegwen false false true
+settingRow EscCnt = line 32 ReadOnly Free false true false
+settingRow Setting.State = line 3 ReadOnly Free false true false
 
 abbrev pub row : Register → Row
-row IntrState = line 4 OneClears Free false true
-row IntrEnable = line 4 Both Free false false
-row IntrTest = line 4 WriteOnly Free false false
+row IntrState = line 4 OneClears Free false true false
+row IntrEnable = line 4 Both Free false false false
+row IntrTest = line 4 WriteOnly Free false false false
 row (Local f j) = fieldRow f
 row (Alert f i) = fieldRow f
 row (Block s k) = settingRow s
-row Unassigned = line 0 Both Free false false
+row Unassigned = line 0 Both Free false false false
 
 -- ── its columns ──
 
@@ -159,6 +160,10 @@ readOnly q = onlyRead (row q .way)
 -- is it a REGWEN or CLR_REGWEN?
 unfoldable pub isLock : Register → Bool
 isLock q = row q .lock
+
+-- does it take two equal writes?
+unfoldable pub isShadowed : Register → Bool
+isShadowed q = row q .shadowed
 
 -- the lock of the alert or local alert that q belongs to, and lock s of its class
 abbrev pub lockOf : Setting → Register → Register

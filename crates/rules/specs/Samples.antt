@@ -1,11 +1,12 @@
--- "One tick", step 2: the samples.
+-- "One tick", step 2: the samples, of the handler g after step 1, the wires w and the effects e of step 1.
 -- Assumes nothing.
 use Prim.Native.Nat.{ℕ, _+_, _*_}
 use mathlib.Core.Bool.{Bool, true, false, cond, not, _&&_, _||_}
 use lib.Dec.{eqb, ltb}
-use Rattle.bits.specs.Bits.{wordOf}
+use Rattle.bits.specs.Bits.{bit, wordOf}
 use Rattle.bits.specs.Index.{each, anyTo, placeIn}
 use Rattle.rules.specs.State.{most, words, localCount, local, alert, armed, withLocals, withAlerts, withReceivers, withLocalColumn, withAlertColumn}
+use Rattle.rules.specs.declared.Effects.{Effects}
 use Rattle.rules.specs.declared.Field.{Field}
 use Rattle.rules.specs.declared.Handler.{Handler}
 use Rattle.rules.specs.declared.Wires.{Wires}
@@ -53,13 +54,13 @@ rearmed g w i = cond (ltb i (g .n)) (armedAfter (armed g i) (positive w i) (nega
 
 -- ── local alert j ──
 
--- local 2 is raised if any enabled alert has equal wires; in the base no other is
-unfoldable pub raised : Handler → Wires → ℕ → Bool
-raised g w j = eqb j 2 && anyTo (alertBroken g w) (g .n)
+-- local 2 is raised if any enabled alert has equal wires, the others by step 1: local 5 by a write that differs from its stage
+unfoldable pub raised : Handler → Wires → Effects → ℕ → Bool
+raised g w e j = (eqb j 2 && anyTo (alertBroken g w) (g .n)) || bit (e .raises) j
 
 -- a disabled local alert never occurs
-unfoldable pub occurs : Handler → Wires → ℕ → Bool
-occurs g w j = raised g w j && eqb (local g Field.En j) 1
+unfoldable pub occurs : Handler → Wires → Effects → ℕ → Bool
+occurs g w e j = raised g w e j && eqb (local g Field.En j) 1
 
 -- ── the state after step 2, and what is assigned to a class ──
 
@@ -67,14 +68,14 @@ occurs g w j = raised g w j && eqb (local g Field.En j) 1
 abbrev pub marked : Bool → ℕ → ℕ
 marked on cause = cond on 1 cause
 
-unfoldable pub sampled : Handler → Wires → Handler
-sampled g w =
+unfoldable pub sampled : Handler → Wires → Effects → Handler
+sampled g w e =
     withReceivers (record { armed = each words (λ v. wordOf 64 (λ b. rearmed g w (v * 64 + b))) })
     (withAlerts (withAlertColumn Field.Cause (each most (λ i. marked (alertEvent g w i) (alert g Field.Cause i))) (g .alerts))
-    (withLocals (withLocalColumn Field.Cause (each localCount (λ j. marked (occurs g w j) (local g Field.Cause j))) (g .locals)) g))
+    (withLocals (withLocalColumn Field.Cause (each localCount (λ j. marked (occurs g w e j) (local g Field.Cause j))) (g .locals)) g))
 
 -- an enabled alert's event or an occurring local alert is assigned to class k
-unfoldable pub assigned : Handler → Wires → ℕ → Bool
-assigned g w k =
+unfoldable pub assigned : Handler → Wires → Effects → ℕ → Bool
+assigned g w e k =
     anyTo (λ i. alertEvent g w i && eqb (alert g Field.Class i) k) (g .n)
-    || anyTo (λ j. occurs g w j && eqb (local g Field.Class j) k) localCount
+    || anyTo (λ j. occurs g w e j && eqb (local g Field.Class j) k) localCount

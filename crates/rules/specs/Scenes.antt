@@ -1,6 +1,7 @@
 -- Ticks as the examples and the cases of document 01 write them: inputs, and what is seen of them.
 -- Assumes nothing.
 use Prim.Native.Nat.{ℕ, _-_, _^_}
+use mathlib.Core.List.{List, [], _∷_}
 use lib.IntN.{ℤ, pos, negℤ}
 use lib.ListN.{replicate}
 use Rattle.bits.specs.Fields.{unpack}
@@ -46,6 +47,10 @@ none = Access.Nothing
 
 abbrev pub write : Register → ℕ → Access
 write q v = Access.Write (numberOf q) v
+
+-- request (v): a shadowed register takes two equal writes
+abbrev pub configure : Register → ℕ → List Access
+configure q v = write q v ∷ write q v ∷ []
 
 -- ── what is seen ──
 

@@ -18,6 +18,7 @@ use Rattle.rules.specs.declared.Locals.{Locals}
 use Rattle.rules.specs.declared.Made.{Made}
 use Rattle.rules.specs.declared.Receivers.{Receivers}
 use Rattle.rules.specs.declared.Refusal.the-variants.{BadCount}
+use Rattle.rules.specs.declared.Stages.{Stages}
 
 -- ── sizes ──
 
@@ -74,23 +75,27 @@ armed h i = placeIn (h .receivers .armed) i
 
 abbrev pub withInterrupts : Interrupts → Handler → Handler
 withInterrupts x h =
-    record { n = h .n; receivers = h .receivers; classes = h .classes; alerts = h .alerts; locals = h .locals; interrupts = x }
+    record { n = h .n; receivers = h .receivers; classes = h .classes; alerts = h .alerts; locals = h .locals; interrupts = x; stages = h .stages }
 
 abbrev pub withLocals : Locals → Handler → Handler
 withLocals x h =
-    record { n = h .n; receivers = h .receivers; classes = h .classes; alerts = h .alerts; locals = x; interrupts = h .interrupts }
+    record { n = h .n; receivers = h .receivers; classes = h .classes; alerts = h .alerts; locals = x; interrupts = h .interrupts; stages = h .stages }
 
 abbrev pub withAlerts : Alerts → Handler → Handler
 withAlerts x h =
-    record { n = h .n; receivers = h .receivers; classes = h .classes; alerts = x; locals = h .locals; interrupts = h .interrupts }
+    record { n = h .n; receivers = h .receivers; classes = h .classes; alerts = x; locals = h .locals; interrupts = h .interrupts; stages = h .stages }
 
 abbrev pub withReceivers : Receivers → Handler → Handler
 withReceivers x h =
-    record { n = h .n; receivers = x; classes = h .classes; alerts = h .alerts; locals = h .locals; interrupts = h .interrupts }
+    record { n = h .n; receivers = x; classes = h .classes; alerts = h .alerts; locals = h .locals; interrupts = h .interrupts; stages = h .stages }
 
 abbrev pub withClasses : List Class → Handler → Handler
 withClasses x h =
-    record { n = h .n; receivers = h .receivers; classes = x; alerts = h .alerts; locals = h .locals; interrupts = h .interrupts }
+    record { n = h .n; receivers = h .receivers; classes = x; alerts = h .alerts; locals = h .locals; interrupts = h .interrupts; stages = h .stages }
+
+abbrev pub withStages : Stages → Handler → Handler
+withStages x h =
+    record { n = h .n; receivers = h .receivers; classes = h .classes; alerts = h .alerts; locals = h .locals; interrupts = h .interrupts; stages = x }
 
 abbrev pub withLocalColumn : Field → List ℕ → Locals → Locals
 withLocalColumn f x l =
@@ -130,6 +135,15 @@ resetClass =
       state = 0;
     }
 
+-- request (v): no stage is open
+abbrev pub noStages : Stages
+noStages =
+    record {
+      classes = replicate classCount (record { lengths = replicate 4 0; timeout = 0; ctrl = 0; thresh = 0 });
+      alerts = record { en = replicate most 0; class = replicate most 0 };
+      locals = record { en = replicate localCount 0; class = replicate localCount 0 };
+    }
+
 unfoldable pub newHandler : ℕ → Handler
 newHandler n =
     record {
@@ -145,6 +159,7 @@ newHandler n =
             cause = replicate localCount 0;
           };
       interrupts = record { state = 0; enable = 0 };
+      stages = noStages;
     }
 
 -- refusal 6: N is 0 or over the most; it leaves a handler of no alerts, otherwise as new

@@ -23,22 +23,22 @@ use Rattle.rules.specs.declared.Wires.{Wires}
 -- ── steps 3 and 4, of the handler g after step 1, the wires w and the effects of step 1 ──
 
 -- class k has an event
-unfoldable pub event : Handler → Wires → ℕ → Bool
-event g w k = classEvent (assigned g w k) (classAt g k)
+unfoldable pub event : Handler → Wires → Effects → ℕ → Bool
+event g w e k = classEvent (assigned g w e k) (classAt g k)
 
 -- it sets the interrupt bit, after any clearing in step 1
-unfoldable pub interruptNow : Handler → Wires → ℕ → Bool
-interruptNow g w k = bit (g .interrupts .state) k || event g w k
+unfoldable pub interruptNow : Handler → Wires → Effects → ℕ → Bool
+interruptNow g w e k = bit (g .interrupts .state) k || event g w e k
 
 -- what class k meets
 unfoldable pub signals : Handler → Wires → Effects → ℕ → Signals
-signals g w e k = record { event = event g w k; interrupt = interruptNow g w k; clear = bit (e .clears) k }
+signals g w e k = record { event = event g w e k; interrupt = interruptNow g w e k; clear = bit (e .clears) k }
 
 -- the state after steps 2 to 4
 unfoldable pub stepped : Handler → Wires → Effects → Handler
 stepped g w e =
     withClasses (each classCount (λ k. classStep (signals g w e k) (classAt g k)))
-    (withInterrupts (record { state = bitsOf 4 (interruptNow g w); enable = g .interrupts .enable }) (sampled g w))
+    (withInterrupts (record { state = bitsOf 4 (interruptNow g w e); enable = g .interrupts .enable }) (sampled g w e))
 
 -- ── step 5: outputs from the state now reached ──
 

@@ -1,6 +1,6 @@
 -- "Numbers that come back": the rule of refusal 7.
 -- Assumes nothing.
-use Prim.Native.Nat.{ℕ}
+use Prim.Native.Nat.{ℕ, _^_}
 use mathlib.Core.Bool.{Bool, _&&_}
 use mathlib.Core.List.{List}
 use lib.Dec.{leb}
@@ -8,10 +8,14 @@ use lib.ListN.{getD}
 use Rattle.bits.specs.Bits.{fits}
 use Rattle.bits.specs.Index.{allTo}
 use Rattle.class_rules.specs.Class.{classFits}
-use Rattle.rules.specs.Map.{fieldBits}
+use Rattle.rules.specs.Map.{fieldBits, settingBits}
+use Rattle.rules.specs.Stages.{localStages, alertStages, classStages}
 use Rattle.rules.specs.State.{most, localCount, classCount, localColumn, alertColumn, classAt}
 use Rattle.rules.specs.declared.Field.{Field}
 use Rattle.rules.specs.declared.Handler.{Handler}
+use Rattle.rules.specs.declared.ClassStages.{ClassStages}
+use Rattle.rules.specs.declared.Setting.the-variants.{Ctrl, AccumThresh, TimeoutCyc, PhaseCyc}
+use Rattle.rules.specs.declared.Stages.{Stages}
 
 -- the first n registers of a column hold no more than b bits each
 abbrev pub columnFits : ℕ → List ℕ → ℕ → Bool
@@ -25,6 +29,29 @@ columnsFit column n =
     && (columnFits (fieldBits Field.Class) (column Field.Class) n
     && columnFits (fieldBits Field.Cause) (column Field.Cause) n))
 
+-- a stage's code is none's, or a value's that has no more than b bits
+abbrev pub codeFits : ℕ → ℕ → Bool
+codeFits b c = leb c (2 ^ b)
+
+abbrev pub codesFit : ℕ → List ℕ → ℕ → Bool
+codesFit b xs n = allTo (λ i. codeFits b (getD xs i 0)) n
+
+-- EN and CLASS of the local alerts, and of the alerts below N
+abbrev pub fieldStagesFit : (Field → List ℕ) → ℕ → Bool
+fieldStagesFit column n = codesFit (fieldBits Field.En) (column Field.En) n && codesFit (fieldBits Field.Class) (column Field.Class) n
+
+unfoldable pub classStagesFit : ClassStages → Bool
+classStagesFit c =
+    codeFits (settingBits Ctrl) (c .ctrl)
+    && (codeFits (settingBits AccumThresh) (c .thresh)
+    && (codeFits (settingBits TimeoutCyc) (c .timeout) && codesFit (settingBits (PhaseCyc 0)) (c .lengths) 4))
+
+-- request (v): 7 also covers a staged value over its field
+unfoldable pub stagesFit : ℕ → Stages → Bool
+stagesFit n s =
+    fieldStagesFit (λ f. localStages f (s .locals)) localCount
+    && (fieldStagesFit (λ f. alertStages f (s .alerts)) n && allTo (λ k. classStagesFit (classStages s k)) classCount)
+
 -- Refusal 7 means: N over 248 (request (iii); 64 in document 01), any register holding more than its field's bits, a STATE of 2, or a class count that is not 0
 -- in Idle or Terminal or is 0 in Timeout or a phase. This is its opposite. It does not look at entries at N and above.
 unfoldable pub valid : Handler → Bool
@@ -33,4 +60,5 @@ valid h =
     && (fits 4 (h .interrupts .state)
     && (fits 4 (h .interrupts .enable)
     && (columnsFit (λ f. localColumn f (h .locals)) localCount
-    && (columnsFit (λ f. alertColumn f (h .alerts)) (h .n) && allTo (λ k. classFits (classAt h k)) classCount))))
+    && (columnsFit (λ f. alertColumn f (h .alerts)) (h .n)
+    && (allTo (λ k. classFits (classAt h k)) classCount && stagesFit (h .n) (h .stages))))))

@@ -37,6 +37,35 @@ pub struct Receivers {
     pub armed: [u64; WORDS],
 }
 
+// Stages, request (v): what the first of two equal writes left at a shadowed register. A stage's code is 0 for none, and the staged
+// value plus 1.
+#[repr(C)]
+pub struct ClassStages {
+    pub lengths: [u64; 4],
+    pub timeout: u64,
+    pub ctrl: u32,
+    pub thresh: u32,
+}
+
+#[repr(C)]
+pub struct AlertStages {
+    pub en: [u8; MOST],
+    pub class: [u8; MOST],
+}
+
+#[repr(C)]
+pub struct LocalStages {
+    pub en: [u8; 7],
+    pub class: [u8; 7],
+}
+
+#[repr(C)]
+pub struct Stages {
+    pub classes: [ClassStages; 4],
+    pub alerts: AlertStages,
+    pub locals: LocalStages,
+}
+
 #[repr(C)]
 pub struct Handler {
     pub n: usize,
@@ -45,6 +74,7 @@ pub struct Handler {
     pub alerts: Alerts,
     pub locals: Locals,
     pub interrupts: Interrupts,
+    pub stages: Stages,
 }
 
 // ---- Registers: a register number decoded into kind and index. ----
@@ -105,6 +135,8 @@ pub struct Row {
     pub lock: bool,
     // steps 2 to 4 of a tick change it by themselves
     pub moves: bool,
+    // it takes two equal writes
+    pub shadowed: bool,
 }
 
 // ---- What goes in. ----
@@ -154,6 +186,7 @@ pub enum Refusal {
     ShortList,
     NoRecord,
     ShortBuffer,
+    Differs,
 }
 
 pub enum Verdict {
@@ -186,6 +219,8 @@ pub struct Made {
 pub struct Effects {
     // the classes with an accepted clear, class 0 at the lowest bit
     pub clears: u8,
+    // the local alerts that it raises, local 0 at the lowest bit
+    pub raises: u8,
 }
 
 // The state after step 1, the answer, and the effects.

@@ -6,3 +6,4 @@ pub mod Turns
 pub mod Noting
 pub mod Unbroken
 pub mod Steps
+pub mod Masks

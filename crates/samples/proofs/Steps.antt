@@ -15,6 +15,7 @@ use Rattle.bits.proofs.IndexLaws.{each-ext, any-ext}
 use Rattle.bits.proofs.WordLaws.{placeIn-each, or-bitsOf}
 use Rattle.rules.specs.State.{most, words, localCount, local, alert, armed, withLocals, withAlerts, withReceivers, withLocalColumn, withAlertColumn}
 use Rattle.rules.specs.Samples.{happens, equal, positive, negative, alertEnabled, alertEvent, alertBroken, rearmed, raised, occurs, marked, sampled, assigned}
+use Rattle.rules.specs.declared.Effects.{Effects}
 use Rattle.rules.specs.declared.Field.{Field}
 use Rattle.rules.specs.declared.Handler.{Handler}
 use Rattle.rules.specs.declared.Wires.{Wires}
@@ -42,10 +43,10 @@ holding g armed cause localCause =
     withReceivers (record { armed = armed })
     (withAlerts (withAlertColumn Field.Cause cause (g .alerts)) (withLocals (withLocalColumn Field.Cause localCause (g .locals)) g))
 
-module _ (g : Handler) (w : Wires) (r : Received) (m : Gathered) (o : Occurred) (mask : ℕ) (small : g .n ≤ most)
+module _ (g : Handler) (w : Wires) (fx : Effects) (r : Received) (m : Gathered) (o : Occurred) (mask : ℕ) (small : g .n ≤ most)
     (received : ReceivedAll (g .n) (g .receivers .armed) (w .pos) (w .neg) r)
     (gathered : GatheredAll (g .n) (r .events) (r .equal) (g .alerts .en) (g .alerts .class) (g .alerts .cause) m)
-    (raises : mask ≡ bitsOf localCount (raisedBy (m .broken)))
+    (raises : mask ≡ bitsOf localCount (raisedBy (m .broken) (fx .raises)))
     (occurred : OccurredAll mask (g .locals .en) (g .locals .class) (g .locals .cause) o) where
   -- the enabled alerts with an event are those of the rules
   events : (i : ℕ) → i < g .n → amongWords (r .events) (g .alerts .en) i ≡ alertEvent g w i
@@ -61,18 +62,18 @@ module _ (g : Handler) (w : Wires) (r : Received) (m : Gathered) (o : Occurred) 
   broken = gathered .broke ∙ any-ext (amongWords (r .equal) (g .alerts .en)) (alertBroken g w) (g .n) breaks
 
   -- the local alerts that occur are those of the rules
-  locals : (j : ℕ) → j < localCount → amongBits mask (g .locals .en) j ≡ occurs g w j
+  locals : (j : ℕ) → j < localCount → amongBits mask (g .locals .en) j ≡ occurs g w fx j
   unfolding occurs raised
   locals j h =
       ap (λ (t : Bool). t && enabledIn (g .locals .en) j)
-      (ap (λ (x : ℕ). bit x j) raises ∙ bit-bitsOf localCount (raisedBy (m .broken)) j h ∙ ap (λ (t : Bool). raisedBy t j) broken)
+      (ap (λ (x : ℕ). bit x j) raises ∙ bit-bitsOf localCount (raisedBy (m .broken) (fx .raises)) j h ∙ ap (λ (t : Bool). raisedBy t (fx .raises) j) broken)
 
   -- so the loops noted the events of the rules
   alerts-noted : Noted (alertEvent g w) (g .alerts .class) (g .alerts .cause) most (g .n) (m .cause) (m .hits)
   alerts-noted = noted-by (amongWords (r .events) (g .alerts .en)) (alertEvent g w) (g .alerts .class) (g .alerts .cause) most (g .n) (m .cause) (m .hits) events (gathered .noted)
 
-  locals-noted : Noted (occurs g w) (g .locals .class) (g .locals .cause) localCount localCount (o .cause) (o .hits)
-  locals-noted = noted-by (amongBits mask (g .locals .en)) (occurs g w) (g .locals .class) (g .locals .cause) localCount localCount (o .cause) (o .hits) locals occurred
+  locals-noted : Noted (occurs g w fx) (g .locals .class) (g .locals .cause) localCount localCount (o .cause) (o .hits)
+  locals-noted = noted-by (amongBits mask (g .locals .en)) (occurs g w fx) (g .locals .class) (g .locals .cause) localCount localCount (o .cause) (o .hits) locals occurred
 
   -- an event sets its cause
   alerts-cause : m .cause ≡ each most (λ i. marked (alertEvent g w i) (alert g Field.Cause i))
@@ -82,14 +83,14 @@ module _ (g : Handler) (w : Wires) (r : Received) (m : Gathered) (o : Occurred) 
       ∙ each-ext most (λ i. marked (ltb i (g .n) && alertEvent g w i) (alert g Field.Cause i)) (λ i. marked (alertEvent g w i) (alert g Field.Cause i)) 0
       (λ i h. ap (λ (t : Bool). marked t (alert g Field.Cause i)) (and-self-left (ltb i (g .n)) (happens (armed g i) (positive w i) (negative w i) && alertEnabled g i)))
 
-  locals-cause : o .cause ≡ each localCount (λ j. marked (occurs g w j) (local g Field.Cause j))
+  locals-cause : o .cause ≡ each localCount (λ j. marked (occurs g w fx j) (local g Field.Cause j))
   locals-cause =
       locals-noted .causes
-      ∙ each-ext localCount (λ j. marked (ltb j localCount && occurs g w j) (local g Field.Cause j)) (λ j. marked (occurs g w j) (local g Field.Cause j)) 0
-      (λ j h. ap (λ (t : Bool). marked (t && occurs g w j) (local g Field.Cause j)) (lt-ltb j localCount h))
+      ∙ each-ext localCount (λ j. marked (ltb j localCount && occurs g w fx j) (local g Field.Cause j)) (λ j. marked (occurs g w fx j) (local g Field.Cause j)) 0
+      (λ j h. ap (λ (t : Bool). marked (t && occurs g w fx j) (local g Field.Cause j)) (lt-ltb j localCount h))
 
   -- the state after step 2, and the classes that something is assigned to
-  pub sampled-by : SampledBy g w (record { handler = holding g (r .armed) (m .cause) (o .cause); assigned = bitOr (m .hits) (o .hits) })
+  pub sampled-by : SampledBy g w fx (record { handler = holding g (r .armed) (m .cause) (o .cause); assigned = bitOr (m .hits) (o .hits) })
   unfolding sampled rearmed assigned
   sampled-by =
       record {
@@ -97,5 +98,5 @@ module _ (g : Handler) (w : Wires) (r : Received) (m : Gathered) (o : Occurred) 
         assigns =
             ap₂ bitOr (alerts-noted .classes) (locals-noted .classes)
             ∙ or-bitsOf 4 (λ k. anyTo (λ i. alertEvent g w i && eqb (alert g Field.Class i) k) (g .n))
-            (λ k. anyTo (λ j. occurs g w j && eqb (local g Field.Class j) k) localCount);
+            (λ k. anyTo (λ j. occurs g w fx j && eqb (local g Field.Class j) k) localCount);
       }

@@ -1,7 +1,7 @@
 -- What the local alerts do.
 -- Assumes nothing.
 use Prim.Native.Nat.{ℕ}
-use mathlib.Core.Bool.{Bool, _&&_}
+use mathlib.Core.Bool.{Bool, _&&_, _||_}
 use mathlib.Core.List.{List}
 use lib.Dec.{eqb}
 use Rattle.bits.specs.Bits.{bit}
@@ -9,9 +9,9 @@ use Rattle.rules.specs.State.{localCount}
 use Rattle.samples.specs.Noted.{Noted, enabledIn}
 use Rattle.samples.specs.declared.locals.Occurred.{Occurred}
 
--- local alert j is raised: local 2, if an enabled alert has equal wires
-abbrev pub raisedBy : Bool → ℕ → Bool
-raisedBy broken j = eqb j 2 && broken
+-- local alert j is raised: local 2, if an enabled alert has equal wires, and those that the mask of step 1 names
+abbrev pub raisedBy : Bool → ℕ → ℕ → Bool
+raisedBy broken raises j = (eqb j 2 && broken) || bit raises j
 
 -- the enabled local alerts among those that the mask names
 abbrev pub amongBits : ℕ → List ℕ → ℕ → Bool

@@ -6,6 +6,7 @@ mod gather; // gather.rt: events and enables of the alerts into causes and class
 mod broken; // broken.rt: equal wires of enabled alerts
 mod locals; // locals.rt: the local alerts
 
+use rules::Effects;
 use rules::Handler;
 use rules::Wires;
 ghost use Prim.Native.Nat.{_≤_};
@@ -18,10 +19,10 @@ pub struct Sampled {
     pub assigned: u8,
 }
 
-// Step 2 on the state g after step 1, with the wires w.
-pub fn sample(g: Handler, w: Wires) -> Sampled
+// Step 2 on the state g after step 1, with the wires w and the effects fx of step 1.
+pub fn sample(g: Handler, w: Wires, fx: Effects) -> Sampled
     requires { ⌜ g .n ≤ most ⌝ }
-    ensures { λ r. ⌜ SampledBy g w r ⌝ }
+    ensures { λ r. ⌜ SampledBy g w fx r ⌝ }
 {
     let n = g.n;
     let mut receivers = g.receivers;
@@ -42,7 +43,7 @@ pub fn sample(g: Handler, w: Wires) -> Sampled
     let gathered = gather::gather(n, &events, &equal, &en, &class, before);
     let cause = gathered.cause;
     alerts.cause = cause;
-    let raised = locals::raise(gathered.broken);
+    let raised = locals::raise(gathered.broken, fx.raises);
     let local_en = local_alerts.en;
     let local_class = local_alerts.class;
     let local_before = local_alerts.cause;

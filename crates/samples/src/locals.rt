@@ -6,11 +6,11 @@ ghost use Rattle.bits.specs.Bits.{bitsOf};
 ghost use Rattle.rules.specs.State.{localCount};
 ghost use Rattle.samples.specs.Occurred.{OccurredAll, raisedBy};
 
-// The local alerts that are raised, local 0 at the lowest bit: local 2, alert integrity, by equal wires.
-pub fn raise(broken: bool) -> u8
-    ensures { λ r. ⌜ r ≡ bitsOf localCount (raisedBy broken) ⌝ }
+// The local alerts that are raised, local 0 at the lowest bit: local 2, alert integrity, by equal wires, and those that step 1 raises.
+pub fn raise(broken: bool, raises: u8) -> u8
+    ensures { λ r. ⌜ r ≡ bitsOf localCount (raisedBy broken raises) ⌝ }
 {
-    4 * num(broken)
+    (4 * num(broken)) | (raises % 128)
 }
 
 // The local alerts' causes, and the classes that those that occur are assigned to.

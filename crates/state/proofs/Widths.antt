@@ -1,14 +1,15 @@
 -- Numbers that fit a width: the union of two, and those that a type holds.
 -- Assumes nothing.
-use Prim.Native.Nat.{ℕ, _^_, _<_}
-use mathlib.Core.Path.{_≡_, sym, ap, ap₂, _∙_}
-use mathlib.Core.Bool.{Bool, true, _&&_}
+use Prim.Native.Nat.{ℕ, _^_, _≤_, _<_}
+use mathlib.Core.Path.{_≡_, refl, sym, ap, ap₂, _∙_}
+use mathlib.Core.Bool.{Bool, true, false, _&&_, and-comm}
 use native.Mathlib.Omega.{arith}
 use native.Mathlib.Decide.{decLt}
 use lib.Bits.{bitOr, or-lt, or-add-and, and-le-l, and-le-r}
 use lib.ListN.{getD}
 use lib.Pow.{pow-pos}
-use borrow.Author.Tests.{lt-ltb, le-ltb}
+use borrow.Author.Tests.{lt-ltb, le-ltb, le-leb, leb-true}
+use lib.Dec.{leb}
 use Rattle.bits.specs.Bits.{fits}
 use Rattle.class_rules.specs.Class.{stateOf, stateFits, countFits, classFits}
 use Rattle.class_rules.specs.declared.Class.{Class}
@@ -27,6 +28,17 @@ fits-or b x y = go (decLt x (2 ^ b)) (decLt y (2 ^ b))
 
 pub fits-zero : (b : ℕ) → fits b 0 ≡ true
 fits-zero b = lt-ltb 0 (2 ^ b) (pow-pos b)
+
+-- the larger of two numbers is at most a bound exactly if both are
+pub larger-first : (a b c : ℕ) → b ≤ a → leb a c ≡ (leb a c && leb b c)
+larger-first a b c l = go (leb a c) refl
+  where
+    go : (t : Bool) → leb a c ≡ t → t ≡ (t && leb b c)
+    go true e = sym (le-leb b c (omega (arith, leb-true a c e)))
+    go false e = refl
+
+pub larger-second : (a b c : ℕ) → a ≤ b → leb b c ≡ (leb a c && leb b c)
+larger-second a b c l = larger-first b a c l ∙ and-comm (leb b c) (leb a c)
 
 -- a block's registers of 16 and 32 bits fit: what is left of its test
 pub class-narrow : (c : Class)

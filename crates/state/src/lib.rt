@@ -1,3 +1,4 @@
 // A new handler, and the test of refusal 7.
 pub mod new;
+mod stages;
 pub mod valid;

@@ -1,4 +1,5 @@
 // "What the stations need": a new handler.
+use crate::stages::none;
 use answers::signed;
 use class_rules::Class;
 use rules::Alerts;
@@ -58,6 +59,7 @@ fn reset(n: usize) -> Handler
             state: 0,
             enable: 0,
         },
+        stages: none(),
     }
 }
 

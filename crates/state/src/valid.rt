@@ -1,4 +1,5 @@
 // "Numbers that come back": the test of refusal 7, that a state keeps its rule.
+use crate::stages::fit;
 use class_rules::Class;
 use rules::Alerts;
 use rules::Handler;
@@ -97,5 +98,6 @@ pub fn is_valid(h: Handler) -> bool
     let l = locals_fit(h.locals);
     let a = alerts_fit(h.alerts, n);
     let c = classes_fit(classes);
-    (h.interrupts.state < 16) & ((h.interrupts.enable < 16) & (l & (a & c)))
+    let s = fit(h.stages, n);
+    (h.interrupts.state < 16) & ((h.interrupts.enable < 16) & (l & (a & (c & s))))
 }

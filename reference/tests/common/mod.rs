@@ -3,6 +3,7 @@
 #![allow(dead_code)] // no test file uses all of it
 
 pub mod records;
+pub mod shadowed;
 
 use reference::{Access, Handler, Ticked, Wires};
 
@@ -54,6 +55,13 @@ pub fn write(h: &mut Handler, register: u16, value: u32) -> i64 {
     tick(h, Access::Write { register, value }, REST).answer
 }
 
+/// Two equal writes, as a shadowed register takes a value.
+pub fn configure(h: &mut Handler, register: u16, value: u32) {
+    for _ in 0..2 {
+        assert_eq!(write(h, register, value), 0, "{register}, {value:#x}");
+    }
+}
+
 pub fn idle(h: &mut Handler) -> Ticked {
     tick(h, Access::None, REST)
 }
@@ -67,9 +75,9 @@ pub fn event(h: &mut Handler) -> Ticked {
 pub fn ready(n: u64, ctrl: u32) -> Handler {
     let mut h = new(n);
     for i in 0..n as u16 {
-        assert_eq!(write(&mut h, 512 + i, 1), 0);
+        configure(&mut h, 512 + i, 1);
     }
-    assert_eq!(write(&mut h, 1281, ctrl), 0);
+    configure(&mut h, 1281, ctrl);
     h
 }
 

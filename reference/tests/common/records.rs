@@ -90,9 +90,9 @@ impl Bench {
     pub fn ready(edition: Edition, n: u64, ctrl: u32) -> Bench {
         let mut b = Bench::new(edition, n);
         for i in 0..n as u16 {
-            assert_eq!(b.write(128 + i, 1), 0);
+            b.configure(128 + i, 1);
         }
-        assert_eq!(b.write(321, ctrl), 0);
+        b.configure(321, ctrl);
         b
     }
 
@@ -126,6 +126,13 @@ impl Bench {
 
     pub fn write(&mut self, register: u16, value: u32) -> i64 {
         self.tick(Access::Write { register, value }, REST).answer
+    }
+
+    /// Two equal writes, as a shadowed register takes a value.
+    pub fn configure(&mut self, register: u16, value: u32) {
+        for _ in 0..2 {
+            assert_eq!(self.write(register, value), 0, "{register}, {value:#x}");
+        }
     }
 
     pub fn idle(&mut self) -> Ticked {

@@ -5,10 +5,14 @@
 pub struct Refusal(pub u8);
 
 impl Refusal {
+    /// The register is locked. A stage of it is dropped.
+    pub const LOCKED: Refusal = Refusal(3);
     /// An access that no well-formed record holds.
     pub const NO_RECORD: Refusal = Refusal(10);
     /// A lent buffer that is too short for the records.
     pub const SHORT_BUFFER: Refusal = Refusal(11);
+    /// A second write that differs from the first. The stage is dropped, and local alert 5 occurs if it is enabled.
+    pub const DIFFERS: Refusal = Refusal(12);
 }
 
 /// A read gives 0 to 4294967295, writing records the bytes written, anything else accepted 0, a refusal its negated number.

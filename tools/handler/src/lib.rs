@@ -17,8 +17,8 @@ pub use answer::{Answer, Refusal};
 pub use edition::Edition;
 pub use input::{Access, Input, Wires};
 pub use state::{
-    Alerts, Class, Handler, Interrupts, Locals, Output, Receivers, ALERTS, CLASSES, LOCALS, PHASES,
-    WORDS,
+    AlertStages, Alerts, Class, ClassStages, Handler, Interrupts, LocalStages, Locals, Output,
+    Receivers, Stages, ALERTS, CLASSES, LOCALS, PHASES, WORDS,
 };
 pub use word::Word;
 pub use writer::{record, record_numbers};
@@ -41,7 +41,9 @@ impl Handler {
         (made.handler, Answer(made.answer))
     }
 
-    /// One tick; the access has the register numbers of `registers::MAP`. Refusal 7: state unchanged, tick not run, no outputs. Refusals 1 to 5: the access does nothing, the tick runs.
+    /// One tick; the access has the register numbers of `registers::MAP`. A shadowed register takes two equal writes: the
+    /// first is staged, the second commits. Refusal 7: state unchanged, tick not run, no outputs. Refusals 1 to 5 and 12: the
+    /// access changes no register, and the tick runs; 3 and 12 drop the stage of the register that it names.
     pub fn tick(self, access: Access, wires: Wires) -> Ticked {
         let (kind, register, value) = access.numbers();
         let given = library::tick(self, kind, register, value, wires);

@@ -82,6 +82,73 @@ pub struct Interrupts {
     pub enable: u8,
 }
 
+/// The stages of a class's shadowed registers. A stage is what the first of two equal writes left: 0 for none, else the
+/// staged value plus 1. It acts on nothing.
+#[repr(C)]
+#[derive(Clone, Copy, Debug, PartialEq, Eq)]
+pub struct ClassStages {
+    /// PHASE0_CYC to PHASE3_CYC
+    pub lengths: [u64; PHASES],
+    /// TIMEOUT_CYC
+    pub timeout: u64,
+    /// CTRL
+    pub ctrl: u32,
+    /// ACCUM_THRESH
+    pub thresh: u32,
+}
+
+/// The stages of the alerts' shadowed registers. Entries at n and above are no registers, and no call changes them.
+#[repr(C)]
+#[derive(Clone, Copy, Debug, PartialEq, Eq)]
+pub struct AlertStages {
+    /// EN
+    pub en: [u8; ALERTS],
+    /// CLASS
+    pub class: [u8; ALERTS],
+}
+
+/// The stages of the local alerts' shadowed registers.
+#[repr(C)]
+#[derive(Clone, Copy, Debug, PartialEq, Eq)]
+pub struct LocalStages {
+    /// EN
+    pub en: [u8; LOCALS],
+    /// CLASS
+    pub class: [u8; LOCALS],
+}
+
+/// The stages of all shadowed registers, one for each.
+#[repr(C)]
+#[derive(Clone, Copy, Debug, PartialEq, Eq)]
+pub struct Stages {
+    /// The classes, A to D.
+    pub classes: [ClassStages; CLASSES],
+    /// The alerts'.
+    pub alerts: AlertStages,
+    /// The local alerts'.
+    pub locals: LocalStages,
+}
+
+impl Stages {
+    /// No stage is open.
+    pub const NONE: Stages = Stages {
+        classes: [ClassStages {
+            lengths: [0; PHASES],
+            timeout: 0,
+            ctrl: 0,
+            thresh: 0,
+        }; CLASSES],
+        alerts: AlertStages {
+            en: [0; ALERTS],
+            class: [0; ALERTS],
+        },
+        locals: LocalStages {
+            en: [0; LOCALS],
+            class: [0; LOCALS],
+        },
+    };
+}
+
 /// The state of a handler.
 #[repr(C)]
 #[derive(Clone, Copy, Debug, PartialEq, Eq)]
@@ -98,6 +165,8 @@ pub struct Handler {
     pub locals: Locals,
     /// The interrupt registers.
     pub interrupts: Interrupts,
+    /// What waits for a second write.
+    pub stages: Stages,
 }
 
 /// Interrupts and lines: class and line 0 are the lowest bits.
@@ -114,10 +183,16 @@ const _: () = {
     assert!(size_of::<Class>() == 36);
     assert!(offset_of!(Class, ctrl) == 24);
     assert!(offset_of!(Class, state) == 32);
-    assert!(size_of::<Handler>() == 1208);
+    assert!(size_of::<ClassStages>() == 48);
+    assert!(offset_of!(ClassStages, ctrl) == 40);
+    assert!(size_of::<Stages>() == 704);
+    assert!(offset_of!(Stages, alerts) == 192);
+    assert!(offset_of!(Stages, locals) == 688);
+    assert!(size_of::<Handler>() == 1912);
     assert!(offset_of!(Handler, classes) == 40);
     assert!(offset_of!(Handler, alerts) == 184);
     assert!(offset_of!(Handler, locals) == 1176);
     assert!(offset_of!(Handler, interrupts) == 1204);
+    assert!(offset_of!(Handler, stages) == 1208);
     assert!(size_of::<Output>() == 2);
 };

@@ -1,7 +1,8 @@
 //! A batch of either edition is its ticks, and what it refuses it leaves.
 use handler::registers::Map;
 use handler::registers::{Field, Setting, INTR_ENABLE};
-use handler::{Access, Answer, Edition, Handler, Ticked, Wires, Word};
+use handler::{Access, Answer, Edition, Handler, Refusal, Ticked, Wires, Word};
+use harness::configure::configure;
 use harness::record::record;
 
 const RAISE: Wires = {
@@ -17,22 +18,33 @@ fn made(n: usize) -> Handler {
     handler
 }
 
-/// Kind, register of the edition, value: alert 0 raises class A's interrupt and a line, then reads, two of no register.
-fn accesses(map: Map) -> [(u64, u16, u32); 7] {
-    [
-        (2, map.alert(Field::En, 0), 1),
-        (2, map.class(0, Setting::Ctrl), 0x393F),
-        (2, INTR_ENABLE, 1),
+/// Kind, register of the edition, value: alert 0 raises class A's interrupt and a line, then reads, two of no register, and
+/// writes that differ.
+fn accesses(map: Map) -> [(u64, u16, u32); TICKS] {
+    let write = |(register, value)| (2, register, value);
+    let en = configure(map, map.alert(Field::En, 0), 1);
+    let ctrl = configure(map, map.class(0, Setting::Ctrl), 0x393F);
+    let writes = [en, ctrl, vec![(INTR_ENABLE, 1)]].concat();
+    let thresh = map.class(0, Setting::AccumThresh);
+    let others = [
         (0, 0, 0),
         (1, map.alert(Field::Cause, 0), 0),
         (1, map.class(0, Setting::State) + 1, 0),
         (1, 1023, 0),
-    ]
+        (2, thresh, 2),
+        (2, thresh, 3),
+    ];
+    let all: Vec<_> = writes.into_iter().map(write).chain(others).collect();
+    all.try_into().expect("as many ticks")
 }
+
+/// The ticks, and the one in which alert 0 rises.
+const TICKS: usize = 11;
+const RISES: usize = 5;
 
 fn wires(at: usize) -> Wires {
     match at {
-        3 => RAISE,
+        RISES => RAISE,
         _ => Wires::REST,
     }
 }
@@ -69,9 +81,9 @@ fn a_batch_is_its_ticks() {
     for edition in Edition::ALL {
         for n in [2, edition.alerts()] {
             let given = ticks(edition, made(n));
-            let mut words = [Word(7); 9];
+            let mut words = [Word(7); TICKS + 2];
             let (all, answer) = made(n).batch(edition, &bytes(edition), &mut words);
-            assert_eq!((all, answer), (given[6].handler, Answer(0)));
+            assert_eq!((all, answer), (given[TICKS - 1].handler, Answer(0)));
             for (word, t) in words.iter().zip(&given) {
                 for b in 0..4 {
                     assert_eq!(word.interrupt(b), t.output.interrupts >> b & 1 == 1);
@@ -80,9 +92,10 @@ fn a_batch_is_its_ticks() {
                 let said = word.refusal().map_or(Ok(word.value()), Err);
                 assert_eq!(said, t.answer.value());
             }
-            assert!(words[3].interrupt(0) && words[3].line(0));
-            assert_eq!(words[4].value(), 1);
-            assert_eq!(words[7..], [Word(7); 2]);
+            assert!(words[RISES].interrupt(0) && words[RISES].line(0));
+            assert_eq!(words[RISES + 1].value(), 1);
+            assert_eq!(words[TICKS - 1].refusal(), Some(Refusal::DIFFERS));
+            assert_eq!(words[TICKS..], [Word(7); 2]);
         }
     }
 }

@@ -1,6 +1,7 @@
 //! The wrapper asks the library and loses nothing on the way.
 use handler::registers::{Field, Setting, INTR_ENABLE, MAP};
-use handler::{Access, Answer, Handler, Refusal, Wires, ALERTS, WORDS};
+use handler::{Access, Answer, Handler, Refusal, Stages, Wires, ALERTS, WORDS};
+use harness::configure::configure as writes;
 
 const REST: Wires = Wires::REST;
 
@@ -8,6 +9,16 @@ fn made(n: usize) -> Handler {
     let (handler, answer) = Handler::new(n);
     assert_eq!(answer, Answer(0));
     handler
+}
+
+/// The handler after the writes that give the register its value.
+fn configure(h: Handler, register: u16, value: u32) -> Handler {
+    let writes = writes(MAP, register, value).into_iter();
+    writes.fold(h, |h, (register, value)| {
+        let t = h.tick(Access::Write(register, value), REST);
+        assert_eq!(t.answer, Answer(0));
+        t.handler
+    })
 }
 
 /// Alert i at (1,0), the others at rest.
@@ -26,6 +37,7 @@ fn a_handler_is_made_for_1_to_248_alerts() {
         assert_eq!(h.receivers.armed, [u64::MAX; WORDS]);
         assert_eq!(h.alerts.regwen, [1; ALERTS]);
         assert_eq!(h.alerts.class, [0; ALERTS]);
+        assert_eq!(h.stages, Stages::NONE);
     }
     for n in [0, 249, usize::MAX] {
         let (handler, answer) = Handler::new(n);
@@ -46,10 +58,43 @@ fn an_answer_is_a_value_or_a_refusal() {
     let wide = write(Setting::AccumThresh, 65536);
     assert_eq!(answer(h, wide), Err(Refusal(4)));
     assert_eq!(answer(h, Access::Malformed), Err(Refusal(5)));
-    let h = h.tick(write(Setting::TimeoutCyc, u32::MAX), REST).handler;
+    let h = configure(h, MAP.class(0, Setting::TimeoutCyc), u32::MAX);
     assert_eq!(answer(h, read(Setting::TimeoutCyc)), Ok(u32::MAX));
     let h = h.tick(write(Setting::Regwen, 0), REST).handler;
-    assert_eq!(answer(h, write(Setting::Ctrl, 1)), Err(Refusal(3)));
+    assert_eq!(answer(h, write(Setting::Ctrl, 1)), Err(Refusal::LOCKED));
+}
+
+#[test]
+fn a_stage_stands_in_its_field() {
+    let write = |setting, value| Access::Write(MAP.class(2, setting), value);
+    let fresh = made(248);
+    for (setting, value) in [
+        (Setting::Ctrl, 0x3FFF),
+        (Setting::AccumThresh, 0xFFFF),
+        (Setting::TimeoutCyc, u32::MAX),
+        (Setting::Phase3Cyc, u32::MAX),
+    ] {
+        let h = fresh.tick(write(setting, value), REST).handler;
+        let stages = &h.stages.classes[2];
+        let code = match setting {
+            Setting::Ctrl => stages.ctrl.into(),
+            Setting::AccumThresh => stages.thresh.into(),
+            Setting::TimeoutCyc => stages.timeout,
+            _ => stages.lengths[3],
+        };
+        assert_eq!(code, u64::from(value) + 1);
+        assert_eq!(h.classes, fresh.classes);
+        let t = h.tick(write(setting, value ^ 1), REST);
+        assert_eq!(t.answer.value(), Err(Refusal::DIFFERS));
+        assert_eq!(t.handler, fresh);
+    }
+    let en = |value| Access::Write(MAP.alert(Field::En, 247), value);
+    let h = fresh.tick(en(1), REST).handler;
+    assert_eq!((h.stages.alerts.en[247], h.alerts.en[247]), (2, 0));
+    let h = h.tick(en(1), REST).handler;
+    assert_eq!((h.stages.alerts.en[247], h.alerts.en[247]), (0, 1));
+    let class = Access::Write(MAP.local(Field::Class, 6), 3);
+    assert_eq!(fresh.tick(class, REST).handler.stages.locals.class[6], 4);
 }
 
 #[test]
@@ -63,7 +108,7 @@ fn the_wires_and_registers_of_every_alert_are_its_own() {
             (MAP.class(3, Setting::Ctrl), 0x393F),
             (INTR_ENABLE, 15),
         ] {
-            h = h.tick(Access::Write(register, value), REST).handler;
+            h = configure(h, register, value);
         }
         assert_eq!((h.alerts.en[i], h.alerts.class[i]), (1, 3));
         let t = h.tick(Access::Nothing, raised(i));
@@ -84,7 +129,9 @@ fn a_damaged_state_is_refused_and_unchanged() {
     one.classes[2].state = 2;
     let mut last = made(248);
     last.alerts.cause[247] = 2;
-    for h in [one, last, Handler { n: 249, ..made(1) }] {
+    let mut stage = made(248);
+    stage.stages.alerts.class[247] = 5;
+    for h in [one, last, stage, Handler { n: 249, ..made(1) }] {
         let t = h.tick(Access::Nothing, raised(0));
         assert_eq!(t.answer.value(), Err(Refusal(7)));
         assert_eq!(t.handler, h);

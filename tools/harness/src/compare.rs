@@ -6,9 +6,10 @@ mod coverage;
 mod difference;
 mod expected;
 mod program;
+mod shadowed;
 
 pub use case::{damage, generated, Case, DEFAULT_SEED, DEFAULT_TRACES};
-pub use coverage::Coverage;
+pub use coverage::{Coverage, ANSWERS};
 pub use difference::Difference;
 pub use expected::expected;
 

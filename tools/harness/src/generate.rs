@@ -1,6 +1,5 @@
 //! Traces by edition, kind and seed. The same three give the same bytes.
 
-mod configure;
 mod damage;
 mod ends;
 mod kind;
@@ -9,6 +8,8 @@ mod play;
 mod profile;
 mod refused;
 mod scene;
+mod set_up;
+mod stages;
 mod steps;
 mod sweep;
 mod wires;

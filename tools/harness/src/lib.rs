@@ -7,6 +7,7 @@
 pub mod bench;
 pub mod calls;
 pub mod compare;
+pub mod configure;
 pub mod entries;
 pub mod generate;
 pub mod golden;

@@ -9,18 +9,20 @@ pub use place::Place;
 pub use way::{Way, WAYS};
 
 use crate::rng::Rng;
-use fit::fit;
+use fit::{fit, fit_stages};
 use handler::{Handler, ALERTS, CLASSES};
 
 /// Changes a state in this way.
 pub fn spoil(way: Way, places: &[Place], rng: &mut Rng, state: &mut Handler) {
     // Half of the damage goes to states that no trace comes to.
-    if way == Way::Fitted || (way != Way::Kept && rng.once_in(2)) {
+    let kept = matches!(way, Way::Kept | Way::Staged);
+    if way == Way::Fitted || (!kept && rng.once_in(2)) {
         fit(places, rng, state);
     }
     let class = &mut state.classes[rng.index(CLASSES)];
     match way {
         Way::Kept | Way::Fitted => {}
+        Way::Staged => fit_stages(places, rng, state),
         Way::Random => random(places, rng, state),
         Way::Flip => flip(places, rng, state),
         Way::Flips => (0..2 + rng.below(4)).for_each(|_| flip(places, rng, state)),
@@ -63,15 +65,15 @@ fn flip(places: &[Place], rng: &mut Rng, state: &mut Handler) {
     }
 }
 
-/// Puts a register over its field, where its kept bits can hold that.
+/// Puts a register or a stage over its field, where its kept bits can hold that.
 fn over(places: &[Place], rng: &mut Rng, state: &mut Handler) {
-    let place = loop {
+    let (place, first) = loop {
         let place = rng.pick(places);
-        if place.bits().is_some_and(|bits| bits < place.kept()) {
-            break place;
+        let whole = u64::MAX >> (64 - place.kept());
+        if let Some(most) = place.most().filter(|most| *most < whole) {
+            break (place, most + 1);
         }
     };
-    let first = 1 << place.bits().unwrap_or(0);
     let any = first | rng.bits();
     let top = 1 << (place.kept() - 1);
     let value = rng.pick(&[first, first, first, place.get(state) | first, top, any]);
@@ -96,7 +98,7 @@ fn above(places: &[Place], rng: &mut Rng, state: &mut Handler) {
     state.n = state.n.min(rng.index(ALERTS));
     let n = state.n;
     for place in places {
-        if matches!(place, Place::Alert(_, i) if *i >= n) {
+        if place.is_above(n) {
             place.set(state, rng.bits());
         }
     }

@@ -32,7 +32,7 @@ fn the_file_has_the_traces_of_the_set() {
 }
 
 #[test]
-fn the_reference_gives_the_words_of_the_old_program() {
+fn the_reference_gives_the_words_that_are_kept() {
     for (case, golden) in cases().zip(kept()) {
         let words = expected(&case.bytes(), &mut Coverage::default());
         assert_eq!(checksum(&words), golden.words, "{golden}");

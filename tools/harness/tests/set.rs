@@ -2,7 +2,9 @@
 
 use handler::registers::Field;
 use handler::{Edition, Wires, WORDS};
-use harness::compare::{damage, expected, generated, Case, Coverage, DEFAULT_SEED, DEFAULT_TRACES};
+use harness::compare::{
+    damage, expected, generated, Case, Coverage, ANSWERS, DEFAULT_SEED, DEFAULT_TRACES,
+};
 use harness::generate::{Kind, KINDS};
 use harness::opened::opened;
 use harness::record::{pack, Head, READ, WRITE};
@@ -26,13 +28,32 @@ fn reaches_every_state_refusal_and_line(coverage: &Coverage) {
             assert!(states[state] > 1000, "state {state}");
         }
     }
-    for (number, count) in coverage.answers.into_iter().enumerate() {
-        assert!(count > 1000, "refusal {number}");
+    for number in ANSWERS {
+        assert!(coverage.answers[number] > 1000, "refusal {number}");
     }
     let on = coverage.lines.into_iter().chain(coverage.interrupts);
     assert!(on.into_iter().all(|ticks| ticks > 1000));
     assert!(coverage.no_handler > 10 && coverage.cut > 30);
     assert!(coverage.full > 100 && coverage.locked_starts > 100);
+}
+
+/// Each family of shadow writes is there.
+fn has_every_family_of_shadow_writes(coverage: &Coverage) {
+    let of = &coverage.shadowed;
+    for (family, count) in [
+        ("staged", of.staged),
+        ("equal", of.committed),
+        ("differing", of.differing),
+        ("differing, with local 5", of.occurred),
+        ("read between", of.read),
+        ("lock between", of.locked),
+        ("too wide between", of.too_wide),
+        ("interleaved", of.beside),
+        ("open while the lock falls", of.under_lock),
+    ] {
+        assert!(count > 200, "{family}: {count}");
+    }
+    assert!(of.both > 10, "local 2 and local 5 at once: {}", of.both);
 }
 
 /// Every alert has a cause in some trace, and every assigned register is accessed.
@@ -80,6 +101,7 @@ fn the_default_set_of_old_records_reaches_all() {
     let coverage = default_set(Edition::Bytes24);
     reaches_every_state_refusal_and_line(&coverage);
     reaches_every_alert_and_register(Edition::Bytes24, &coverage);
+    has_every_family_of_shadow_writes(&coverage);
     makes_every_move(&coverage);
     for n in [0, 1, 2, 7, 8, 9, 63, 64, 65] {
         assert!(coverage.counts.contains(&n), "N {n}");
@@ -91,6 +113,7 @@ fn the_default_set_of_new_records_reaches_all() {
     let coverage = default_set(Edition::Bytes70);
     reaches_every_state_refusal_and_line(&coverage);
     reaches_every_alert_and_register(Edition::Bytes70, &coverage);
+    has_every_family_of_shadow_writes(&coverage);
     makes_every_move(&coverage);
     for n in [0, 1, 9, 64, 65, 127, 128, 191, 192, 247, 248, 249, 255] {
         assert!(coverage.counts.contains(&n), "N {n}");
@@ -211,6 +234,7 @@ fn damaged_input_still_reaches_the_handler() {
     for edition in Edition::ALL {
         let coverage = reached(damage(edition, DEFAULT_SEED).take(DEFAULT_TRACES as usize));
         assert!(coverage.no_handler > 10 && coverage.cut > 100);
-        assert!(coverage.answers.into_iter().all(|count| count > 500));
+        let least = ANSWERS.map(|number| coverage.answers[number]).into_iter();
+        assert!(least.min() > Some(200));
     }
 }

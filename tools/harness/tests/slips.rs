@@ -8,7 +8,7 @@ use std::path::{Path, PathBuf};
 use std::process::Command;
 
 mod list;
-use list::{Slip, SLIPS};
+use list::{slips, Slip};
 
 /// The reference's sources, copied for each slip and never changed.
 const REFERENCE: &str = concat!(env!("CARGO_MANIFEST_DIR"), "/../../reference/src");
@@ -83,7 +83,7 @@ fn finder(replay: &Path) -> Option<String> {
 #[test]
 fn the_default_set_finds_every_slip() {
     let mut missed = Vec::new();
-    for (number, slip) in SLIPS.iter().enumerate() {
+    for (number, slip) in slips().enumerate() {
         let replay = build(number + 1, slip);
         match finder(&replay) {
             Some(found) => println!("{:2} {}: {found}", number + 1, slip.name),

@@ -5,6 +5,7 @@ use handler::registers::Setting;
 use handler::{Access, Answer, Edition, Handler, Ticked, Wires, Word, ALERTS};
 use harness::bench::{load, start, time, LOADS};
 use harness::calls::{handler_of, reference_of, with_spare};
+use harness::compare::ANSWERS;
 use harness::rng::Rng;
 use harness::spoil::{Place, WAYS};
 use harness::states::{try_all, Found, Subject, Summary, PROVED};
@@ -33,24 +34,25 @@ fn answer(state: &Handler) -> i64 {
     answer.0
 }
 
-/// Whether a place is an entry at N or above.
-fn unused(place: Place, n: usize) -> bool {
-    matches!(place, Place::Alert(_, i) if i >= n)
+/// The most that a place may hold, where more can be kept.
+fn most_of_more(place: Place) -> Option<u64> {
+    let whole = u64::MAX >> (64 - place.kept());
+    place.most().filter(|most| *most < whole)
 }
 
 #[test]
-fn every_register_over_its_field_gives_7() {
+fn every_register_and_stage_over_its_field_gives_7() {
     let mut tried = 0;
     for n in [1, 64, 65, 192, 248] {
         for place in Place::all() {
             // Registers of all the bits that are kept have nothing over them.
-            let Some(bits) = place.bits().filter(|bits| *bits < place.kept()) else {
+            let Some(most) = most_of_more(place) else {
                 continue;
             };
-            let most = (1 << bits) - 1;
             let mut h = state(n);
             place.set(&mut h, most + 1);
-            assert_eq!(answer(&h), if unused(place, n) { 0 } else { -7 }, "{place}");
+            let over = if place.is_above(n) { 0 } else { -7 };
+            assert_eq!(answer(&h), over, "{place}");
             place.set(&mut h, most);
             // The highest STATE is a phase and needs a count.
             let phase = matches!(place, Place::Class(_, Setting::State));
@@ -58,8 +60,9 @@ fn every_register_over_its_field_gives_7() {
             tried += 1;
         }
     }
-    // Both interrupt registers, 4 of 12 in a class, all of the sources.
-    assert_eq!(tried, 5 * (2 + 16 + 4 * 255));
+    // Both interrupt registers, 4 of 12 in a class, all of the sources, and
+    // all stages: 7 of a class, 2 of a source.
+    assert_eq!(tried, 5 * (2 + 16 + 4 * 255 + 28 + 2 * 255));
 }
 
 #[test]
@@ -76,7 +79,10 @@ fn a_flipped_bit_over_a_field_gives_7() {
                     // All classes are Idle: the six other states are not one
                     // bit away or want a count, and a count another state.
                     Place::Class(_, Setting::State | Setting::EscCnt) => true,
-                    _ => !unused(place, n) && place.bits().is_some_and(|bits| bit >= bits),
+                    _ => {
+                        let now = place.get(&h);
+                        !place.is_above(n) && place.most().is_some_and(|most| now > most)
+                    }
                 };
                 assert_eq!(answer(&h), if over { -7 } else { 0 }, "{place} bit {bit}");
             }
@@ -127,7 +133,7 @@ fn only_n_over_248_gives_7() {
 fn both_sides_hold_the_same_state() {
     let mut rng = Rng::new(7);
     let places = Place::all();
-    assert_eq!(places.len(), 3 + 4 + 4 * 12 + 4 * 255);
+    assert_eq!(places.len(), 3 + 4 + 4 * (12 + 7) + (4 + 2) * 255);
     let mut h = state(248);
     for _ in 0..100 {
         let values: Vec<u64> = places.iter().map(|_| rng.bits()).collect();
@@ -149,12 +155,12 @@ fn every_way_gives_what_it_is_for() {
     assert!(try_all(&PROVED, 1, 20_000, &mut summary).is_none());
     assert_eq!(summary.refused() + summary.accepted(), 20_000);
     for ((_, name), [refused, accepted]) in WAYS.iter().zip(summary.ways) {
-        let never = ["kept", "fitted", "above"].contains(name);
+        let never = ["kept", "fitted", "staged", "above"].contains(name);
         assert_eq!(refused == 0, never, "{name}");
         // Random bytes in every field do not keep the rule.
         assert_eq!(accepted == 0, ["random", "count"].contains(name), "{name}");
     }
-    assert!(summary.ticks.iter().all(|count| *count > 100));
+    assert!(ANSWERS.iter().all(|number| summary.ticks[*number] > 100));
     for batches in summary.batches {
         assert!([0, 7, 8, 9].iter().all(|number| batches[*number] > 100));
     }
@@ -210,6 +216,47 @@ fn a_tick_that_tidies_unused_entries_is_found() {
     assert_eq!(odd.field, "alert 247 CAUSE");
 }
 
+/// A tick after which the stages of the classes are as before it, where the
+/// access answers so.
+fn keeps_stages(h: Handler, access: Access, wires: Wires, on: impl Fn(Answer) -> bool) -> Ticked {
+    let mut given = h.tick(access, wires);
+    if on(given.answer) {
+        given.handler.stages.classes = h.stages.classes;
+    }
+    given
+}
+
+#[test]
+fn a_read_that_keeps_the_stage_is_found() {
+    fn tick(h: Handler, access: Access, wires: Wires) -> Ticked {
+        let reads = matches!(access, Access::Read(_));
+        keeps_stages(h, access, wires, |_| reads)
+    }
+    let odd = found(Subject { tick, ..PROVED }).odd;
+    assert!(odd.field.starts_with("stage of class "), "{}", odd.field);
+}
+
+/// No word shows it: what is locked stays so.
+#[test]
+fn a_locked_write_that_keeps_the_stage_is_found() {
+    fn tick(h: Handler, access: Access, wires: Wires) -> Ticked {
+        keeps_stages(h, access, wires, |answer| answer == Answer(-3))
+    }
+    let odd = found(Subject { tick, ..PROVED }).odd;
+    assert!(odd.field.starts_with("stage of class "), "{}", odd.field);
+}
+
+#[test]
+fn a_tick_that_takes_a_stage_over_its_field_is_found() {
+    fn tick(mut h: Handler, access: Access, wires: Wires) -> Ticked {
+        h.stages.locals.en[3] = h.stages.locals.en[3].min(2);
+        h.tick(access, wires)
+    }
+    let odd = found(Subject { tick, ..PROVED }).odd;
+    let fields = ["answer 7", "stage of local 3 EN"];
+    assert!(fields.contains(&odd.field.as_str()), "{}", odd.field);
+}
+
 #[test]
 fn a_batch_that_writes_a_later_word_is_found() {
     fn batch(h: Handler, e: Edition, bytes: &[u8], out: &mut [Word]) -> (Handler, Answer) {
@@ -242,7 +289,8 @@ fn an_old_batch_that_runs_on_65_alerts_is_found() {
         if e == Edition::Bytes24 && h.n == 65 {
             few.n = 64;
         }
-        few.batch(e, bytes, out)
+        let (after, answer) = few.batch(e, bytes, out);
+        (Handler { n: h.n, ..after }, answer)
     }
     assert_eq!(found(Subject { batch, ..PROVED }).odd.field, "answer 7");
 }

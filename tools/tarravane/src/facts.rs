@@ -5,6 +5,7 @@ pub mod clears;
 pub mod events;
 pub mod lines;
 pub mod locks;
+pub mod stages;
 pub mod starts;
 pub mod tick;
 pub mod ticks;

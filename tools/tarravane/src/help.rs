@@ -12,21 +12,28 @@ shown as it is.
                    it, standard error says so; the status is 0, or 1 for a cut trace
   --to TICK        rows up to this tick; the trace is read no further
   --only-changes   only rows where an interrupt, a line, a class's state, its ACCUM_CNT, a cause or
-                   a lock (REGWEN, CLR_REGWEN) changed, or where the access was refused
-  --wide           every wire and cause, and a malformed record's bytes as raw HEX; rows may then
-                   be wider than 120 columns
+                   a lock (REGWEN, CLR_REGWEN) changed, where the access was refused, or where a
+                   stage was dropped
+  --wide           every wire, cause and open stage, and a malformed record's bytes as raw HEX; rows
+                   may then be wider than 120 columns
   --summary        no rows, and no other option: for each class its starts (by which alerts or by
                    the timeout, whether the class was locked and LOCK set), the first tick of each
                    phase and of Terminal, the ticks in which it drove each line, and its clears
-                   (writes of 1 to CLR); then the first and last event of each alert, and all other
-                   refusals by number. Of starts, lines and clears the first 8 are shown, and the
-                   others counted
+                   (writes of 1 to CLR); then the first and last event of each alert, the shadow
+                   writes (how many were staged and committed, when a stage was dropped, which are
+                   open at the end), and all other refusals by number. Of starts, lines, clears and
+                   stages the first 8 are shown, and the others counted
   --help           this text
 
 A row: tick, access and wires, answer, interrupts that are on (A to D), lines that are on (0 to 3),
 the state of each class with its counts as ESC_CNT/ACCUM_CNT (left out where both are 0), and the
 causes that were 0 before the tick and are 1 after it. The answer is given before the tick's events;
 interrupts, lines, states and counts are those after them.
+EN and CLASS of alerts and local alerts, CTRL, ACCUM_THRESH, TIMEOUT_CYC and the phase lengths take two
+equal writes: the first answers staged and acts on nothing, the second committed. `refused: differs`
+is a second write with another value: the stage is dropped, and LOC_ALERT5 occurs if it is enabled. So
+do a read, then marked unstaged, and a write that is refused as locked, but without LOC_ALERT5. A row
+ends with the number of stages that are open after its tick, as [2 staged]; in short form as *.
 States: Idle, Tout (Timeout), Ph0 to Ph3 (the phases), Term (Terminal). A row that would be wider
 than 120 columns leaves its columns, and if need be counts the alerts that are off rest (wires ~12)
 or is in short form: r and w, states in two letters, counts as 12k or .3M, wires as ~12, causes as +3.
@@ -51,6 +58,8 @@ after it, where an alert is not at rest, wires I=PQ or I-J=PQ and more of them: 
 has its positive wire at P, its negative at Q. Every other alert is at rest, 01. A register has its
 name, as CLASSA_CTRL, or its number; a number is decimal, or hex after 0x. What follows # is a
 comment; blank lines are skipped. A line has at most 4096 bytes before its comment.
+A line is one write: what configures (EN, CLASS, CTRL, ACCUM_THRESH, TIMEOUT_CYC, PHASE0_CYC to
+PHASE3_CYC) takes two equal lines, the first staged and the second committed.
 
 Such a text gives the newest edition: 255, N from 1 to 248, and records of 70 bytes, which the proved
 writer writes. A line before alerts names an edition:

@@ -15,12 +15,17 @@ pub fn number(edition: Edition, register: &str) -> Option<u16> {
     edition.registers().number(Register::named(register)?)
 }
 
-/// A value that is written: to CTRL in hex, to any other register in decimal.
-pub fn written(edition: Edition, number: u16, value: u32) -> String {
-    match edition.registers().register(number) {
+/// A value of a register: of CTRL in hex, of any other in decimal.
+pub fn value(register: Option<Register>, value: u32) -> String {
+    match register {
         Some(Register::Class(_, Setting::Ctrl)) => format!("{value:#x}"),
         _ => value.to_string(),
     }
+}
+
+/// A value that is written.
+pub fn written(edition: Edition, number: u16, value: u32) -> String {
+    self::value(edition.registers().register(number), value)
 }
 
 /// A value that was read: STATE with its name.
@@ -70,6 +75,7 @@ pub fn refusal(refusal: Refusal, reads: bool) -> &'static str {
         5 => "malformed",
         10 => "no record holds it",
         11 => "buffer too short",
+        12 => "differs",
         _ => "refused",
     }
 }

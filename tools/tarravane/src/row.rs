@@ -2,7 +2,9 @@
 mod causes;
 mod class;
 mod said;
+mod stages;
 
+use crate::facts::stages::{change, Change};
 use crate::facts::tick::Tick;
 use crate::names;
 use class::class;
@@ -29,8 +31,19 @@ fn answer(t: &Tick, form: Form) -> String {
     match (t.word.refusal(), access) {
         (Some(refusal), _) if form == Form::Short => refused(refusal).to_string(),
         (Some(refusal), _) => format!("refused: {}", refused(refusal)),
-        (None, Access::Read(register)) => names::read(t.edition, register, t.word.value()),
-        (None, Access::Write(..)) => "done".to_string(),
+        (None, Access::Read(register)) => {
+            let value = names::read(t.edition, register, t.word.value());
+            match change(t) {
+                Some(Change::Dropped) if form != Form::Short => value + ", unstaged",
+                _ => value,
+            }
+        }
+        (None, Access::Write(..)) => match change(t) {
+            Some(Change::Staged) => "staged",
+            Some(Change::Committed) => "committed",
+            _ => "done",
+        }
+        .to_string(),
         (None, _) => "-".to_string(),
     }
 }
@@ -59,24 +72,25 @@ fn columns(t: &Tick, said: &str, form: Form) -> String {
 }
 
 /// The row in the first form that has room for it, with the line of a text, else with the wires counted; in short form
-/// causes may be left out, and are then counted.
+/// causes may be left out, and are then counted. Open stages are counted at its end.
 pub fn row(t: &Tick) -> String {
     let (edition, x) = (t.edition, &t.input);
     let causes = causes::set(&t.before, &t.after);
     for said in [said::whole(edition, x), said::counted(edition, x)] {
         for form in [Form::Columns, Form::Squeezed] {
-            let row = columns(t, &said, form) + &causes.concat();
+            let row = columns(t, &said, form) + &causes.concat() + &stages::count(&t.after, form);
             if row.trim_end().len() <= WIDTH {
                 return row.trim_end().to_string();
             }
         }
     }
     let short = columns(t, &said::shortest(edition, x), Form::Short);
-    let room = WIDTH.saturating_sub(short.len());
-    short + &causes::fitted(&causes, room)
+    let stages = stages::count(&t.after, Form::Short);
+    let room = WIDTH.saturating_sub(short.len() + stages.len());
+    short + &causes::fitted(&causes, room) + &stages
 }
 
-/// The row with every wire and cause, and the bytes of a malformed record, however wide.
+/// The row with every wire, cause and open stage, and the bytes of a malformed record, however wide.
 pub fn wide_row(t: &Tick) -> String {
     let said = if t.is_malformed() {
         said::raw(&t.record, &t.input)
@@ -84,7 +98,7 @@ pub fn wide_row(t: &Tick) -> String {
         said::whole(t.edition, &t.input)
     };
     let causes = causes::set(&t.before, &t.after).concat();
-    let row = columns(t, &said, Form::Columns) + &causes;
+    let row = columns(t, &said, Form::Columns) + &causes + &stages::list(&t.after);
     row.trim_end().to_string()
 }
 

@@ -4,6 +4,7 @@ mod escalation;
 mod events;
 mod kept;
 mod refusals;
+mod shadow;
 mod spans;
 mod words;
 
@@ -12,11 +13,13 @@ use class::Class;
 use events::Events;
 use handler::CLASSES;
 use refusals::Refusals;
+use shadow::Shadow;
 
 #[derive(Default)]
 pub struct Summary {
     classes: [Class; CLASSES],
     events: Events,
+    shadow: Shadow,
     refusals: Refusals,
 }
 
@@ -26,6 +29,7 @@ impl Summary {
             class.add(t, k);
         }
         self.events.add(t);
+        self.shadow.add(t);
         self.refusals.add(t);
     }
 
@@ -35,6 +39,7 @@ impl Summary {
             all.extend(class.lines(k));
         }
         all.extend(self.events.lines());
+        all.push(self.shadow.line());
         all.extend(self.refusals.lines());
         all
     }

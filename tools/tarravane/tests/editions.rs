@@ -1,7 +1,7 @@
 //! What is particular to an edition of a trace, and what is the same in both.
 mod common;
 
-use common::records::{apart, off_rest, record, record_24, record_70, start, REST};
+use common::records::{apart, configure, off_rest, record, record_24, record_70, start, REST};
 use common::round::{goes_round, text_of};
 use common::{example, explained, given, said_of};
 use handler::{Edition, Wires};
@@ -38,7 +38,7 @@ fn editions_differ_in_their_title_alone() {
     let text = String::from_utf8(given("record", &["--back", "-"], &old)).expect("text");
     let text = text.replace("edition 24", "edition 70");
     let new = given("record", &["-"], text.as_bytes());
-    assert_eq!(new.len(), 2 + 70 * 26);
+    assert_eq!(new.len(), 2 + 70 * 33);
     for words in [&["-"][..], &["-", "--summary"], &["-", "--only-changes"]] {
         let [old, new] = [&old, &new].map(|bytes| explained(words, bytes));
         assert_ne!(old[0], new[0]);
@@ -68,18 +68,21 @@ fn the_far_alert_is_told() {
     let raised = off_rest(&[(247, 0b10)]);
     let bytes = [
         vec![255, 248],
-        record_70(2, 512 + 247, 1, Wires::REST),
-        record_70(2, 768 + 247, 1, Wires::REST),
-        record_70(2, 1296 + 1, 0x393F, Wires::REST),
+        configure(Edition::Bytes70, 512 + 247, 1),
+        configure(Edition::Bytes70, 768 + 247, 1),
+        configure(Edition::Bytes70, 1296 + 1, 0x393F),
         record_70(0, 0, 0, raised),
         record_70(1, 1024 + 247, 0, apart(Edition::Bytes70, 0b11)),
     ]
     .concat();
     let rows = rows(&bytes);
     for (row, words) in rows.iter().zip([
-        &["write ALERT247_EN 1 ", "done"][..],
-        &["write ALERT247_CLASS 1 ", "done"],
-        &["write CLASSB_CTRL 0x393f ", "done"],
+        &["write ALERT247_EN 1 ", "staged"][..],
+        &["write ALERT247_EN 1 ", "committed"],
+        &["write ALERT247_CLASS 1 ", "staged"],
+        &["write ALERT247_CLASS 1 ", "committed"],
+        &["write CLASSB_CTRL 0x393f ", "staged"],
+        &["write CLASSB_CTRL 0x393f ", "committed"],
         &["none wires 247=10 ", "---- 0---", "Ph0 1/1", "ALERT247"],
         &["read ALERT247_CAUSE wires ~124 ", " 1 "],
     ]) {

@@ -1,7 +1,7 @@
 //! `explain` as a technician runs it.
 mod common;
 
-use common::records::{all_at, off_rest, record, record_24, start, REST};
+use common::records::{all_at, configure, off_rest, record, record_24, start, REST};
 use common::{ended, example, explained, given, refused};
 use handler::registers::{Field, Setting};
 use handler::{Edition, Wires};
@@ -28,21 +28,23 @@ fn numbers(rows: &[String]) -> Vec<u64> {
 #[test]
 fn the_broken_seal_is_told_tick_by_tick() {
     let rows = rows(&[&example("broken-seal.trace")], &[]);
-    assert_eq!(numbers(&rows), (1..=26).collect::<Vec<u64>>());
+    assert_eq!(numbers(&rows), (1..=33).collect::<Vec<u64>>());
     let has = |tick: usize, words: &[&str]| {
         words
             .iter()
             .for_each(|word| assert!(rows[tick - 1].contains(word), "{}", rows[tick - 1]))
     };
-    has(1, &["write ALERT0_EN 1", "done", "---- ----"]);
-    has(7, &["write CLASSA_CTRL 0x393f"]);
-    has(9, &["none wires 0=10 ", "Idle 0/1", "ALERT0"]);
-    has(10, &["read CLASSA_ACCUM_CNT", " 1 "]);
-    has(13, &["---- 0---", "Ph0 1/3"]);
-    has(15, &["write CLASSA_CLR 1", "refused: locked", "Ph0 3/3"]);
-    has(16, &["read CLASSA_STATE", "4 Ph0", "---- -1--", "Ph1 1/3"]);
-    has(25, &["7 Ph3", "---- ----", "Term 0/3"]);
-    has(26, &["3 Term", "---- ----"]);
+    has(1, &["write ALERT0_EN 1", "staged", "---- ----"]);
+    has(2, &["write ALERT0_EN 1", "committed", "---- ----"]);
+    has(14, &["write CLASSA_CTRL 0x393f", "committed"]);
+    has(15, &["write CLASSA_REGWEN 0", "done"]);
+    has(16, &["none wires 0=10 ", "Idle 0/1", "ALERT0"]);
+    has(17, &["read CLASSA_ACCUM_CNT", " 1 "]);
+    has(20, &["---- 0---", "Ph0 1/3"]);
+    has(22, &["write CLASSA_CLR 1", "refused: locked", "Ph0 3/3"]);
+    has(23, &["read CLASSA_STATE", "4 Ph0", "---- -1--", "Ph1 1/3"]);
+    has(32, &["7 Ph3", "---- ----", "Term 0/3"]);
+    has(33, &["3 Term", "---- ----"]);
 }
 
 #[test]
@@ -55,6 +57,7 @@ fn refusals_are_told_in_words() {
         "too wide",
         "locked",
         "malformed",
+        "differs",
     ] {
         assert!(rows.contains(&format!("refused: {word}")), "{word}");
     }
@@ -67,7 +70,7 @@ fn a_range_of_ticks() {
         numbers(&rows(&["--from", "13", "--to", "15", &seal], &[])),
         [13, 14, 15]
     );
-    assert_eq!(numbers(&rows(&[&seal, "--from", "25"], &[])), [25, 26]);
+    assert_eq!(numbers(&rows(&[&seal, "--from", "32"], &[])), [32, 33]);
     assert_eq!(numbers(&rows(&[&seal, "--to", "1"], &[])), [1]);
 }
 
@@ -77,12 +80,12 @@ fn a_range_past_the_end_is_told() {
     let seal = example("broken-seal.trace");
     for (words, why) in [
         (
-            &["--from", "27"][..],
-            "--from 27: the trace has only 26 ticks",
+            &["--from", "34"][..],
+            "--from 34: the trace has only 33 ticks",
         ),
         (
             &["--from", "99", "--to", "100", "--only-changes"],
-            "--from 99: the trace has only 26 ticks",
+            "--from 99: the trace has only 33 ticks",
         ),
     ] {
         let (rows, said) = ended("explain", &[words, &[&seal]].concat(), &[], 0);
@@ -103,10 +106,10 @@ fn a_range_past_the_end_is_told() {
 #[test]
 fn only_changes() {
     let seal = rows(&["--only-changes", &example("broken-seal.trace")], &[]);
-    assert_eq!(numbers(&seal), [8, 9, 11, 13, 15, 16, 19, 22, 25]);
+    assert_eq!(numbers(&seal), [15, 16, 18, 20, 22, 23, 26, 29, 32]);
     assert!(seal[4].contains("write CLASSA_CLR 1              refused: locked"));
     let refused = rows(&["--only-changes", &example("refused-accesses.trace")], &[]);
-    assert_eq!(numbers(&refused), [4, 5, 6, 7, 8, 9, 10, 11]);
+    assert_eq!(numbers(&refused), [7, 8, 9, 10, 12, 13, 14, 15, 16]);
 }
 
 /// Every lock that falls is a change; a lock that has fallen and a 1 that is written to one that has not are none.
@@ -144,7 +147,7 @@ fn standard_input() {
 #[test]
 fn a_file_may_have_the_name_of_an_option() {
     let seal = example("broken-seal.trace");
-    assert_eq!(rows(&["--", &seal], &[]).len(), 26);
+    assert_eq!(rows(&["--", &seal], &[]).len(), 33);
     assert_eq!(rows(&["--to", "3", "--", &seal], &[]).len(), 3);
     let said = refused("explain", &["--", "--help"], &[]);
     assert!(said.starts_with("cannot open --help: "), "{said}");
@@ -191,19 +194,19 @@ fn a_crowded_tick_fits() {
             |register: u16, value: u64, wires| record(edition, 2, register.into(), value, wires);
         let mut bytes = start(edition, alerts as u8);
         for i in 0..alerts {
-            bytes.extend(write(map.alert(Field::En, i), 1, Wires::REST));
-            bytes.extend(write(map.alert(Field::Class, i), i as u64 % 4, Wires::REST));
+            bytes.extend(configure(edition, map.alert(Field::En, i), 1));
+            bytes.extend(configure(edition, map.alert(Field::Class, i), i as u32 % 4));
         }
         for k in 0..4 {
-            let long = u64::from(u32::MAX);
-            bytes.extend(write(map.class(k, Setting::Phase0Cyc), long, Wires::REST));
-            bytes.extend(write(map.class(k, Setting::Ctrl), 0x393F, Wires::REST));
+            let long = map.class(k, Setting::Phase0Cyc);
+            bytes.extend(configure(edition, long, u32::MAX));
+            bytes.extend(configure(edition, map.class(k, Setting::Ctrl), 0x393F));
         }
         let [thresh, count] = [Setting::AccumThresh, Setting::EscCnt].map(|s| map.class(0, s));
         let raised = write(thresh, u64::from(u32::MAX), all_at(edition, 0b10));
         let read = record(edition, 1, count.into(), 0, Wires::REST);
         bytes.extend([raised, read].concat().repeat(11_000));
-        let (rows, first) = (rows(&["-"], &bytes), 2 * alerts + 8);
+        let (rows, first) = (rows(&["-"], &bytes), 2 * (2 * alerts + 8));
         assert_eq!(rows.len(), first + 22_000);
         assert!(rows[first].contains(" +"), "{}", rows[first]);
         let last = &rows[first + 21_999];
@@ -226,8 +229,8 @@ fn wires_that_do_not_fit_are_counted() {
         bytes.extend(record(edition, 1, ctrl, 0, crowd));
         for k in 0..4 {
             let long = u64::from(u32::MAX);
-            bytes.extend(write(map.class(k, Setting::TimeoutCyc), long));
-            bytes.extend(write(map.class(k, Setting::Ctrl), 0x393F));
+            bytes.extend(write(map.class(k, Setting::TimeoutCyc), long).repeat(2));
+            bytes.extend(write(map.class(k, Setting::Ctrl), 0x393F).repeat(2));
         }
         bytes.extend(write(2, 15));
         let thresh = map.class(3, Setting::AccumThresh);
@@ -244,6 +247,61 @@ fn wires_that_do_not_fit_are_counted() {
         ] {
             assert!(row.contains(&said), "{row}");
         }
+    }
+}
+
+/// What becomes of a stage is in the answer, how many are open at the end of the row; a drop is a change.
+#[test]
+fn stages_are_told() {
+    for edition in Edition::ALL {
+        let map = edition.registers();
+        let [ctrl, length] = [Setting::Ctrl, Setting::Phase0Cyc].map(|s| map.class(0, s));
+        let regwen = map.class(0, Setting::Regwen);
+        let write = |register: u16, value| record(edition, 2, register.into(), value, Wires::REST);
+        let read = |register: u16| record(edition, 1, register.into(), 0, Wires::REST);
+        let long = u64::from(u32::MAX);
+        let bytes = [
+            start(edition, 1),
+            configure(edition, map.local(Field::En, 5), 1),
+            [write(ctrl, 1), write(length, long), read(ctrl)].concat(),
+            [write(ctrl, 1), write(ctrl, 0x4000), write(ctrl, 3)].concat(),
+            [write(length, long), read(length), write(ctrl, 5)].concat(),
+            [write(regwen, 0), write(ctrl, 5), read(ctrl)].concat(),
+        ]
+        .concat();
+        let all = rows(&["-"], &bytes);
+        for (row, (said, end)) in all.iter().zip([
+            ("write LOC_ALERT5_EN 1           staged ", "[1 staged]"),
+            ("write LOC_ALERT5_EN 1           committed ", "Idle"),
+            ("write CLASSA_CTRL 0x1           staged ", "[1 staged]"),
+            ("write CLASSA_PHASE0_CYC 4294967295: staged ", "[2 staged]"),
+            (
+                "read CLASSA_CTRL                0x393c, unstaged ",
+                "[1 staged]",
+            ),
+            ("write CLASSA_CTRL 0x1           staged ", "[2 staged]"),
+            (
+                "write CLASSA_CTRL 0x4000        refused: too wide ",
+                "[2 staged]",
+            ),
+            (
+                "write CLASSA_CTRL 0x3: refused: differs ",
+                "LOC_ALERT5 [1 staged]",
+            ),
+            ("write CLASSA_PHASE0_CYC 4294967295: committed ", "Idle"),
+            ("read CLASSA_PHASE0_CYC          4294967295 ", "Idle"),
+            ("write CLASSA_CTRL 0x5           staged ", "[1 staged]"),
+            ("write CLASSA_REGWEN 0           done ", "[1 staged]"),
+            ("write CLASSA_CTRL 0x5           refused: locked ", "Idle"),
+            ("read CLASSA_CTRL                0x393c ", "Idle"),
+        ]) {
+            assert!(row.contains(said) && row.ends_with(end), "{row}");
+        }
+        let changes = rows(&["--only-changes", "-"], &bytes);
+        assert_eq!(numbers(&changes), [5, 7, 8, 12, 13]);
+        let wide = &explained(&["--wide", "-"], &bytes)[2 + 3];
+        let list = "[staged: CLASSA_CTRL 0x1, CLASSA_PHASE0_CYC 4294967295]";
+        assert!(wide.ends_with(list), "{wide}");
     }
 }
 
@@ -267,6 +325,9 @@ fn each_command_has_its_own_help() {
     helps("explain", &editions, "-o TRACE");
     helps("record", &["--back", "-o", "raw HEX", "cut HEX"], "--wide");
     helps("record", &["edition 24", "edition 70"], "--only-changes");
+    let staged = ["[2 staged]", "committed", "refused: differs", "unstaged"];
+    helps("explain", &staged, "two equal lines");
+    helps("record", &["two equal lines"], "unstaged");
     let help = String::from_utf8(given("explain", &["--help"], &[])).expect("text");
     let order = "The answer is given before the tick's events;";
     assert!(help.contains(order));

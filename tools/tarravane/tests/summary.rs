@@ -1,10 +1,11 @@
 //! `explain --summary`: what a technician asks first.
 mod common;
 
-use common::{example, explained, given};
+use common::{configured, example, explained, given};
 
-/// The summary of a text's trace: the same in both editions, but for the title.
+/// The summary of the trace of a text, with `configure` for two equal writes: the same in both editions, but for the title.
 fn summary(text: &str) -> Vec<String> {
+    let text = configured(text);
     let [old, new] = ["edition 24\n", ""].map(|edition| {
         let text = format!("{edition}{text}");
         let trace = given("record", &["-"], text.as_bytes());
@@ -31,15 +32,16 @@ fn the_broken_seal() {
     assert_eq!(
         of_example("broken-seal"),
         "\
-alerts: 2; records of 24 bytes; ticks: 26
-class A: 1 start; clears accepted none, refused at 15
-  start at 13 by ALERT0; locked, LOCK set; Ph0 13, Ph1 16, Ph2 19, Ph3 22, Term 25
-    line 0 13-15, line 1 16-18, line 2 19-21, line 3 22-24
+alerts: 2; records of 24 bytes; ticks: 33
+class A: 1 start; clears accepted none, refused at 22
+  start at 20 by ALERT0; locked, LOCK set; Ph0 20, Ph1 23, Ph2 26, Ph3 29, Term 32
+    line 0 20-22, line 1 23-25, line 2 26-28, line 3 29-31
 class B: no start; no clear
 class C: no start; no clear
 class D: no start; no clear
 events:
-  ALERT0: 3 events, first at 9, last at 13
+  ALERT0: 3 events, first at 16, last at 20
+shadow writes: 7 staged, 7 committed; dropped none; open at the end none
 other refusals: none
 "
     );
@@ -50,15 +52,16 @@ fn the_far_alert() {
     assert_eq!(
         of_example("far-alert"),
         "\
-alerts: 248; records of 70 bytes; ticks: 25
+alerts: 248; records of 70 bytes; ticks: 34
 class A: no start; no clear
-class B: 1 start; clears accepted none, refused at 17
-  start at 16 by the timeout; locked, LOCK set; Ph0 16, Ph1 18, Ph2 20, Ph3 22, Term 24
-    line 0 16-17, line 1 18-19, line 2 20-21, line 3 22-23
+class B: 1 start; clears accepted none, refused at 26
+  start at 25 by the timeout; locked, LOCK set; Ph0 25, Ph1 27, Ph2 29, Ph3 31, Term 33
+    line 0 25-26, line 1 27-28, line 2 29-30, line 3 31-32
 class C: no start; no clear
 class D: no start; no clear
 events:
-  ALERT247: 1 event, at 12
+  ALERT247: 1 event, at 21
+shadow writes: 9 staged, 9 committed; dropped none; open at the end none
 other refusals: none
 "
     );
@@ -69,13 +72,15 @@ fn refusals_are_counted_by_number() {
     let text = of_example("refused-accesses");
     let refusals = "\
 events:
-  ALERT0: 1 event, at 11
+  ALERT0: 1 event, at 16
+shadow writes: 4 staged, 3 committed; dropped at 12; open at the end none
 other refusals, by number:
   1 (no register): 2 times
   2 (write only or read only): 2 times
   3 (locked): 1 time
   4 (too wide): 1 time
   5 (malformed): 1 time
+  12 (second write differs): 1 time
 ";
     assert!(text.ends_with(refusals), "{text}");
 }
@@ -85,40 +90,41 @@ other refusals, by number:
 fn a_start_that_is_cleared() {
     let all = summary(
         "alerts 4
-        write ALERT0_EN 1
-        write ALERT2_EN 1
-        write ALERT3_EN 1
-        write ALERT3_CLASS 1
-        write LOC_ALERT2_EN 1
-        write CLASSA_PHASE0_CYC 2
-        write CLASSA_PHASE1_CYC 9
-        write CLASSA_CTRL 0x105     # EN, line 0 in phase 0 and no other
-        none wires 0=10 1-3=11      # 9
+        configure ALERT0_EN 1
+        configure ALERT2_EN 1
+        configure ALERT3_EN 1
+        configure ALERT3_CLASS 1
+        configure LOC_ALERT2_EN 1
+        configure CLASSA_PHASE0_CYC 2
+        configure CLASSA_PHASE1_CYC 9
+        configure CLASSA_CTRL 0x105     # EN, line 0 in phase 0 and no other
+        none wires 0=10 1-3=11      # 17
         none wires 2=10
         none
         none
-        write CLASSA_CLR 1          # 13
+        write CLASSA_CLR 1          # 21
         none wires 1=10",
     );
     assert_eq!(
         all[1],
-        "class A: 1 start; clears accepted at 13, refused none"
+        "class A: 1 start; clears accepted at 21, refused none"
     );
     assert_eq!(
         starts(&all),
         [
-            "  start at 9 by ALERT0 LOC_ALERT2; not locked, no LOCK; Ph0 9, Ph1 11, cleared 13",
-            "    line 0 9-10",
+            "  start at 17 by ALERT0 LOC_ALERT2; not locked, no LOCK; Ph0 17, Ph1 19, cleared 21",
+            "    line 0 17-18",
         ]
     );
     assert_eq!(
-        all[all.len() - 6..],
+        all[all.len() - 7..],
         [
             "events:",
-            "  ALERT0: 1 event, at 9",
-            "  ALERT1: 1 event, at 14; 1 while disabled",
-            "  ALERT2: 1 event, at 10",
-            "  LOC_ALERT2: 1 occurrence, at 9",
+            "  ALERT0: 1 event, at 17",
+            "  ALERT1: 1 event, at 22; 1 while disabled",
+            "  ALERT2: 1 event, at 18",
+            "  LOC_ALERT2: 1 occurrence, at 17",
+            "shadow writes: 8 staged, 8 committed; dropped none; open at the end none",
             "other refusals: none",
         ]
     );
@@ -129,21 +135,21 @@ fn a_start_that_is_cleared() {
 fn a_start_by_the_timeout() {
     let all = summary(
         "alerts 1
-        write ALERT0_EN 1
-        write CLASSA_ACCUM_THRESH 9
-        write CLASSA_TIMEOUT_CYC 2
-        write CLASSA_PHASE0_CYC 100
-        write CLASSA_CTRL 0x393f
-        none wires 0=10             # 6: Timeout, count 1
+        configure ALERT0_EN 1
+        configure CLASSA_ACCUM_THRESH 9
+        configure CLASSA_TIMEOUT_CYC 2
+        configure CLASSA_PHASE0_CYC 100
+        configure CLASSA_CTRL 0x393f
+        none wires 0=10             # 11: Timeout, count 1
         none
-        none wires 0=10             # 8: an event, but no trigger
+        none wires 0=10             # 13: an event, but no trigger
         none",
     );
     assert_eq!(
         starts(&all),
         [
-            "  start at 8 by the timeout; not locked, LOCK set; Ph0 8",
-            "    line 0 8-end",
+            "  start at 13 by the timeout; not locked, LOCK set; Ph0 13",
+            "    line 0 13-end",
         ]
     );
 }
@@ -153,18 +159,18 @@ fn a_start_by_the_timeout() {
 fn two_classes_on_one_line() {
     let all = summary(
         "alerts 2
-        write ALERT0_EN 1
-        write ALERT1_EN 1
-        write ALERT1_CLASS 1
-        write CLASSA_ACCUM_THRESH 1
-        write CLASSA_TIMEOUT_CYC 50
-        write CLASSA_PHASE0_CYC 3
-        write CLASSB_PHASE0_CYC 3
-        write CLASSA_CTRL 0x5
-        write CLASSB_CTRL 0x5
-        none wires 0=10             # 10: A to Timeout
-        none wires 1=10             # 11: B starts
-        none wires 0=10             # 12: A starts
+        configure ALERT0_EN 1
+        configure ALERT1_EN 1
+        configure ALERT1_CLASS 1
+        configure CLASSA_ACCUM_THRESH 1
+        configure CLASSA_TIMEOUT_CYC 50
+        configure CLASSA_PHASE0_CYC 3
+        configure CLASSB_PHASE0_CYC 3
+        configure CLASSA_CTRL 0x5
+        configure CLASSB_CTRL 0x5
+        none wires 0=10             # 19: A to Timeout
+        none wires 1=10             # 20: B starts
+        none wires 0=10             # 21: A starts
         write CLASSA_REGWEN 0
         none
         none",
@@ -174,11 +180,11 @@ fn two_classes_on_one_line() {
         shown[1..7],
         [
             "class A: 1 start; no clear",
-            "  start at 12 by ALERT0; not locked, no LOCK; Ph0 12, Ph1 15",
-            "    line 0 12-14",
+            "  start at 21 by ALERT0; not locked, no LOCK; Ph0 21, Ph1 24",
+            "    line 0 21-23",
             "class B: 1 start; no clear",
-            "  start at 11 by ALERT1; not locked, no LOCK; Ph0 11, Ph1 14, Ph2 15",
-            "    line 0 11-13",
+            "  start at 20 by ALERT1; not locked, no LOCK; Ph0 20, Ph1 23, Ph2 24",
+            "    line 0 20-22",
         ]
     );
 }
@@ -186,10 +192,10 @@ fn two_classes_on_one_line() {
 /// Starts, clears and lines beyond those that are kept are counted.
 #[test]
 fn long_lists_are_counted() {
-    let head = "alerts 1\nwrite ALERT0_EN 1\nwrite CLASSA_PHASE0_CYC 1000\nwrite CLASSA_CTRL 0x5\n";
+    let head = "alerts 1\nconfigure ALERT0_EN 1\nconfigure CLASSA_PHASE0_CYC 1000\nconfigure CLASSA_CTRL 0x5\n";
     let again = "none wires 0=10\nwrite CLASSA_CLR 1\n".repeat(20);
     let all = summary(&format!("{head}{again}"));
-    let ticks = "5, 7, 9, 11, 13, 15, 17, 19";
+    let ticks = "8, 10, 12, 14, 16, 18, 20, 22";
     assert_eq!(
         all[1],
         format!("class A: 20 starts; clears accepted at {ticks} and 12 more, refused none")
@@ -198,18 +204,18 @@ fn long_lists_are_counted() {
     assert_eq!(starts.len(), 2 * 8 + 1);
     assert_eq!(
         starts[14],
-        "  start at 18 by ALERT0; not locked, no LOCK; Ph0 18, cleared 19"
+        "  start at 21 by ALERT0; not locked, no LOCK; Ph0 21, cleared 22"
     );
-    assert_eq!(starts[15], "    line 0 18-18");
+    assert_eq!(starts[15], "    line 0 21-21");
     assert_eq!(starts[16], "  and 12 later starts");
-    let blink = "write CLASSA_CTRL 0x1\nwrite CLASSA_CTRL 0x5\n".repeat(10);
+    let blink = "configure CLASSA_CTRL 0x1\nconfigure CLASSA_CTRL 0x5\n".repeat(10);
     let all = summary(&format!("{head}none wires 0=10\n{blink}"));
     assert!(
-        all[3].starts_with("    line 0 4-4, line 0 6-6, "),
+        all[3].starts_with("    line 0 7-8, line 0 11-12, "),
         "{}",
         all[3]
     );
-    assert!(all[3].ends_with(", line 0 18-18 and 3 more"), "{}", all[3]);
+    assert!(all[3].ends_with(", line 0 35-36 and 3 more"), "{}", all[3]);
 }
 
 /// A 0 that is written to CLR clears nothing, and a value that is too wide is no clear.
@@ -226,9 +232,48 @@ fn what_is_no_clear() {
     assert_eq!(
         all[6..],
         [
+            "shadow writes: none",
             "other refusals, by number:",
             "  2 (write only or read only): 1 time",
             "  4 (too wide): 1 time",
         ]
     );
+}
+
+/// Stages that are dropped by a read, a differing write and a lock, and those that are open at the end.
+#[test]
+fn shadow_writes_are_counted() {
+    let all = summary(
+        "alerts 9
+        configure LOC_ALERT5_EN 1
+        write CLASSA_CTRL 0x393d
+        read CLASSA_CTRL            # 4
+        write ALERT0_EN 1
+        write ALERT0_EN 0           # 6: it differs
+        write ALERT8_CLASS 3
+        write ALERT8_REGWEN 0
+        write ALERT8_CLASS 3        # 9: locked
+        write CLASSB_TIMEOUT_CYC 4294967295
+        write LOC_ALERT6_EN 0",
+    );
+    assert_eq!(
+        all[5..],
+        [
+            "events:",
+            "  LOC_ALERT5: 1 occurrence, at 6",
+            "shadow writes: 6 staged, 1 committed; dropped at 4, 6, 9; open at the end LOC_ALERT6_EN, CLASSB_TIMEOUT_CYC",
+            "other refusals, by number:",
+            "  3 (locked): 1 time",
+            "  12 (second write differs): 1 time",
+        ]
+    );
+}
+
+/// Of many open stages the first are named.
+#[test]
+fn open_stages_beyond_those_that_are_kept_are_counted() {
+    let writes: String = (0..12).map(|i| format!("write ALERT{i}_EN 1\n")).collect();
+    let all = summary(&format!("alerts 12\n{writes}"));
+    assert!(all[6].starts_with("shadow writes: 12 staged, 0 committed; dropped none; open"));
+    assert!(all[6].ends_with(", ALERT7_EN and 4 more"), "{}", all[6]);
 }

@@ -1,7 +1,9 @@
 //! `explain --wide`: rows that leave nothing out.
 mod common;
 
-use common::records::{all_at, apart, off_rest, record, record_24, record_70, start, REST};
+use common::records::{
+    all_at, apart, configure, off_rest, record, record_24, record_70, start, REST,
+};
 use common::{example, explained};
 use handler::registers::{Field, Setting};
 use handler::{Edition, Wires};
@@ -34,11 +36,11 @@ fn every_cause_is_there() {
         let mut bytes = start(edition, alerts as u8);
         for i in 0..alerts {
             let en = edition.registers().alert(Field::En, i);
-            bytes.extend(record(edition, 2, en.into(), 1, Wires::REST));
+            bytes.extend(configure(edition, en, 1));
         }
         bytes.extend(record(edition, 0, 0, 0, all_at(edition, 0b10)));
         let all: Vec<String> = (0..alerts).map(|i| i.to_string()).collect();
-        let row = &rows(&["-", "--wide"], &bytes)[alerts];
+        let row = &rows(&["-", "--wide"], &bytes)[2 * alerts];
         let wires = format!(" none wires 0-{}=10 ", alerts - 1);
         assert!(row.contains(&wires), "{row}");
         assert!(row.ends_with(&format!(" ALERT{}", all.join(","))), "{row}");
@@ -61,7 +63,7 @@ fn a_malformed_record_is_there_by_its_bytes() {
         "raw 541000000000abcd80000000000000007fffffffffffffff wires 0=10: refused: malformed ",
         "raw d4100000ffffffff0000000000000000ffffffffffffffff: refused: malformed ",
         "raw 94100001000000050000000000000000ffffffffffffffff: refused: malformed ",
-        "write CLASSA_CTRL 0x5           done ",
+        "write CLASSA_CTRL 0x5           staged ",
     ]) {
         assert!(row.contains(said), "{row}");
     }
@@ -86,7 +88,7 @@ fn a_malformed_record_of_70_bytes_is_there_by_its_bytes() {
             "f".repeat(61)
         ),
         format!("raw a80c000000000005{zeros}{ones}: refused: malformed "),
-        "write CLASSA_CTRL 0x5           done ".to_string(),
+        "write CLASSA_CTRL 0x5           staged ".to_string(),
     ]) {
         assert!(row.contains(&said), "{row}");
     }
@@ -96,7 +98,10 @@ fn a_malformed_record_of_70_bytes_is_there_by_its_bytes() {
 #[test]
 fn a_row_with_room_is_as_ever() {
     let seal = example("broken-seal.trace");
-    assert_eq!(rows(&[&seal, "--wide"], &[]), rows(&[&seal], &[]));
+    // From the lock on no stage is open.
+    let locked = [&seal[..], "--from", "15"];
+    let wide = [&locked[..], &["--wide"]].concat();
+    assert_eq!(rows(&wide, &[]), rows(&locked, &[]));
     let changes = ["--only-changes", "--wide", &seal];
     assert_eq!(rows(&changes, &[]).len(), 9);
 }

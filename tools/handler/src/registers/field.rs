@@ -34,4 +34,9 @@ impl Field {
             _ => 1,
         }
     }
+
+    /// Does it take two equal writes?
+    pub fn is_shadowed(self) -> bool {
+        matches!(self, Field::En | Field::Class)
+    }
 }

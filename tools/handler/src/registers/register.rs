@@ -54,6 +54,15 @@ fn setting(rest: &str) -> Option<(usize, Setting)> {
 }
 
 impl Register {
+    /// Does it take two equal writes?
+    pub fn is_shadowed(self) -> bool {
+        match self {
+            Register::IntrState | Register::IntrEnable | Register::IntrTest => false,
+            Register::Local(field, _) | Register::Alert(field, _) => field.is_shadowed(),
+            Register::Class(_, setting) => setting.is_shadowed(),
+        }
+    }
+
     /// The register of this name; whether an edition has that alert, its map says.
     pub fn named(name: &str) -> Option<Register> {
         match name {

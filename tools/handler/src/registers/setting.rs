@@ -67,6 +67,17 @@ impl Setting {
         State,
     ];
 
+    /// Those that take two equal writes: CTRL, ACCUM_THRESH, TIMEOUT_CYC and the phase lengths.
+    pub const SHADOWED: [Setting; 7] = [
+        Ctrl,
+        AccumThresh,
+        TimeoutCyc,
+        Phase0Cyc,
+        Phase1Cyc,
+        Phase2Cyc,
+        Phase3Cyc,
+    ];
+
     /// The phase lengths, phase 0 first.
     pub const PHASES: [Setting; 4] = [Phase0Cyc, Phase1Cyc, Phase2Cyc, Phase3Cyc];
 
@@ -87,6 +98,11 @@ impl Setting {
             EscCnt => "ESC_CNT",
             State => "STATE",
         }
+    }
+
+    /// Does it take two equal writes?
+    pub fn is_shadowed(self) -> bool {
+        Setting::SHADOWED.contains(&self)
     }
 
     /// The bits of the register.

@@ -157,3 +157,40 @@ fn the_lists_are_in_the_order_of_the_numbers() {
     }
     assert_eq!(Setting::PHASES[..], Setting::ALL[7..11]);
 }
+
+#[test]
+fn shadowed_are_those_that_request_v_names() {
+    for map in [MAP, MAP_24] {
+        let shadowed = |n: &u16| map.register(*n).is_some_and(|it| it.is_shadowed());
+        assert_eq!(
+            (0..=u16::MAX).filter(shadowed).count(),
+            2 * (7 + map.alerts) + 4 * 7
+        );
+    }
+    for name in [
+        "LOC_ALERT6_EN",
+        "ALERT0_CLASS",
+        "CLASSD_CTRL",
+        "CLASSA_ACCUM_THRESH",
+        "CLASSB_TIMEOUT_CYC",
+        "CLASSC_PHASE3_CYC",
+    ] {
+        assert!(
+            Register::named(name).is_some_and(|it| it.is_shadowed()),
+            "{name}"
+        );
+    }
+    for name in [
+        "INTR_ENABLE",
+        "LOC_ALERT6_CAUSE",
+        "ALERT0_REGWEN",
+        "CLASSD_CLR",
+        "CLASSA_REGWEN",
+        "CLASSB_CLR_REGWEN",
+    ] {
+        assert!(
+            Register::named(name).is_some_and(|it| !it.is_shadowed()),
+            "{name}"
+        );
+    }
+}

@@ -2,6 +2,7 @@
 
 use super::QUIET;
 use crate::calls::reference_edition;
+use crate::configure::configure;
 use crate::record::{record, WRITE};
 use handler::registers::{Field, Setting, INTR_ENABLE};
 use handler::{Edition, CLASSES};
@@ -12,7 +13,7 @@ fn set_up(edition: Edition) -> Vec<u8> {
     let map = edition.registers();
     let mut writes = vec![(INTR_ENABLE, 15), (map.local(Field::En, 2), 1)];
     for i in 0..map.alerts {
-        writes.push((map.alert(Field::Class, i), (i % CLASSES) as u64));
+        writes.push((map.alert(Field::Class, i), (i % CLASSES) as u32));
         writes.push((map.alert(Field::En, i), 1));
     }
     for k in 0..CLASSES {
@@ -20,9 +21,12 @@ fn set_up(edition: Edition) -> Vec<u8> {
         writes.extend(Setting::PHASES.map(|phase| (map.class(k, phase), 1000)));
         writes.push((map.class(k, Setting::Ctrl), 0x393D));
     }
-    let records = writes.into_iter();
-    records
-        .flat_map(|(register, value)| record(edition, WRITE.into(), register.into(), value, QUIET))
+    let writes = writes.into_iter();
+    writes
+        .flat_map(|(register, value)| configure(map, register, value))
+        .flat_map(|(register, value)| {
+            record(edition, WRITE.into(), register.into(), value.into(), QUIET)
+        })
         .collect()
 }
 

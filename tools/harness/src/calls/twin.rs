@@ -2,8 +2,10 @@
 //! so that no field can be forgotten.
 
 use handler::{
-    Access, Alerts, Class, Edition, Handler, Interrupts, Locals, Receivers, ALERTS, WORDS,
+    Access, AlertStages, Alerts, Class, ClassStages, Edition, Handler, Interrupts, LocalStages,
+    Locals, Receivers, Stages, ALERTS, WORDS,
 };
+use reference::stages::SourceStages;
 use reference::Source;
 use std::array::from_fn;
 
@@ -28,6 +30,7 @@ pub fn reference_of(state: &Handler) -> reference::Handler {
         }),
         armed: from_fn(|i| (state.receivers.armed[i / 64] >> (63 - i % 64)) & 1 == 1),
         classes: from_fn(|k| reference_class(&state.classes[k])),
+        stages: reference_stages(&state.stages),
     }
 }
 
@@ -42,6 +45,30 @@ fn reference_class(class: &Class) -> reference::Class {
         phase_cyc: class.lengths,
         esc_cnt: class.count,
         state: class.state,
+    }
+}
+
+fn reference_stages(stages: &Stages) -> reference::Stages {
+    let Stages {
+        classes,
+        alerts,
+        locals,
+    } = stages;
+    reference::Stages {
+        classes: from_fn(|k| reference::stages::ClassStages {
+            lengths: classes[k].lengths,
+            timeout: classes[k].timeout,
+            ctrl: classes[k].ctrl,
+            thresh: classes[k].thresh,
+        }),
+        alerts: SourceStages {
+            en: alerts.en,
+            class: alerts.class,
+        },
+        locals: SourceStages {
+            en: locals.en,
+            class: locals.class,
+        },
     }
 }
 
@@ -83,6 +110,31 @@ pub fn handler_of(state: &reference::Handler) -> Handler {
         interrupts: Interrupts {
             state: state.intr_state,
             enable: state.intr_enable,
+        },
+        stages: handler_stages(&state.stages),
+    }
+}
+
+fn handler_stages(stages: &reference::Stages) -> Stages {
+    let reference::Stages {
+        classes,
+        alerts,
+        locals,
+    } = stages;
+    Stages {
+        classes: from_fn(|k| ClassStages {
+            lengths: classes[k].lengths,
+            timeout: classes[k].timeout,
+            ctrl: classes[k].ctrl,
+            thresh: classes[k].thresh,
+        }),
+        alerts: AlertStages {
+            en: alerts.en,
+            class: alerts.class,
+        },
+        locals: LocalStages {
+            en: locals.en,
+            class: locals.class,
         },
     }
 }

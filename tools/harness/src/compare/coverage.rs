@@ -1,11 +1,15 @@
 //! What a set of traces reached, taken from the reference while it runs.
 
+use super::shadowed::Shadowed;
 use crate::record::{Head, NONE, READ};
 use handler::Edition;
 use reference::handler::CLASSES;
 use reference::Handler;
 use std::collections::BTreeSet;
 use std::fmt;
+
+/// The refusals that a tick of a trace gets, 0 for none.
+pub const ANSWERS: [usize; 7] = [0, 1, 2, 3, 4, 5, 12];
 
 /// Counts over all traces of a set.
 #[derive(Default)]
@@ -19,7 +23,7 @@ pub struct Coverage {
     /// Ticks that read, were refused, or had an interrupt or line on.
     pub showing: u64,
     /// Ticks by refusal number, 0 for accepted.
-    pub answers: [u64; 6],
+    pub answers: [u64; 13],
     /// Traces with a missing or refused N.
     pub no_handler: u64,
     /// Traces with a cut end.
@@ -47,6 +51,8 @@ pub struct Coverage {
     /// Alerts that alone of the enabled ones had equal wires, with local 2
     /// enabled.
     pub lone_equal: BTreeSet<usize>,
+    /// What became of stages.
+    pub shadowed: Shadowed,
 }
 
 impl Coverage {
@@ -103,8 +109,8 @@ impl Coverage {
             part(self.showing)
         )?;
         write!(out, "answers: accepted {}", self.answers[0])?;
-        for (number, count) in self.answers.iter().enumerate().skip(1) {
-            write!(out, ", refusal {number}: {count}")?;
+        for number in &ANSWERS[1..] {
+            write!(out, ", refusal {number}: {}", self.answers[*number])?;
         }
         writeln!(out, ", refusal 6: {}", self.no_handler)?;
         writeln!(out, "cut ends {}, N {:?}", self.cut, self.counts)?;
@@ -113,7 +119,8 @@ impl Coverage {
             "registers accessed {}, alerts with a cause {}",
             self.registers.len(),
             self.causes.len()
-        )
+        )?;
+        write!(out, "{}", self.shadowed)
     }
 
     /// What the classes reached.

@@ -21,6 +21,7 @@ pub fn expected(bytes: &[u8], coverage: &mut Coverage) -> Vec<u8> {
     let records = input.records.chunks_exact(input.edition.bytes());
     let rest = records.remainder();
     let mut text = String::new();
+    coverage.shadowed.begin();
     for record in records {
         let before = handler.clone();
         let mut word = [0];
@@ -29,6 +30,8 @@ pub fn expected(bytes: &[u8], coverage: &mut Coverage) -> Vec<u8> {
         coverage.access(input.edition, head, word[0]);
         coverage.tick(&before, &handler, word[0]);
         coverage.alone(&before, &handler, &record[8..]);
+        let shadowed = &mut coverage.shadowed;
+        shadowed.tick(input.edition, head, word[0], &before, &handler);
         writeln!(text, "{:016x}", word[0]).expect("a string takes all");
     }
     coverage.end(&handler);

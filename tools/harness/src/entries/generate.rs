@@ -3,6 +3,7 @@
 use super::lent::{Entries, GUARD, UNITS};
 use super::row::Row;
 use super::spoil::{spoil, Way, WAYS};
+use crate::configure::configure;
 use crate::record::WRITE;
 use crate::rng::Rng;
 use handler::registers::{Field, Setting, INTR_ENABLE, MAP};
@@ -19,7 +20,7 @@ impl Entries {
         let (few, any) = (rng.index(4), rng.index(MOST + 1));
         let count = rng.pick(&[few, any, any, MOST]);
         let mut rows: Vec<Row> = (0..count).map(|_| Row::good(rng)).collect();
-        if count >= 8 && rng.once_in(2) {
+        if count >= 12 && rng.once_in(2) {
             set_up(rng, n, &mut rows);
         }
         spoil(way, rng, &mut rows);
@@ -40,6 +41,8 @@ fn set_up(rng: &mut Rng, n: usize, rows: &mut [Row]) {
         (MAP.local(Field::En, 2), rng.below(2) as u32),
         (MAP.class(0, Setting::Ctrl), 0x393D),
     ];
+    let writes = writes.into_iter();
+    let writes = writes.flat_map(|(register, value)| configure(MAP, register, value));
     for (row, (register, value)) in rows.iter_mut().zip(writes) {
         (row.kind, row.register, row.value) = (WRITE, register, value);
     }

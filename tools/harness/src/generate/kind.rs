@@ -15,7 +15,7 @@ pub enum Kind {
     Locks,
     /// Refused accesses and malformed records.
     Refusals,
-    /// Every register number written, then read; in new records every alert.
+    /// Every register number written, then read; then every alert raised.
     Sweep,
     /// Any N, few records, cut ends, no bytes at all.
     Ends,
@@ -25,10 +25,12 @@ pub enum Kind {
     Noise,
     /// A generated trace with flipped bits, lost bytes or added bytes.
     Damaged,
+    /// Stages: first, equal and differing writes, and what comes between them.
+    Shadow,
 }
 
 /// Every kind with its name on the command line.
-pub const KINDS: [(Kind, &str); 11] = [
+pub const KINDS: [(Kind, &str); 12] = [
     (Kind::Mixed, "mixed"),
     (Kind::Escalate, "escalate"),
     (Kind::Timeout, "timeout"),
@@ -40,6 +42,7 @@ pub const KINDS: [(Kind, &str); 11] = [
     (Kind::Full, "full"),
     (Kind::Noise, "noise"),
     (Kind::Damaged, "damaged"),
+    (Kind::Shadow, "shadow"),
 ];
 
 impl Kind {
@@ -65,7 +68,7 @@ impl Kind {
             Kind::Accumulate,
             Kind::Locks,
             Kind::Refusals,
-            Kind::Mixed,
+            Kind::Shadow,
             Kind::Timeout,
             Kind::Sweep,
             Kind::Ends,

@@ -56,28 +56,28 @@ fn set_up(scene: &mut Scene, way: u64) {
     let other = (k + 1) % CLASSES;
     let last = scene.n - 1;
     for i in [0, last] {
-        scene.write(map.alert(Field::Class, i), k as u32);
+        scene.configure(map.alert(Field::Class, i), k as u32);
     }
-    scene.write(map.alert(Field::En, 0), 1);
+    scene.configure(map.alert(Field::En, 0), 1);
     if way == 0 {
-        scene.write(map.alert(Field::En, last), 1);
+        scene.configure(map.alert(Field::En, last), 1);
     }
     if way == 2 {
-        scene.write(map.local(Field::Class, 2), k as u32);
-        scene.write(map.local(Field::En, 2), 1);
+        scene.configure(map.local(Field::Class, 2), k as u32);
+        scene.configure(map.local(Field::En, 2), 1);
     }
     let threshold = scene.rng.pick(&[65535, 65535, 65534, 65533]);
-    scene.write(map.class(k, Setting::AccumThresh), threshold);
+    scene.configure(map.class(k, Setting::AccumThresh), threshold);
     for (phase, length) in Setting::PHASES.into_iter().zip([3, 0, 1, 2]) {
-        scene.write(map.class(k, phase), length);
+        scene.configure(map.class(k, phase), length);
     }
-    scene.write(map.class(k, Setting::Ctrl), 0x393D);
+    scene.configure(map.class(k, Setting::Ctrl), 0x393D);
     // The other class starts by a timeout and ends before the accumulator.
     for (phase, length) in Setting::PHASES.into_iter().zip([255, 256, 1000, 60000]) {
-        scene.write(map.class(other, phase), length);
+        scene.configure(map.class(other, phase), length);
     }
-    scene.write(map.class(other, Setting::TimeoutCyc), 257);
-    scene.write(map.class(other, Setting::Ctrl), 0x1B3D);
+    scene.configure(map.class(other, Setting::TimeoutCyc), 257);
+    scene.configure(map.class(other, Setting::Ctrl), 0x1B3D);
     scene.write(INTR_ENABLE, 15);
     scene.write(INTR_TEST, 1 << other);
 }

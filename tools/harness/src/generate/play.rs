@@ -19,7 +19,11 @@ pub fn play(edition: Edition, mut rng: Rng, kind: Kind) -> Vec<u8> {
     // A start under LOCK comes once for each class, so the clear one tick
     // after it needs all at rest until then.
     scene.moving = kind != Kind::Locks;
-    scene.configure(&values);
+    scene.set_up(&values);
+    if kind == Kind::Shadow {
+        // A write that differs is then an event.
+        scene.configure_local(5);
+    }
     if kind == Kind::Locks {
         scene.burst(1);
     }
@@ -39,8 +43,9 @@ pub fn step(scene: &mut Scene, values: &Values, weights: &Weights) {
         4 => scene.cause(),
         5 => scene.change(values),
         6 => scene.lock(),
-        7 => scene.refused(),
+        7 => scene.refused(values),
         8 => scene.malformed(),
+        9 => scene.stage(values),
         _ => {
             let gap = scene.rng.pick(&[0, 1, 1, 2]);
             scene.burst(gap);

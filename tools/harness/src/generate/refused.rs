@@ -1,5 +1,6 @@
 //! The steps that are refused, for each reason and in its order.
 
+use super::profile::Values;
 use super::scene::Scene;
 use crate::record::{largest, Head, KIND3, NONE, READ, WRITE};
 use handler::registers::{Field, Map, Setting, INTR_BITS, INTR_STATE, INTR_TEST};
@@ -26,12 +27,12 @@ fn after(map: Map, largest: u16) -> [u16; 4] {
 }
 
 impl Scene {
-    /// An access that is refused with 1 to 4.
-    pub fn refused(&mut self) {
+    /// An access that is refused with 1 to 4 or 12.
+    pub fn refused(&mut self, values: &Values) {
         let map = self.map;
         let k = self.rng.index(CLASSES);
         let value = self.rng.pick(&[0, 1, 2, u32::MAX]);
-        match self.rng.below(6) {
+        match self.rng.below(7) {
             0 => {
                 let register = self.unassigned();
                 self.read(register);
@@ -50,6 +51,7 @@ impl Scene {
                 self.write(register, value);
             }
             4 => self.too_wide(),
+            5 => self.differing(values),
             _ => self.locked(),
         }
     }

@@ -1,5 +1,6 @@
 //! A trace under construction: the wires as they stand and the records so far.
 
+use crate::configure::configure;
 use crate::opened::opening;
 use crate::record::{pack, Head, Side, NONE, READ, WRITE};
 use crate::rng::Rng;
@@ -92,6 +93,13 @@ impl Scene {
     /// A tick that writes.
     pub fn write(&mut self, register: u16, value: u32) {
         self.access(WRITE, register, value);
+    }
+
+    /// The ticks that give a register its value.
+    pub fn configure(&mut self, register: u16, value: u32) {
+        for (register, value) in configure(self.map, register, value) {
+            self.write(register, value);
+        }
     }
 
     fn access(&mut self, kind: u8, register: u16, value: u32) {

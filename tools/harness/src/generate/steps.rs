@@ -4,6 +4,9 @@ use super::scene::Scene;
 use handler::registers::{Field, Setting, INTR_ENABLE, INTR_STATE, INTR_TEST};
 use handler::{CLASSES, LOCALS};
 
+/// The local alerts that occur: by equal wires, and by writes that differ.
+pub(super) const OCCURRING: [usize; 2] = [2, 5];
+
 impl Scene {
     /// Reads what shows the state.
     pub fn watch(&mut self) {
@@ -15,7 +18,7 @@ impl Scene {
             2 => self.map.class(k, Setting::AccumCnt),
             3 => INTR_STATE,
             4 => self.map.alert(Field::Cause, i),
-            5 => self.map.local(Field::Cause, 2),
+            5 => self.map.local(Field::Cause, self.rng.pick(&OCCURRING)),
             6 => self.map.class(k, Setting::Ctrl),
             7 => self.map.class(k, Setting::ClrRegwen),
             _ => self.any_readable(),
@@ -82,7 +85,7 @@ impl Scene {
         let value = u32::from(!self.rng.once_in(4));
         let i = self.any_active();
         let register = if self.rng.once_in(4) {
-            self.map.local(Field::Cause, 2)
+            self.map.local(Field::Cause, self.rng.pick(&OCCURRING))
         } else {
             self.map.alert(Field::Cause, i)
         };

@@ -8,13 +8,14 @@ use crate::rng::Rng;
 use handler::registers::Field;
 use handler::{Edition, Wires};
 
-/// Writes every register number, assigned or not, then reads every one.
+/// Writes every register number, assigned or not, mostly twice, then reads
+/// every one.
 pub fn sweep(edition: Edition, mut rng: Rng) -> Vec<u8> {
     let n = rng.pick(counts(edition));
     let mut scene = Scene::new(edition, rng, n);
     let (far, largest) = (far(scene.map), largest(edition));
     let (values, _) = profile(Kind::Mixed);
-    scene.configure(&values);
+    scene.set_up(&values);
     // From the top down half of the time, so that a REGWEN locks before or
     // after the write of what it guards.
     let down = scene.rng.once_in(2);
@@ -23,6 +24,11 @@ pub fn sweep(edition: Edition, mut rng: Rng) -> Vec<u8> {
         if register < far || scene.rng.once_in(8) {
             let value = scene.rng.pick(&WRITTEN);
             scene.write(register, value);
+            match scene.rng.below(8) {
+                0 => {}
+                1 => scene.write(register, value ^ 1),
+                _ => scene.write(register, value),
+            }
             // Read at once, and again below when more is locked.
             scene.read(register);
         }
@@ -32,9 +38,9 @@ pub fn sweep(edition: Edition, mut rng: Rng) -> Vec<u8> {
             scene.read(register);
         }
     }
-    // Old traces stay as they were.
+    raise_each(&mut scene);
+    // Old traces, of which the golden set has the words, stay as they were.
     if edition != Edition::Bytes24 {
-        raise_each(&mut scene);
         break_each(&mut scene);
     }
     scene.finish()
@@ -47,7 +53,7 @@ fn raise_each(scene: &mut Scene) {
     scene.moving = false;
     (scene.pos, scene.neg) = (Wires::REST.pos, Wires::REST.neg);
     for i in 0..scene.n {
-        scene.write(map.alert(Field::En, i), 1);
+        scene.configure(map.alert(Field::En, i), 1);
     }
     for i in 0..scene.n {
         scene.set(i, (1, 0));
@@ -61,7 +67,7 @@ fn raise_each(scene: &mut Scene) {
 /// is cleared, and read in the next.
 fn break_each(scene: &mut Scene) {
     let map = scene.map;
-    scene.write(map.local(Field::En, 2), 1);
+    scene.configure(map.local(Field::En, 2), 1);
     for i in 0..scene.n {
         let level = scene.rng.below(2);
         scene.set(i, (level, level));

@@ -11,9 +11,10 @@ const STATES: [u64; 7] = [0, 1, 3, 4, 5, 6, 7];
 /// Random values within every field, with counts that fit the states.
 pub fn fit(places: &[Place], rng: &mut Rng, state: &mut Handler) {
     for place in places {
-        let bits = place.bits().unwrap_or(64);
-        place.set(state, rng.bits() & (u64::MAX >> (64 - bits)));
+        let bits = rng.bits();
+        place.set(state, place.most().map_or(bits, |most| bits & most));
     }
+    fit_stages(places, rng, state);
     state.n = rng.pick(&[0, 1, 63, 64, 65, 127, 128, 191, 192, 247, 248, 248]);
     for k in 0..CLASSES {
         let value = rng.pick(&STATES);
@@ -30,6 +31,16 @@ pub fn fit(places: &[Place], rng: &mut Rng, state: &mut Handler) {
         let count = rng.pick(&near).max(1);
         let rests = matches!(class.state, 0 | 3);
         Place::Class(k, Setting::EscCnt).set(state, if rests { 0 } else { u64::from(count) });
+    }
+}
+
+/// Half of the stages open, often with a value that a write has too.
+pub fn fit_stages(places: &[Place], rng: &mut Rng, state: &mut Handler) {
+    for place in places.iter().filter(|place| place.is_stage()) {
+        let most = place.most().unwrap_or(0);
+        let any = 1 + rng.below(most);
+        let code = rng.pick(&[0, 0, 0, 0, 1, 2, most, any]);
+        place.set(state, code);
     }
 }
 

@@ -1,4 +1,5 @@
-//! The places of a state: every stored field by name, with both its widths.
+//! The places of a state: every stored field by name, with the most that it
+//! may hold and the bits that are kept for it.
 
 use handler::registers::{Field, Setting, INTR_BITS};
 use handler::{ALERTS, CLASSES, LOCALS, WORDS};
@@ -21,6 +22,12 @@ pub enum Place {
     Alert(Field, usize),
     /// A local alert's register.
     Local(Field, usize),
+    /// The stage of a class's register.
+    ClassStage(usize, Setting),
+    /// The stage of an alert's register.
+    AlertStage(Field, usize),
+    /// The stage of a local alert's register.
+    LocalStage(Field, usize),
 }
 
 impl Place {
@@ -31,30 +38,55 @@ impl Place {
         for k in 0..CLASSES {
             // CLR holds no value.
             all.extend(Setting::READABLE.map(|setting| Place::Class(k, setting)));
+            all.extend(Setting::SHADOWED.map(|setting| Place::ClassStage(k, setting)));
         }
         for field in Field::ALL {
             all.extend((0..ALERTS).map(|i| Place::Alert(field, i)));
             all.extend((0..LOCALS).map(|j| Place::Local(field, j)));
         }
+        for field in [Field::En, Field::Class] {
+            all.extend((0..ALERTS).map(|i| Place::AlertStage(field, i)));
+            all.extend((0..LOCALS).map(|j| Place::LocalStage(field, j)));
+        }
         all
     }
 
-    /// The bits of the register; N and the re-armed alerts are none.
-    pub fn bits(self) -> Option<u32> {
-        match self {
-            Place::N | Place::Armed(_) => None,
-            Place::IntrState | Place::IntrEnable => Some(INTR_BITS),
-            Place::Class(_, setting) => Some(setting.bits()),
-            Place::Alert(field, _) | Place::Local(field, _) => Some(field.bits()),
-        }
+    /// The most that it may hold: the largest value of a register, and one
+    /// more in a stage. N and the re-armed alerts have another rule or none.
+    pub fn most(self) -> Option<u64> {
+        let bits = match self {
+            Place::N | Place::Armed(_) => return None,
+            Place::IntrState | Place::IntrEnable => INTR_BITS,
+            Place::Class(_, setting) | Place::ClassStage(_, setting) => setting.bits(),
+            Place::Alert(field, _) | Place::Local(field, _) => field.bits(),
+            Place::AlertStage(field, _) | Place::LocalStage(field, _) => field.bits(),
+        };
+        Some((1 << bits) - u64::from(!self.is_stage()))
     }
 
-    /// The bits that are kept for it; for a register those of the smallest
-    /// number that holds its bits.
+    /// Whether it is the stage of a shadowed register.
+    pub fn is_stage(self) -> bool {
+        matches!(
+            self,
+            Place::ClassStage(..) | Place::AlertStage(..) | Place::LocalStage(..)
+        )
+    }
+
+    /// Whether it is an entry of an alert that a handler of n alerts has not.
+    pub fn is_above(self, n: usize) -> bool {
+        matches!(self, Place::Alert(_, i) | Place::AlertStage(_, i) if i >= n)
+    }
+
+    /// The bits that are kept for it: those of the smallest number that holds
+    /// the most.
     pub fn kept(self) -> u32 {
         match self {
             Place::N | Place::Armed(_) => 64,
             Place::Class(_, setting) => setting.bits().next_power_of_two().max(8),
+            // One bit more, for the value plus 1; that of CTRL is as wide as
+            // that of ACCUM_THRESH.
+            Place::ClassStage(_, setting) if setting.bits() == 32 => 64,
+            Place::ClassStage(..) => 32,
             _ => 8,
         }
     }
@@ -70,6 +102,11 @@ impl fmt::Display for Place {
             Place::Class(k, setting) => write!(out, "class {k} {}", setting.name()),
             Place::Alert(field, i) => write!(out, "alert {i} {}", field.name()),
             Place::Local(field, j) => write!(out, "local {j} {}", field.name()),
+            Place::ClassStage(k, setting) => {
+                write!(out, "stage of class {k} {}", setting.name())
+            }
+            Place::AlertStage(field, i) => write!(out, "stage of alert {i} {}", field.name()),
+            Place::LocalStage(field, j) => write!(out, "stage of local {j} {}", field.name()),
         }
     }
 }

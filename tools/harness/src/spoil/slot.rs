@@ -2,7 +2,7 @@
 
 use super::place::Place;
 use handler::registers::{Field, Setting};
-use handler::{Class, Handler};
+use handler::{Class, ClassStages, Handler};
 
 /// Where a place's bits are kept.
 enum Slot<'a> {
@@ -52,6 +52,12 @@ impl Place {
             Place::Local(Field::En, j) => Slot::Byte(&mut state.locals.en[j]),
             Place::Local(Field::Class, j) => Slot::Byte(&mut state.locals.class[j]),
             Place::Local(Field::Cause, j) => Slot::Byte(&mut state.locals.cause[j]),
+            Place::ClassStage(k, setting) => stage_slot(&mut state.stages.classes[k], setting),
+            Place::AlertStage(Field::En, i) => Slot::Byte(&mut state.stages.alerts.en[i]),
+            // REGWEN and CAUSE have no stage: no state has one as a place.
+            Place::AlertStage(_, i) => Slot::Byte(&mut state.stages.alerts.class[i]),
+            Place::LocalStage(Field::En, j) => Slot::Byte(&mut state.stages.locals.en[j]),
+            Place::LocalStage(_, j) => Slot::Byte(&mut state.stages.locals.class[j]),
         }
     }
 }
@@ -71,5 +77,18 @@ fn class_slot(class: &mut Class, setting: Setting) -> Slot<'_> {
         Setting::EscCnt => Slot::Word(&mut class.count),
         // CLR holds no value: no state has it as a place.
         Setting::Clr | Setting::State => Slot::Byte(&mut class.state),
+    }
+}
+
+fn stage_slot(stages: &mut ClassStages, setting: Setting) -> Slot<'_> {
+    match setting {
+        Setting::Ctrl => Slot::Word(&mut stages.ctrl),
+        Setting::AccumThresh => Slot::Word(&mut stages.thresh),
+        Setting::Phase0Cyc => Slot::Long(&mut stages.lengths[0]),
+        Setting::Phase1Cyc => Slot::Long(&mut stages.lengths[1]),
+        Setting::Phase2Cyc => Slot::Long(&mut stages.lengths[2]),
+        Setting::Phase3Cyc => Slot::Long(&mut stages.lengths[3]),
+        // The others have no stage: no state has one as a place.
+        _ => Slot::Long(&mut stages.timeout),
     }
 }

@@ -7,13 +7,15 @@ pub enum Way {
     Kept,
     /// Random values that keep the rule.
     Fitted,
+    /// Stages opened and dropped at random, within their fields.
+    Staged,
     /// Random bytes in every field.
     Random,
     /// One bit flipped.
     Flip,
     /// A few bits flipped.
     Flips,
-    /// One register over its field, mostly just over it.
+    /// One register or stage over its field, mostly just over it.
     Over,
     /// A STATE of 2, 8 or more, or any other.
     State,
@@ -26,9 +28,10 @@ pub enum Way {
 }
 
 /// Every way with its name.
-pub const WAYS: [(Way, &str); 10] = [
+pub const WAYS: [(Way, &str); 11] = [
     (Way::Kept, "kept"),
     (Way::Fitted, "fitted"),
+    (Way::Staged, "staged"),
     (Way::Random, "random"),
     (Way::Flip, "flip"),
     (Way::Flips, "flips"),

@@ -1,5 +1,6 @@
 //! What a run over states reached.
 
+use crate::compare::ANSWERS;
 use crate::spoil::WAYS;
 use handler::Edition;
 use std::fmt;
@@ -16,7 +17,7 @@ pub struct Summary {
     /// Batches that were refused with 7 for more alerts than the edition has.
     pub over: u64,
     /// Ticks of accepted states by refusal number, 0 for accepted.
-    pub ticks: [u64; 6],
+    pub ticks: [u64; 13],
 }
 
 impl Summary {
@@ -54,8 +55,8 @@ impl fmt::Display for Summary {
             "\nticks of accepted states: accepted {}",
             self.ticks[0]
         )?;
-        for (number, count) in self.ticks.iter().enumerate().skip(1) {
-            write!(out, ", refusal {number}: {count}")?;
+        for number in &ANSWERS[1..] {
+            write!(out, ", refusal {number}: {}", self.ticks[*number])?;
         }
         for (edition, batches) in Edition::ALL.into_iter().zip(self.batches) {
             let bytes = edition.bytes();

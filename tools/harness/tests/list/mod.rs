@@ -1,5 +1,7 @@
 //! The slips: a piece of the reference's text and what replaces it.
 
+mod stages;
+
 /// One slip.
 pub struct Slip {
     /// What goes wrong.
@@ -12,8 +14,13 @@ pub struct Slip {
     pub wrong: &'static str,
 }
 
+/// Every slip; the default set must find each of them.
+pub fn slips() -> impl Iterator<Item = &'static Slip> {
+    RULES.iter().chain(stages::STAGES)
+}
+
 /// The first ten are those of the table in landing note 04; the others are slips of the same sort.
-pub const SLIPS: &[Slip] = &[
+const RULES: &[Slip] = &[
     Slip {
         name: "each alert counted",
         file: "handler.rs",
@@ -53,8 +60,8 @@ pub const SLIPS: &[Slip] = &[
     Slip {
         name: "samples dropped on a refusal",
         file: "handler.rs",
-        right: "let assigned = self.sample(pos, neg);",
-        wrong: "let assigned = if answer < 0 {
+        right: "let mut assigned = self.sample(pos, neg);",
+        wrong: "let mut assigned = if answer < 0 {
             [false; CLASSES]
         } else {
             self.sample(pos, neg)
@@ -86,10 +93,12 @@ pub const SLIPS: &[Slip] = &[
         wrong: "(self.accum_cnt + 1).min(65534);",
     },
     Slip {
-        name: "local 2 needs its class's EN",
+        name: "a local alert needs its class's EN",
         file: "handler.rs",
-        right: "if equal && local.en == 1 {",
-        wrong: "if equal && local.en == 1 && self.classes[usize::from(local.class)].enabled() {",
+        right: "if local.en == 1 {
+            local.cause = 1;",
+        wrong: "if local.en == 1 && self.classes[usize::from(local.class)].enabled() {
+            local.cause = 1;",
     },
     Slip {
         name: "line maps permuted",
@@ -206,8 +215,8 @@ pub const SLIPS: &[Slip] = &[
         name: "access after the samples",
         file: "handler.rs",
         right: "let (answer, cleared) = self.access(access);
-        let assigned = self.sample(pos, neg);",
-        wrong: "let assigned = self.sample(pos, neg);
+        let mut assigned = self.sample(pos, neg);",
+        wrong: "let mut assigned = self.sample(pos, neg);
         let (answer, cleared) = self.access(access);",
     },
     Slip {

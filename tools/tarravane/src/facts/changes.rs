@@ -1,9 +1,11 @@
 //! What makes a tick worth a look.
 use super::locks;
+use super::stages::{self, Change};
 use super::tick::Tick;
 use handler::{Handler, Word};
 
-/// Did an interrupt, a line, a class's state, its ACCUM_CNT, a cause or a lock change, or was the access refused?
+/// Did an interrupt, a line, a class's state, its ACCUM_CNT, a cause or a lock change, was the access refused, or a stage
+/// dropped? Writes that are staged or committed are as any other that configures, and no change here.
 pub fn changes(t: &Tick) -> bool {
     let outputs = |w: Word| w.0 >> 56;
     let places = |h: &Handler| h.classes.map(|c| (c.state, c.accum));
@@ -13,4 +15,5 @@ pub fn changes(t: &Tick) -> bool {
         || t.before.locals.cause != t.after.locals.cause
         || t.word.refusal().is_some()
         || !locks::locked(t).is_empty()
+        || stages::change(t) == Some(Change::Dropped)
 }

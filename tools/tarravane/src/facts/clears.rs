@@ -18,7 +18,7 @@ pub fn clear(t: &Tick, k: usize) -> Option<Clear> {
     }
     match t.word.refusal() {
         None => Some(Clear::Accepted),
-        Some(Refusal(3)) => Some(Clear::Refused),
+        Some(Refusal::LOCKED) => Some(Clear::Refused),
         _ => None,
     }
 }

@@ -1,11 +1,12 @@
 //! Events of alerts, and local alerts that occur.
 use super::tick::Tick;
 use crate::alert_bits;
-use handler::{Handler, Wires};
+use handler::{Handler, Refusal, Wires};
 use std::array::from_fn;
 
-/// Local alert 2, alert integrity: the only one that can occur.
+/// Local alert 2, alert integrity, and local alert 5, shadow update error: no other can occur.
 const INTEGRITY: usize = 2;
+const SHADOW_UPDATE: usize = 5;
 
 /// Where an event of a class comes from.
 #[derive(Clone, Copy, Debug, PartialEq, Eq)]
@@ -30,10 +31,17 @@ fn fails(h: &Handler, wires: Wires) -> bool {
     alert_bits::alerts(equal).any(|i| i < h.n && is_enabled(h, i))
 }
 
-/// The local alert that occurs, if one does.
-pub fn local(t: &Tick) -> Option<usize> {
-    let occurs = t.after.locals.en[INTEGRITY] == 1 && fails(&t.after, t.input.wires);
-    occurs.then_some(INTEGRITY)
+/// The local alerts that occur: by equal wires, and by a write that differs from its stage.
+pub fn locals(t: &Tick) -> impl Iterator<Item = usize> + '_ {
+    let differs = t.word.refusal() == Some(Refusal::DIFFERS);
+    let raised = [
+        (INTEGRITY, fails(&t.after, t.input.wires)),
+        (SHADOW_UPDATE, differs),
+    ];
+    let occurs = raised.into_iter().filter(|(_, raised)| *raised);
+    occurs
+        .map(|(j, _)| j)
+        .filter(|&j| t.after.locals.en[j] == 1)
 }
 
 /// The events that are assigned to class k: of enabled alerts, then of local alerts. EN and CLASS are those after the access,
@@ -44,7 +52,7 @@ pub fn of_class(t: &Tick, k: usize) -> Vec<Source> {
         .filter(|&i| is_enabled(h, i) && usize::from(h.alerts.class[i]) == k)
         .map(Source::Alert)
         .collect();
-    let local = local(t).filter(|&j| usize::from(h.locals.class[j]) == k);
-    all.extend(local.map(Source::Local));
+    let locals = locals(t).filter(|&j| usize::from(h.locals.class[j]) == k);
+    all.extend(locals.map(Source::Local));
     all
 }

@@ -3,13 +3,15 @@ use super::clears::{clear, Clear};
 use super::events::{of_class, Source};
 use super::lines::drives;
 use super::locks::locked;
+use super::stages::{change, open, staged, Change};
 use super::starts::{start, IDLE, TIMEOUT};
 use super::tick::Tick;
 use super::ticks::Ticks;
 use crate::alert_bits::put;
 use crate::trace::record::written;
 use handler::registers::{Field, Register, Setting, INTR_STATE};
-use handler::{Access, Edition, Handler, Input, Wires, CLASSES};
+use handler::{Access, Edition, Handler, Input, Refusal, Wires, CLASSES};
+use harness::configure::configure;
 use harness::rng::Rng;
 
 /// Alerts at the ends of words, which have all the events.
@@ -20,13 +22,17 @@ fn used(edition: Edition) -> [usize; 5] {
     }
 }
 
+/// The local alerts that occur.
+const OCCURRING: [usize; 2] = [2, 5];
+
 /// A write that moves a handler on: enables, classes, thresholds, timeouts, clears and, seldom, locks.
 fn write(rng: &mut Rng, edition: Edition) -> (u16, u32) {
     let (i, k) = (rng.pick(&used(edition)), rng.index(CLASSES));
     let ctrl = 0x3900 | rng.below(64) as u32;
     let map = edition.registers();
     let alert = |field| map.alert(field, i);
-    let local = |field| map.local(field, 2);
+    let j = rng.pick(&OCCURRING);
+    let local = |field| map.local(field, j);
     let class = |setting| map.class(k, setting);
     let locks = [Setting::Regwen, Setting::ClrRegwen];
     let others = [alert(Field::Regwen), local(Field::Regwen), 1023];
@@ -64,23 +70,43 @@ fn wires(rng: &mut Rng, edition: Edition) -> Wires {
     wires
 }
 
-fn input(rng: &mut Rng, edition: Edition) -> Input {
-    let access = match rng.below(3) {
-        0 => Access::Nothing,
-        _ => {
-            let (register, value) = write(rng, edition);
-            Access::Write(register, value)
-        }
-    };
-    let wires = wires(rng, edition);
-    Input { access, wires }
+/// A tick or two: nothing, or a write by what it takes; once in eight a second write differs, or a read comes before it.
+fn accesses(rng: &mut Rng, edition: Edition) -> Vec<Access> {
+    if rng.once_in(3) {
+        return vec![Access::Nothing];
+    }
+    let (register, value) = write(rng, edition);
+    let writes = configure(edition.registers(), register, value).into_iter();
+    let mut all: Vec<Access> = writes.map(|(r, v)| Access::Write(r, v)).collect();
+    match rng.below(16) {
+        0 => all.truncate(1),
+        1 => all[0] = Access::Write(register, value ^ 1),
+        2 => all.insert(1, Access::Read(register)),
+        _ => {}
+    }
+    all
 }
+
+fn inputs(rng: &mut Rng, edition: Edition) -> Vec<Input> {
+    let mut all = Vec::new();
+    while all.len() < TICKS {
+        for access in accesses(rng, edition) {
+            let wires = wires(rng, edition);
+            all.push(Input { access, wires });
+        }
+    }
+    all.truncate(TICKS);
+    all
+}
+
+/// The ticks of a handler.
+const TICKS: usize = 600;
 
 /// The ticks of fresh handlers of an edition, shown to a check.
 fn each_of(edition: Edition, check: &mut dyn FnMut(&Tick)) {
     let mut rng = Rng::new(1);
     for _ in 0..200 {
-        let inputs: Vec<Input> = (0..300).map(|_| input(&mut rng, edition)).collect();
+        let inputs = inputs(&mut rng, edition);
         let bytes = written(edition, &inputs).expect("records");
         let mut from = &bytes[..];
         let handler = Handler::new(edition.alerts()).0;
@@ -88,7 +114,7 @@ fn each_of(edition: Edition, check: &mut dyn FnMut(&Tick)) {
         while let Some(tick) = ticks.take().expect("a tick") {
             check(&tick);
         }
-        assert_eq!((ticks.number(), ticks.left()), (300, 0));
+        assert_eq!((ticks.number(), ticks.left()), (TICKS as u64, 0));
     }
 }
 
@@ -101,7 +127,7 @@ fn counts(t: &Tick, k: usize) -> bool {
 #[test]
 fn events_of_a_class_are_those_that_it_counts() {
     for edition in Edition::ALL {
-        let (mut by_alerts, mut by_local) = (0, 0);
+        let (mut by_alerts, mut by_local) = (0, [0; 2]);
         each_of(edition, &mut |t| {
             for k in 0..CLASSES {
                 let events = of_class(t, k);
@@ -111,12 +137,17 @@ fn events_of_a_class_are_those_that_it_counts() {
                 } else {
                     let event = counts(t, k) && !events.is_empty();
                     assert_eq!(after, before + u16::from(event), "tick {}", t.number);
-                    by_local += u64::from(event && events == [Source::Local(2)]);
+                    for (count, j) in by_local.iter_mut().zip(OCCURRING) {
+                        *count += u64::from(event && events == [Source::Local(j)]);
+                    }
                     by_alerts += u64::from(event && matches!(events[0], Source::Alert(_)));
                 }
             }
         });
-        assert!(by_alerts > 1000 && by_local > 1000);
+        assert!(
+            by_alerts > 1000 && by_local[0] > 1000 && by_local[1] > 10,
+            "{by_local:?}"
+        );
     }
 }
 
@@ -176,5 +207,40 @@ fn each_lock_has_its_cause() {
             }
         });
         assert!(written > 100 && by_lock > 100, "{written} {by_lock}");
+    }
+}
+
+/// Each change of a stage has its cause, and no stage opens or goes without one.
+#[test]
+fn each_stage_has_its_cause() {
+    for edition in Edition::ALL {
+        let mut seen = [0; 3];
+        each_of(edition, &mut |t| {
+            let [before, after] = [&t.before, &t.after].map(|h| open(h).len());
+            let Some(change) = change(t) else {
+                assert_eq!(before, after, "tick {}", t.number);
+                return;
+            };
+            let register = t.register().expect("a register");
+            seen[change as usize] += 1;
+            match (change, t.input.access) {
+                (Change::Staged, Access::Write(_, value)) => {
+                    assert_eq!((before + 1, t.word.refusal()), (after, None));
+                    assert_eq!(staged(&t.after, register), Some(value));
+                }
+                (Change::Committed, Access::Write(_, value)) => {
+                    assert_eq!((before, t.word.refusal()), (after + 1, None));
+                    assert_eq!(staged(&t.before, register), Some(value));
+                }
+                (Change::Dropped, Access::Read(_)) => assert_eq!(before, after + 1),
+                (Change::Dropped, Access::Write(..)) => {
+                    assert_eq!(before, after + 1);
+                    let refusal = t.word.refusal().expect("a refusal");
+                    assert!([Refusal::LOCKED, Refusal::DIFFERS].contains(&refusal));
+                }
+                other => panic!("tick {}: {other:?}", t.number),
+            }
+        });
+        assert!(seen.iter().all(|count| *count > 100), "{seen:?}");
     }
 }

@@ -4,7 +4,7 @@ use crate::facts::tick::Tick;
 use crate::trace::record;
 use handler::{Edition, Handler, Word, ALERTS};
 
-/// A state as wide as any: all classes counting, every cause set.
+/// A state as wide as any: all classes counting, every cause set, hundreds of stages open.
 fn widest(before: Handler) -> Handler {
     let mut after = before;
     after.alerts.cause = [1; ALERTS];
@@ -12,6 +12,8 @@ fn widest(before: Handler) -> Handler {
     for c in &mut after.classes {
         (c.state, c.count, c.accum) = (1, 999_999, u16::MAX);
     }
+    after.stages.alerts.en = [2; ALERTS];
+    after.stages.alerts.class = [4; ALERTS];
     after
 }
 

@@ -1,6 +1,6 @@
 //! The first and the last event of each alert, and of each local alert that occurs.
 use super::words::count;
-use crate::facts::events::{alerts, is_enabled, local, Source};
+use crate::facts::events::{alerts, is_enabled, locals, Source};
 use crate::facts::tick::Tick;
 use handler::{ALERTS, LOCALS};
 
@@ -57,7 +57,7 @@ impl Events {
         for i in alerts(t) {
             self.alerts[i].add(t.number, is_enabled(&t.after, i));
         }
-        if let Some(j) = local(t) {
+        for j in locals(t) {
             self.locals[j].add(t.number, true);
         }
     }

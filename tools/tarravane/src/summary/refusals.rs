@@ -4,13 +4,14 @@ use crate::facts::clears::{clear, Clear};
 use crate::facts::tick::Tick;
 use handler::CLASSES;
 
-/// The refusals that a tick of a trace gets, from 1 on.
-const NAMES: [&str; 5] = [
-    "no register",
-    "write only or read only",
-    "locked",
-    "too wide",
-    "malformed",
+/// The refusals that a tick of a trace gets.
+const NAMES: [(u8, &str); 6] = [
+    (1, "no register"),
+    (2, "write only or read only"),
+    (3, "locked"),
+    (4, "too wide"),
+    (5, "malformed"),
+    (12, "second write differs"),
 ];
 
 #[derive(Default)]
@@ -24,16 +25,17 @@ impl Refusals {
         if (0..CLASSES).any(|k| clear(t, k) == Some(Clear::Refused)) {
             return;
         }
-        if let Some(count) = self.0.get_mut(usize::from(refusal.0) - 1) {
-            *count += 1;
+        let at = NAMES.iter().position(|(number, _)| *number == refusal.0);
+        if let Some(at) = at {
+            self.0[at] += 1;
         }
     }
 
     pub fn lines(&self) -> Vec<String> {
-        let all = (1..).zip(NAMES.iter().zip(self.0));
+        let all = NAMES.iter().zip(self.0);
         let all: Vec<String> = all
-            .filter(|(_, (_, count))| *count > 0)
-            .map(|(number, (name, times))| format!("  {number} ({name}): {}", count(times, "time")))
+            .filter(|(_, count)| *count > 0)
+            .map(|((number, name), times)| format!("  {number} ({name}): {}", count(times, "time")))
             .collect();
         match all[..] {
             [] => vec!["other refusals: none".to_string()],

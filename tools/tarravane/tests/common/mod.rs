@@ -85,3 +85,12 @@ pub fn explained(words: &[&str], input: &[u8]) -> Vec<String> {
     let text = String::from_utf8(given("explain", words, input)).expect("text");
     text.lines().map(str::to_string).collect()
 }
+
+/// A text in which each line `configure REGISTER VALUE` stands for the two equal writes that it takes.
+pub fn configured(text: &str) -> String {
+    let line = |line: &str| match line.trim_start().strip_prefix("configure ") {
+        Some(rest) => format!("write {rest}\nwrite {rest}\n"),
+        None => format!("{line}\n"),
+    };
+    text.lines().map(line).collect()
+}

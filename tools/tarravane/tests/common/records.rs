@@ -14,6 +14,15 @@ pub fn record(edition: Edition, kind: u64, register: u64, value: u64, wires: Wir
     harness::record::record(edition, kind, register, value, (wires.pos, wires.neg))
 }
 
+/// The records of the writes that give a register its value, all wires at rest.
+pub fn configure(edition: Edition, register: u16, value: u32) -> Vec<u8> {
+    let writes = harness::configure::configure(edition.registers(), register, value).into_iter();
+    let record = |(register, value): (u16, u32)| {
+        record(edition, 2, register.into(), value.into(), Wires::REST)
+    };
+    writes.flat_map(record).collect()
+}
+
 /// A record of 24 bytes, its wires as two words.
 pub fn record_24(kind: u64, register: u64, value: u64, (pos, neg): (u64, u64)) -> Vec<u8> {
     let mut wires = Wires::REST;

@@ -9,7 +9,7 @@ access-requires : tie.Need-access-requires
 access-requires c κs = search needs
 
 sample-requires : tie.Need-sample-requires
-sample-requires c κs = accessed-most _ _ _ (c .before .access .ensures) (c .before .before .before .pre)
+sample-requires c κs = accessed-most _ _ _ (c .before .before .access .ensures) (c .before .before .before .before .pre)
 
 interrupts-after-requires : tie.Need-interrupts-after-requires
 interrupts-after-requires c κs = search needs
@@ -24,7 +24,7 @@ returns : tie.Need-returns
 returns c =
     let s = c .before .before .before .before .before in
     tick-by _ _ _ _ _ _ _
-    (s .before .before .access .ensures)
+    (s .before .before .before .access .ensures)
     (s .sample .ensures)
     (c .before .before .interrupts-after .ensures)
     (c .before .classes-after .ensures)

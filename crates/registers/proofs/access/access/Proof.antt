@@ -26,11 +26,19 @@ returns c =
     let a = c .before .before .before .before .args in
     c .act .ensures ∙ does (a .h) (a .x) Verdict.Accepted (sym (c .before .before .before .verdict-of .ensures) ∙ c .before .enum-told .given .1)
 
+keep-requires : tie.Need-keep-requires
+keep-requires c κs = search needs
+
+raises-of-requires : tie.Need-raises-of-requires
+raises-of-requires c κs = search needs
+
 returns-2 : tie.Need-returns-2
 returns-2 c =
-    let a = c .before .before .before .before .args in
-    does (a .h) (a .x) (Verdict.Refused (c .before .m .given .0 .0)) (sym (c .before .before .before .verdict-of .ensures) ∙ c .before .m .given .1)
+    let a = c .before .before .before .before .before .before .args in
+    let m = c .before .before .before .m .given in
+    rw (c .before .keep .ensures, c .raises-of .ensures)
+    (does (a .h) (a .x) (Verdict.Refused (m .0 .0)) (sym (c .before .before .before .before .before .verdict-of .ensures) ∙ m .1))
 
 pub access-spec : {M : Type 1} → statement M
 access-spec =
-    tie.close (tie.spec verdict-of-requires enum-told act-requires enum-known-m returns returns-2)
+    tie.close (tie.spec verdict-of-requires enum-told act-requires enum-known-m keep-requires raises-of-requires returns returns-2)

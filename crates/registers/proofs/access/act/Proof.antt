@@ -9,14 +9,23 @@ use Rattle.registers.proofs.access.act.Tie as tie
 enum-told : tie.Need-enum-told
 enum-told c = search needs
 
+clear-requires : tie.Need-clear-requires
+clear-requires c κs = search needs
+
 enum-known-x : tie.Need-enum-known-x
 enum-known-x c = search needs
 
 register-at-requires : tie.Need-register-at-requires
 register-at-requires c κs = search needs
 
+drop-stage-requires : tie.Need-drop-stage-requires
+drop-stage-requires c κs = search needs
+
 value-of-requires : tie.Need-value-of-requires
 value-of-requires c κs = search needs
+
+clear-requires-2 : tie.Need-clear-requires-2
+clear-requires-2 c κs = search needs
 
 enum-known-x-2 : tie.Need-enum-known-x-2
 enum-known-x-2 c = search needs
@@ -24,8 +33,8 @@ enum-known-x-2 c = search needs
 register-at-requires-2 : tie.Need-register-at-requires-2
 register-at-requires-2 c κs = search needs
 
-stored-requires : tie.Need-stored-requires
-stored-requires c κs =
+write-requires : tie.Need-write-requires
+write-requires c κs =
     let x = c .before .before .x2 .given in
     let t = rw (x .1, ← c .register-at2 .ensures) at (c .before .before .before .before .pre) in
     ltb-true _ _ (not-false _ t)
@@ -33,34 +42,47 @@ stored-requires c κs =
 clears-of-requires : tie.Need-clears-of-requires
 clears-of-requires c κs = search needs
 
+clear-requires-3 : tie.Need-clear-requires-3
+clear-requires-3 c κs = search needs
+
 enum-told-2 : tie.Need-enum-told-2
 enum-told-2 c = search needs
 
+clear-requires-4 : tie.Need-clear-requires-4
+clear-requires-4 c κs = search needs
+
 returns : tie.Need-returns
-returns c = rw (c .enum-told .given .1, ← no-bits)
+returns c = rw (c .before .enum-told .given .1, ← no-bits, c .clear .ensures)
 
 returns-2 : tie.Need-returns-2
-returns-2 c = rw (c .before .before .before .x .given .1, ← no-bits, c .value-of .ensures, c .before .register-at .ensures)
+returns-2 c =
+    rw (c .before .before .before .before .before .x .given .1, ← no-bits, c .before .value-of .ensures, c .before .before .drop-stage .ensures, c .before .before .before .register-at .ensures, c .clear2 .ensures)
 
 returns-3 : tie.Need-returns-3
-returns-3 c = rw (c .before .before .before .before .x2 .given .1, c .before .stored .ensures, c .clears-of .ensures, c .before .before .register-at2 .ensures)
+returns-3 c =
+    rw (c .before .before .before .before .before .x2 .given .1, c .before .before .write .ensures, c .clear3 .ensures, c .before .clears-of .ensures, c .before .before .before .register-at2 .ensures)
 
 returns-4 : tie.Need-returns-4
-returns-4 c = rw (c .enum-told2 .given .1, ← no-bits)
+returns-4 c = rw (c .before .enum-told2 .given .1, ← no-bits, c .clear4 .ensures)
 
 pub act-spec : {M : Type 1} → statement M
 act-spec =
     tie.close
     (tie.spec
     enum-told
+    clear-requires
     enum-known-x
     register-at-requires
+    drop-stage-requires
     value-of-requires
+    clear-requires-2
     enum-known-x-2
     register-at-requires-2
-    stored-requires
+    write-requires
     clears-of-requires
+    clear-requires-3
     enum-told-2
+    clear-requires-4
     returns
     returns-2
     returns-3

@@ -57,7 +57,7 @@ returns-2 c = search needs
 
 returns-3 : tie.Need-returns-3
 unfolding value
-returns-3 c = search needs
+returns-3 c = rw (c .enum-told3 .given .1)
 
 returns-4 : tie.Need-returns-4
 unfolding value
@@ -73,7 +73,7 @@ returns-6 c = simp (c .block-value .ensures, c .before .before .before .q3 .give
 
 returns-7 : tie.Need-returns-7
 unfolding value
-returns-7 c = search needs
+returns-7 c = rw (c .enum-told4 .given .1)
 
 pub value-of-spec : {M : Type 1} → statement M
 value-of-spec =

@@ -10,6 +10,9 @@ limit-requires c κs = search needs
 is-barred-requires : tie.Need-is-barred-requires
 is-barred-requires c κs = search needs
 
+is-unlike-requires : tie.Need-is-unlike-requires
+is-unlike-requires c κs = search needs
+
 is-register-requires : tie.Need-is-register-requires
 is-register-requires c κs = search needs
 
@@ -20,7 +23,7 @@ first-refusal-requires : tie.Need-first-refusal-requires
 first-refusal-requires c κs = search needs
 
 returns : tie.Need-returns
-returns c = rw (← c .before .before .is-register .ensures, ← c .before .read-only .ensures, ← c .before .before .before .before .limit .ensures, ← c .before .before .before .is-barred .ensures) (c .first-refusal .ensures)
+returns c = rw (← c .before .before .is-register .ensures, ← c .before .read-only .ensures, ← c .before .before .before .before .before .limit .ensures, ← c .before .before .before .before .is-barred .ensures, ← c .before .before .before .is-unlike .ensures) (c .first-refusal .ensures)
 
 pub write-verdict-spec : {M : Type 1} → statement M
 write-verdict-spec =
@@ -28,6 +31,7 @@ write-verdict-spec =
     (tie.spec
     limit-requires
     is-barred-requires
+    is-unlike-requires
     is-register-requires
     read-only-requires
     first-refusal-requires

@@ -8,9 +8,12 @@ use Rattle.state.proofs.new.reset.Tie as tie
 reset-class-requires : tie.Need-reset-class-requires
 reset-class-requires c κs = search needs
 
+none-requires : tie.Need-none-requires
+none-requires c κs = search needs
+
 returns : tie.Need-returns
 unfolding newHandler
-returns c = rw (c .reset-class .ensures)
+returns c = rw (c .before .reset-class .ensures, c .none .ensures)
 
 pub reset-spec : {M : Type 1} → statement M
-reset-spec = tie.close (tie.spec reset-class-requires returns)
+reset-spec = tie.close (tie.spec reset-class-requires none-requires returns)

@@ -22,16 +22,20 @@ alerts-fit-requires c κs = search needs
 classes-fit-requires : tie.Need-classes-fit-requires
 classes-fit-requires c κs = search needs
 
+fit-requires : tie.Need-fit-requires
+fit-requires c κs = search needs
+
 returns-2 : tie.Need-returns-2
 unfolding valid
 returns-2 c =
-    let h = c .before .before .before .before .before .before .before .args .h in
-    rw (le-leb _ _ (c .before .before .before .before .before .before .if1 .left))
+    let h = c .before .before .before .before .before .before .before .before .args .h in
+    rw (le-leb _ _ (c .before .before .before .before .before .before .before .if1 .left))
     (ap₂ (λ (x y : Bool). fits 4 (h .interrupts .state) && (fits 4 (h .interrupts .enable) && (x && y)))
-    (c .before .before .before .before .locals-fit .ensures)
-    (ap₂ _&&_ (c .before .before .before .alerts-fit .ensures) (c .before .before .classes-fit .ensures)))
+    (c .before .before .before .before .before .locals-fit .ensures)
+    (ap₂ _&&_ (c .before .before .before .before .alerts-fit .ensures)
+    (ap₂ _&&_ (c .before .before .before .classes-fit .ensures) (c .before .before .fit .ensures))))
 
 pub is-valid-spec : {M : Type 1} → statement M
 is-valid-spec =
     tie.close
-    (tie.spec returns locals-fit-requires alerts-fit-requires classes-fit-requires returns-2)
+    (tie.spec returns locals-fit-requires alerts-fit-requires classes-fit-requires fit-requires returns-2)

@@ -1,0 +1,17 @@
+-- `access::is_first` meets its contract.
+-- Assumes nothing.
+use borrow.Author.Needs.{needs}
+use Rattle.registers.proofs.access.is_first.Statement.{statement}
+use Rattle.registers.proofs.access.is_first.Tie as tie
+
+is-shadowed-requires : tie.Need-is-shadowed-requires
+is-shadowed-requires c κs = search needs
+
+stage-of-requires : tie.Need-stage-of-requires
+stage-of-requires c κs = search needs
+
+returns : tie.Need-returns
+returns c = simp (c .before .is-shadowed .ensures, c .stage-of .ensures)
+
+pub is-first-spec : {M : Type 1} → statement M
+is-first-spec = tie.close (tie.spec is-shadowed-requires stage-of-requires returns)

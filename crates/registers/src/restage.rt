@@ -1,0 +1,177 @@
+// Request (v): a register's stage set and dropped.
+use crate::stage::stage_of;
+use crate::write::set_entry;
+use rules::AlertStages;
+use rules::ClassStages;
+use rules::Field;
+use rules::Handler;
+use rules::LocalStages;
+use rules::Register;
+use rules::Setting;
+use rules::Stages;
+ghost use mathlib.Core.Path.{_≡_};
+ghost use Prim.Native.Nat.{_^_, _≤_, _<_};
+ghost use lib.ListN.{getD};
+ghost use Rattle.rules.specs.Map.{settingBits, bits};
+ghost use Rattle.rules.specs.Stages.{localStages, alertStages, noClassStages, withLocalStages, withAlertStages, withSettingStage, withStage, staged, dropped};
+ghost use Rattle.rules.specs.State.{most, localCount, classCount, withStages, put};
+
+// The local alerts' stages with the code c at register f of local alert j, if that is shadowed.
+fn set_local(l: LocalStages, f: Field, j: usize, c: u8) -> LocalStages
+    ensures { λ r. ⌜ r ≡ withLocalStages f (put localCount (localStages f l) 0 j c) l ⌝ }
+{
+    let mut out = l;
+    match f {
+        Field::Regwen => l,
+        Field::En => {
+            let mut xs = l.en;
+            set_entry(&mut xs, j, c);
+            out.en = xs;
+            out
+        }
+        Field::Class => {
+            let mut xs = l.class;
+            set_entry(&mut xs, j, c);
+            out.class = xs;
+            out
+        }
+        Field::Cause => l,
+    }
+}
+
+// The alerts' stages with the code c at register f of alert i, if that is shadowed.
+fn set_alert(a: AlertStages, f: Field, i: usize, c: u8) -> AlertStages
+    ensures { λ r. ⌜ r ≡ withAlertStages f (put most (alertStages f a) 0 i c) a ⌝ }
+{
+    let mut out = a;
+    match f {
+        Field::Regwen => a,
+        Field::En => {
+            let mut xs = a.en;
+            set_entry(&mut xs, i, c);
+            out.en = xs;
+            out
+        }
+        Field::Class => {
+            let mut xs = a.class;
+            set_entry(&mut xs, i, c);
+            out.class = xs;
+            out
+        }
+        Field::Cause => a,
+    }
+}
+
+// The stages of the four lengths with v for phase p.
+fn set_length(lengths: [u64; 4], p: usize, v: u64) -> [u64; 4]
+    ensures { λ r. ⌜ r ≡ put 4 lengths 0 p v ⌝ }
+{
+    let mut out = lengths;
+    if p < 4 {
+        out[p] = v;
+    }
+    out
+}
+
+// The stages of a class's block with the code v at one register, if that is shadowed.
+fn set_setting(s: Setting, v: u64, c: ClassStages) -> ClassStages
+    requires { ⌜ v ≤ 2 ^ settingBits s ⌝ }
+    ensures { λ r. ⌜ r ≡ withSettingStage s v c ⌝ }
+{
+    let mut out = c;
+    match s {
+        Setting::Regwen => c,
+        Setting::Ctrl => {
+            out.ctrl = v as u32;
+            out
+        }
+        Setting::ClrRegwen => c,
+        Setting::Clr => c,
+        Setting::AccumCnt => c,
+        Setting::AccumThresh => {
+            out.thresh = v as u32;
+            out
+        }
+        Setting::TimeoutCyc => {
+            out.timeout = v;
+            out
+        }
+        Setting::PhaseCyc(p) => {
+            let lengths = c.lengths;
+            let put = set_length(lengths, p, v);
+            out.lengths = put;
+            out
+        }
+        Setting::EscCnt => c,
+        Setting::State => c,
+    }
+}
+
+// The classes' stages with the code v at one register of the block of class k.
+fn set_block(classes: [ClassStages; 4], s: Setting, k: usize, v: u64) -> [ClassStages; 4]
+    requires { ⌜ v ≤ 2 ^ settingBits s ⌝ }
+    ensures { λ r. ⌜ r ≡ put classCount classes noClassStages k (withSettingStage s v (getD classes k noClassStages)) ⌝ }
+{
+    let mut out = classes;
+    if k < 4 {
+        let c = classes[k];
+        let put = set_setting(s, v, c);
+        out[k] = put;
+    }
+    out
+}
+
+// The stages with the code c at one register.
+fn with_stage(s: Stages, q: Register, c: u64) -> Stages
+    requires { ⌜ c ≤ 2 ^ bits q ⌝ }
+    ensures { λ r. ⌜ r ≡ withStage q c s ⌝ }
+{
+    let mut out = s;
+    match q {
+        Register::IntrState => s,
+        Register::IntrEnable => s,
+        Register::IntrTest => s,
+        Register::Local(f, j) => {
+            let locals = set_local(s.locals, f, j, c as u8);
+            out.locals = locals;
+            out
+        }
+        Register::Alert(f, i) => {
+            let alerts = set_alert(s.alerts, f, i, c as u8);
+            out.alerts = alerts;
+            out
+        }
+        Register::Block(t, k) => {
+            let classes = s.classes;
+            let put = set_block(classes, t, k, c);
+            out.classes = put;
+            out
+        }
+        Register::Unassigned => s,
+    }
+}
+
+// The state with v staged at one register; v fits the register.
+pub fn stage_value(h: Handler, q: Register, v: u32) -> Handler
+    requires { ⌜ v < 2 ^ bits q ⌝ }
+    ensures { λ r. ⌜ r ≡ withStages (staged q v (h .stages)) h ⌝ }
+{
+    let stages = with_stage(h.stages, q, v as u64 + 1);
+    let mut out = h;
+    out.stages = stages;
+    out
+}
+
+// The state without the stage of one register. Where none is open nothing is written.
+pub fn drop_stage(h: Handler, q: Register) -> Handler
+    ensures { λ r. ⌜ r ≡ withStages (dropped q (h .stages)) h ⌝ }
+{
+    if stage_of(h, q) == 0 {
+        h
+    } else {
+        let stages = with_stage(h.stages, q, 0);
+        let mut out = h;
+        out.stages = stages;
+        out
+    }
+}

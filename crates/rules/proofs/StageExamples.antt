@@ -1,0 +1,104 @@
+-- Worked examples that pin where each stage stands, by computation.
+-- Assumes nothing.
+use Prim.Native.Nat.{ℕ, _+_, _^_}
+use mathlib.Core.Path.{_≡_, refl}
+use mathlib.Core.Bool.{true, false}
+use mathlib.Core.List.{[], _∷_, map}
+use lib.ListN.{set, replicate}
+use Rattle.bits.specs.Index.{each}
+use Rattle.rules.specs.Map.{decode}
+use Rattle.rules.specs.Stages.{stageIn, withStage, dropped}
+use Rattle.rules.specs.State.{newHandler, noStages, withStages}
+use Rattle.rules.specs.Valid.{valid}
+use Rattle.rules.specs.declared.ClassStages.{ClassStages}
+use Rattle.rules.specs.declared.Handler.{Handler}
+use Rattle.rules.specs.declared.Register.the-variants.{IntrState, IntrEnable, IntrTest, Unassigned}
+use Rattle.rules.specs.declared.Stages.{Stages}
+use Rattle.rules.proofs.Scenes.{rules}
+
+-- ── one code for each register, all different ──
+
+abbrev classCodes : ℕ → ClassStages
+classCodes b = record { lengths = (b + 4) ∷ (b + 5) ∷ (b + 6) ∷ (b + 7) ∷ []; timeout = b + 3; ctrl = b + 1; thresh = b + 2 }
+
+abbrev every : Stages
+every =
+    record {
+      classes = classCodes 3000 ∷ classCodes 3100 ∷ classCodes 3200 ∷ classCodes 3300 ∷ [];
+      alerts = record { en = each 248 (λ i. 1000 + i); class = each 248 (λ i. 2000 + i) };
+      locals = record { en = each 7 (λ i. 100 + i); class = each 7 (λ i. 200 + i) };
+    }
+
+-- by document 01's numbers, as request (iii) moved them
+stands : (map (λ r. stageIn every (decode 248 r)) (24 ∷ 30 ∷ 32 ∷ 38 ∷ []) ≡ 100 ∷ 106 ∷ 200 ∷ 206 ∷ [])
+    × (map (λ r. stageIn every (decode 248 r)) (512 ∷ 759 ∷ 768 ∷ 1015 ∷ []) ≡ 1000 ∷ 1247 ∷ 2000 ∷ 2247 ∷ [])
+    × (map (λ r. stageIn every (decode 248 r)) (1281 ∷ 1285 ∷ 1286 ∷ 1287 ∷ 1288 ∷ 1289 ∷ 1290 ∷ []) ≡ each 7 (λ i. 3001 + i))
+    × (map (λ r. stageIn every (decode 248 r)) (1329 ∷ 1333 ∷ 1334 ∷ 1335 ∷ 1336 ∷ 1337 ∷ 1338 ∷ []) ≡ each 7 (λ i. 3301 + i))
+    × (map (stageIn every) (IntrState ∷ IntrEnable ∷ IntrTest ∷ Unassigned ∷ []) ≡ replicate 4 0)
+    × (map (λ r. stageIn every (decode 248 r)) (16 ∷ 40 ∷ 256 ∷ 1024 ∷ 1280 ∷ 1282 ∷ 1283 ∷ 1284 ∷ 1291 ∷ 1292 ∷ []) ≡ replicate 10 0)
+unfolding rules
+stands = (refl, refl, refl, refl, refl, refl)
+
+-- ── a code put at one register, in raw fields ──
+
+abbrev none : ClassStages
+none = record { lengths = replicate 4 0; timeout = 0; ctrl = 0; thresh = 0 }
+
+abbrev puts : ℕ → ℕ → Stages
+puts r c = withStage (decode 248 r) c noStages
+
+alerts-put : (puts 759 2 .alerts ≡ record { en = set (replicate 248 0) 247 2; class = replicate 248 0 })
+    × (puts 768 4 .alerts ≡ record { en = replicate 248 0; class = set (replicate 248 0) 0 4 })
+    × (puts 30 2 .locals ≡ record { en = set (replicate 7 0) 6 2; class = replicate 7 0 })
+    × (puts 32 4 .locals ≡ record { en = replicate 7 0; class = set (replicate 7 0) 0 4 })
+    × (puts 30 2 .alerts ≡ noStages .alerts)
+    × (puts 759 2 .locals ≡ noStages .locals)
+    × (puts 759 2 .classes ≡ noStages .classes)
+    × (puts 30 2 .classes ≡ noStages .classes)
+unfolding rules
+alerts-put = (refl, refl, refl, refl, refl, refl, refl, refl)
+
+classes-put : (puts 1281 9 .classes ≡ set (replicate 4 none) 0 (record { lengths = replicate 4 0; timeout = 0; ctrl = 9; thresh = 0 }))
+    × (puts 1301 9 .classes ≡ set (replicate 4 none) 1 (record { lengths = replicate 4 0; timeout = 0; ctrl = 0; thresh = 9 }))
+    × (puts 1318 9 .classes ≡ set (replicate 4 none) 2 (record { lengths = replicate 4 0; timeout = 9; ctrl = 0; thresh = 0 }))
+    × (puts 1335 9 .classes ≡ set (replicate 4 none) 3 (record { lengths = 9 ∷ 0 ∷ 0 ∷ 0 ∷ []; timeout = 0; ctrl = 0; thresh = 0 }))
+    × (puts 1338 9 .classes ≡ set (replicate 4 none) 3 (record { lengths = 0 ∷ 0 ∷ 0 ∷ 9 ∷ []; timeout = 0; ctrl = 0; thresh = 0 }))
+    × (puts 1338 9 .alerts ≡ noStages .alerts)
+    × (puts 1338 9 .locals ≡ noStages .locals)
+unfolding rules
+classes-put = (refl, refl, refl, refl, refl, refl, refl)
+
+-- a register that is not shadowed has no place for one
+not-shadowed : map (λ r. puts r 9) (0 ∷ 1 ∷ 2 ∷ 3 ∷ 16 ∷ 40 ∷ 256 ∷ 1024 ∷ 1280 ∷ 1282 ∷ 1283 ∷ 1284 ∷ 1291 ∷ 1292 ∷ []) ≡ replicate 14 noStages
+unfolding rules
+not-shadowed = refl
+
+-- a stage that is dropped, and no other
+drops : (dropped (decode 248 1333) every .classes ≡ classCodes 3000 ∷ classCodes 3100 ∷ classCodes 3200 ∷ record { lengths = 3304 ∷ 3305 ∷ 3306 ∷ 3307 ∷ []; timeout = 3303; ctrl = 3301; thresh = 0 } ∷ [])
+    × (dropped (decode 248 1333) noStages ≡ noStages)
+    × (map (λ r. stageIn (dropped (decode 248 512) every) (decode 248 r)) (512 ∷ 513 ∷ 768 ∷ 24 ∷ []) ≡ 0 ∷ 1001 ∷ 2000 ∷ 100 ∷ [])
+unfolding rules
+drops = (refl, refl, refl)
+
+-- ── request (v): "7 also covers a staged value over its field", of local alerts, classes and alerts below N ──
+
+abbrev holding : ℕ → ℕ → Handler
+holding r c = withStages (withStage (decode 248 r) c noStages) (newHandler 5)
+
+covers : (map (λ r. valid (holding r 2)) (24 ∷ 30 ∷ 512 ∷ 516 ∷ []) ≡ replicate 4 true)
+    × (map (λ r. valid (holding r 3)) (24 ∷ 30 ∷ 512 ∷ 516 ∷ []) ≡ replicate 4 false)
+    × (map (λ r. valid (holding r 4)) (32 ∷ 38 ∷ 768 ∷ 772 ∷ []) ≡ replicate 4 true)
+    × (map (λ r. valid (holding r 5)) (32 ∷ 38 ∷ 768 ∷ 772 ∷ []) ≡ replicate 4 false)
+    × (map (λ k. valid (holding (1281 + k) (2 ^ 14))) (0 ∷ 16 ∷ 32 ∷ 48 ∷ []) ≡ replicate 4 true)
+    × (map (λ k. valid (holding (1281 + k) (2 ^ 14 + 1))) (0 ∷ 16 ∷ 32 ∷ 48 ∷ []) ≡ replicate 4 false)
+    × (valid (holding 1285 (2 ^ 16)) ≡ true)
+    × (valid (holding 1333 (2 ^ 16 + 1)) ≡ false)
+    × (map (λ o. valid (holding (1328 + o) (2 ^ 32))) (6 ∷ 7 ∷ 8 ∷ 9 ∷ 10 ∷ []) ≡ replicate 5 true)
+    × (map (λ o. valid (holding (1328 + o) (2 ^ 32 + 1))) (6 ∷ 7 ∷ 8 ∷ 9 ∷ 10 ∷ []) ≡ replicate 5 false)
+unfolding rules
+covers = (refl, refl, refl, refl, refl, refl, refl, refl, refl, refl)
+
+-- entries at N and above are not looked at
+above : map (λ r. valid (holding r 255)) (517 ∷ 759 ∷ 773 ∷ 1015 ∷ []) ≡ replicate 4 true
+unfolding rules
+above = refl

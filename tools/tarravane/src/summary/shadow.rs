@@ -1,0 +1,44 @@
+//! Shadow writes: how many were staged and committed, when a stage was dropped, and which are open at the end.
+use super::kept::Kept;
+use crate::facts::stages::{change, open, Change};
+use crate::facts::tick::Tick;
+
+#[derive(Default)]
+pub struct Shadow {
+    staged: u64,
+    committed: u64,
+    dropped: Kept<u64>,
+    /// The names of the registers that have a stage after the last tick.
+    open: Kept<String>,
+}
+
+impl Shadow {
+    pub fn add(&mut self, t: &Tick) {
+        match change(t) {
+            Some(Change::Staged) => self.staged += 1,
+            Some(Change::Committed) => self.committed += 1,
+            Some(Change::Dropped) => {
+                self.dropped.push(t.number);
+            }
+            None => return,
+        }
+        self.open = Kept::default();
+        for (register, _) in open(&t.after) {
+            self.open.push(register.to_string());
+        }
+    }
+
+    pub fn line(&self) -> String {
+        if self.staged == 0 {
+            return "shadow writes: none".to_string();
+        }
+        let at = if self.dropped.count() > 0 { "at " } else { "" };
+        format!(
+            "shadow writes: {} staged, {} committed; dropped {at}{}; open at the end {}",
+            self.staged,
+            self.committed,
+            self.dropped.words(u64::to_string),
+            self.open.words(String::clone)
+        )
+    }
+}
