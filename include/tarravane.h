@@ -170,6 +170,7 @@ struct tarravane_batched {
 #define TARRAVANE_NO_RECORD 10    /* an access that no well-formed record holds */
 #define TARRAVANE_SHORT_BUFFER 11 /* buffer shorter than the records to write */
 #define TARRAVANE_DIFFERS 12      /* second write differs from the first; the stage is dropped, local 5 occurs if enabled */
+#define TARRAVANE_THRESHOLD 14    /* a 0 to a class REGWEN that is still 1, while EN is 1 and ACCUM_THRESH 65535 */
 
 /* ---- Kinds of access ---- */
 
@@ -186,7 +187,11 @@ struct tarravane_batched {
  * register is as it was, nothing is staged, and local alert 5 occurs in that tick if it is enabled. There is one stage for
  * each register, in every edition; it waits through ticks, other accesses and locking until its register is named again: a
  * read drops it, so read back after the second write; a write refused with -3 drops it; one refused with -1, -2, -4 or -5
- * leaves it. A write of the value that the register holds is staged like any other. */
+ * leaves it. A write of the value that the register holds is staged like any other.
+ *
+ * A class that waits for 65,536 events is not locked so: a 0 written to a class REGWEN that is still 1 answers -14 while the
+ * class's EN, bit 0 of CTRL, is 1, whatever its line enables, and its ACCUM_THRESH is 65535. It changes nothing. What is
+ * staged does not count. Set the threshold to 65534 or less, by two writes, and lock again. */
 
 #define TARRAVANE_INTR_STATE 0  /* 4 bits, a 1 clears */
 #define TARRAVANE_INTR_ENABLE 1 /* 4 bits */
@@ -202,7 +207,7 @@ struct tarravane_batched {
 #define TARRAVANE_ALERT_CLASS(i) (768 + (i))  /* 2 bits, twice */
 #define TARRAVANE_ALERT_CAUSE(i) (1024 + (i)) /* 1 bit, a 1 clears */
 
-#define TARRAVANE_CLASS_REGWEN(k) (1280 + 16 * (k))             /* 1 bit, a 0 locks */
+#define TARRAVANE_CLASS_REGWEN(k) (1280 + 16 * (k))             /* 1 bit, a 0 locks, or gets -14 */
 #define TARRAVANE_CLASS_CTRL(k) (1281 + 16 * (k))               /* 14 bits: EN, LOCK, four line enables, four maps; twice */
 #define TARRAVANE_CLASS_CLR_REGWEN(k) (1282 + 16 * (k))         /* 1 bit, a 0 locks */
 #define TARRAVANE_CLASS_CLR(k) (1283 + 16 * (k))                /* 1 bit, write only */
@@ -237,7 +242,7 @@ struct tarravane_made tarravane_new(size_t n);
  * The access: kind TARRAVANE_NONE (register and value are not looked at), TARRAVANE_READ (value is not looked at) or
  * TARRAVANE_WRITE.
  * -7: the state breaks its rule. State unchanged, tick not run, interrupts and lines 0.
- * -5 (kind over 2), -1, -2, -4, -3, -12, in this order: no register is changed by the access; the tick runs with its
+ * -5 (kind over 2), -1, -2, -4, -14, -3, -12, in this order: no register is changed by the access; the tick runs with its
  * samples. -3 and -12 drop the stage of the register that is named, the others touch none. */
 struct tarravane_answered tarravane_tick(struct tarravane_handler h, uint8_t kind, uint16_t register_number,
                                          uint32_t value, struct tarravane_wires wires);
@@ -245,7 +250,7 @@ struct tarravane_answered tarravane_tick(struct tarravane_handler h, uint8_t kin
 /* Runs a tick for each record of 70 bytes, one after another from the state h, and writes a word for each at its place in
  * out: bits 63 to 60 interrupts (class 0 first), 59 to 56 lines (line 0 first), 55 to 52 the refusal number or 0, then 20
  * zeros and the 32 bits of the value that was read, or 0. Later words stay as they were. Gives the state after the last
- * tick, and 0. A record that gets refusal 1 to 5 or 12 still takes its tick, and the batch goes on; its word says so.
+ * tick, and 0. A record that gets refusal 1 to 5, 12 or 14 still takes its tick, and the batch goes on; its word says so.
  * -7: the state breaks its rule. -8: length is not a multiple of 70. -9: words is less than length / 70. In this order;
  * each leaves state and list unchanged.
  * The caller owes: bytes points to length readable bytes, out to words writable words, aligned; they do not overlap;

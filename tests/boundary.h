@@ -78,6 +78,7 @@ int64_t written(const struct access *a, uint8_t record[TARRAVANE_RECORD_70]);
 void test_accesses(void);
 void test_states(void);
 void test_stages(void);
+void test_threshold(void);
 void test_writer(void);
 void test_trace(const char *trace, const char *printed);
 

@@ -36,7 +36,7 @@ impl Handler {
         })
     }
 
-    /// Writes a register; refusals in the order 1, 2, 4, 3, 12.
+    /// Writes a register; refusals in the order 1, 2, 4, 14, 3, 12.
     fn write(&mut self, number: u16, value: u32) -> Result<Option<usize>, Refusal> {
         let register = Register::decode(number, self.n).ok_or(Refusal::NoRegister)?;
         if !register.writable() {
@@ -44,6 +44,9 @@ impl Handler {
         }
         if value > register.mask() {
             return Err(Refusal::OutsideField);
+        }
+        if self.locks_silly(register, value) {
+            return Err(Refusal::SillyThreshold);
         }
         if self.locked(register, value) {
             // What was staged before the lock came can never be committed.
@@ -77,6 +80,14 @@ impl Handler {
                     Err(Refusal::StageDiffers)
                 }
             }
+        }
+    }
+
+    /// Whether writing `value` to the register would lock a silly threshold.
+    fn locks_silly(&self, register: Register, value: u32) -> bool {
+        match register {
+            Register::Class(ClassField::Regwen, k) => value == 0 && self.classes[k].silly(),
+            _ => false,
         }
     }
 

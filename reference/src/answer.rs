@@ -29,6 +29,8 @@ pub enum Refusal {
     ShortBuffer = 11,
     /// The written value differs from the one that the register's stage holds.
     StageDiffers = 12,
+    /// A class that waits for 65,536 events is not to be locked so.
+    SillyThreshold = 14,
 }
 
 impl Refusal {

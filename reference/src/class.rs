@@ -68,9 +68,19 @@ impl Class {
     /// What steps 3 and 4 read as EN: CTRL bit 0 is 1 and at least one of the
     /// line enables, CTRL bits 2 to 5, is 1.
     pub fn enabled(&self) -> bool {
-        let en = self.ctrl & 1 == 1;
         let lines = (self.ctrl >> 2) & 0xF;
-        en && lines != 0
+        self.en() && lines != 0
+    }
+
+    /// CTRL bit 0.
+    pub fn en(&self) -> bool {
+        self.ctrl & 1 == 1
+    }
+
+    /// Whether the class may not be locked as it stands: EN is 1, whatever the
+    /// lines, it waits for 65,536 events, and it is not locked yet.
+    pub fn silly(&self) -> bool {
+        self.en() && self.accum_thresh == u16::MAX && self.regwen == 1
     }
 
     /// CTRL bit 1.

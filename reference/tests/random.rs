@@ -40,16 +40,24 @@ impl List {
         }
     }
 
-    /// A lock takes a 0 always, and a 1 while it is open.
+    /// A lock takes a 0 but for a silly threshold, and a 1 while it is open.
     fn write_lock(&mut self, number: u16, value: u32) -> i64 {
         if value > 1 {
             return -4;
+        }
+        if value == 0 && !self.locked[&number] && self.silly(number) {
+            return -14;
         }
         if self.locked[&number] && value == 1 {
             return -3;
         }
         self.locked.insert(number, value == 0);
         0
+    }
+
+    /// Whether the lock is a class's that has EN 1 and the threshold 65535.
+    fn silly(&self, number: u16) -> bool {
+        number >= 1280 && self.values[&(number + 1)] % 2 == 1 && self.values[&(number + 5)] == 65535
     }
 
     fn write(&mut self, number: u16, value: u32) -> i64 {

@@ -13,7 +13,7 @@ use borrow.Author.Needs.{sfits-of, needs}
 use Rattle.rules.specs.Answer.{refusalNumber, number}
 use Rattle.rules.specs.declared.Answer.{Answer}
 use Rattle.rules.specs.declared.Refusal.{Refusal}
-use Rattle.rules.specs.declared.Refusal.the-variants.{NoRegister, WrongWay, Locked, TooWide, BadRecord, BadCount, BadState, BadLength, ShortList, NoRecord, ShortBuffer, Differs}
+use Rattle.rules.specs.declared.Refusal.the-variants.{NoRegister, WrongWay, Locked, TooWide, BadRecord, BadCount, BadState, BadLength, ShortList, NoRecord, ShortBuffer, Differs, SillyThreshold}
 use Rattle.answers.specs.Meaning.{isNegative, InRange, Meaning}
 
 -- ── the number of a refusal ──
@@ -24,7 +24,7 @@ refusalOf n =
     (cond (eqb n 2) WrongWay
     (cond (eqb n 3) Locked
     (cond (eqb n 4) TooWide
-    (cond (eqb n 5) BadRecord (cond (eqb n 6) BadCount (cond (eqb n 7) BadState (cond (eqb n 8) BadLength (cond (eqb n 9) ShortList (cond (eqb n 10) NoRecord (cond (eqb n 11) ShortBuffer Differs))))))))))
+    (cond (eqb n 5) BadRecord (cond (eqb n 6) BadCount (cond (eqb n 7) BadState (cond (eqb n 8) BadLength (cond (eqb n 9) ShortList (cond (eqb n 10) NoRecord (cond (eqb n 11) ShortBuffer (cond (eqb n 12) Differs SillyThreshold)))))))))))
 
 refusal-number : (m : Refusal) → refusalOf (refusalNumber m) ≡ m
 refusal-number NoRegister = refl
@@ -39,9 +39,10 @@ refusal-number ShortList = refl
 refusal-number NoRecord = refl
 refusal-number ShortBuffer = refl
 refusal-number Differs = refl
+refusal-number SillyThreshold = refl
 
--- it is 1 to 12
-pub number-range : (m : Refusal) → (1 ≤ refusalNumber m) × (refusalNumber m ≤ 12)
+-- it is 1 to 14
+pub number-range : (m : Refusal) → (1 ≤ refusalNumber m) × (refusalNumber m ≤ 14)
 number-range NoRegister = (omega arith, omega arith)
 number-range WrongWay = (omega arith, omega arith)
 number-range Locked = (omega arith, omega arith)
@@ -54,6 +55,7 @@ number-range ShortList = (omega arith, omega arith)
 number-range NoRecord = (omega arith, omega arith)
 number-range ShortBuffer = (omega arith, omega arith)
 number-range Differs = (omega arith, omega arith)
+number-range SillyThreshold = (omega arith, omega arith)
 
 -- ── negated numbers ──
 
@@ -66,8 +68,8 @@ neg-fits (suc n) h = sfits-of (omega arith)
 
 -- ── the meaning of every answer that is in range ──
 
--- the number of a refusal is below zero, by 1 to 12
-refused-number : (m : Refusal) → (k : ℕ) × (k ≤ 11) × (number (Answer.Refused m) ≡ negsuc k)
+-- the number of a refusal is below zero, by 1 to 14
+refused-number : (m : Refusal) → (k : ℕ) × (k ≤ 13) × (number (Answer.Refused m) ≡ negsuc k)
 unfolding number
 refused-number m =
     let r = number-range m in

@@ -28,8 +28,8 @@ pub record Meaning (a : Answer) : Type 0 where
   -- minus m exactly for the refusal numbered m
   pub of-refusal : (m : Refusal) → a ≡ Answer.Refused m → number a ≡ negℤ (pos (refusalNumber m))
   pub is-refusal : (m : Refusal) → number a ≡ negℤ (pos (refusalNumber m)) → a ≡ Answer.Refused m
-  -- the lower end: a refusal's number is 1 to 12
-  pub lowest : (n : ℕ) → number a ≡ negsuc n → n ≤ 11
+  -- the lower end: a refusal's number is 1 to 14
+  pub lowest : (n : ℕ) → number a ≡ negsuc n → n ≤ 13
   -- zero exactly where nothing is read, or a 0
   pub of-done : a ≡ Answer.Done → number a ≡ pos 0
   pub is-zero : number a ≡ pos 0 → (a ≡ Answer.Done) ⊎ (a ≡ Answer.Value 0)

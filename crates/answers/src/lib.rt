@@ -23,6 +23,7 @@ pub fn refusal_number(m: Refusal) -> u8
         Refusal::NoRecord => 10,
         Refusal::ShortBuffer => 11,
         Refusal::Differs => 12,
+        Refusal::SillyThreshold => 14,
     }
 }
 

@@ -43,7 +43,7 @@ use Rattle.escalation.proofs.Ticks.{input, at-valid, at-next, given-han
 
 module _ (g : Handler) (v : valid g ≡ true) (k : ℕ) (small : k < classCount) where
   -- a locked register of the block holds the same after step 1
-  keeps : (x : Access) (s : Setting) → settingExists s ≡ true → locked g (Block s k) ≡ true
+  pub keeps : (x : Access) (s : Setting) → settingExists s ≡ true → locked g (Block s k) ≡ true
       → settingValue s (classAt (acted g x) k) ≡ settingValue s (classAt g k)
   unfolding value
   keeps x s e l = acted-locked g x (Block s k) (facts g v .n) (true-and (lt-ltb k classCount small) e) l .1

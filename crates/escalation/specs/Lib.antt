@@ -1,2 +1,3 @@
 pub mod List
 pub mod Escalation
+pub mod Threshold

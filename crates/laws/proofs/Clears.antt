@@ -10,7 +10,7 @@ use borrow.Author.Tests.{eqb-true, eq-eqb}
 use lib.Dec.{eqb}
 use Rattle.bits.proofs.IndexLaws.{and-true, true-and}
 use Rattle.bits.specs.Bits.{fits}
-use Rattle.rules.specs.Access.{locked, bars, unlike, settingIsClr, isClrOf, clears}
+use Rattle.rules.specs.Access.{locked, silly, bars, unlike, settingIsClr, isClrOf, clears}
 use Rattle.rules.specs.Map.{decode, isRegister, bits, readOnly, isLock}
 use Rattle.rules.specs.Stages.{stageIn}
 use Rattle.rules.specs.declared.Access.{Access}
@@ -83,6 +83,7 @@ clears-when h x k c =
           exists = at (λ q. not (isRegister q));
           way = at readOnly;
           width = at (λ q. not (fits (bits q) 1));
+          threshold = at (λ q. silly h q 1);
           free = at (λ q. bars h q 1) ∙ clr-bars h k 1 ∙ c .free;
           same = at (λ q. unlike h q 1);
         }

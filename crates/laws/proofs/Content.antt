@@ -14,7 +14,7 @@ use Rattle.bits.proofs.IndexLaws.{and-true, any-at, any-some}
 use Rattle.class_rules.specs.Class.{enabled, drives}
 use Rattle.class_rules.specs.Step.{classStep}
 use Rattle.class_rules.specs.declared.Class.{Class}
-use Rattle.rules.specs.Access.{value, locked, bars, unlike, withSetting, store, accepted, isFirst, acted, settingIsClr, isClrOf, effects, clears}
+use Rattle.rules.specs.Access.{value, locked, silly, bars, unlike, withSetting, store, accepted, isFirst, acted, settingIsClr, isClrOf, effects, clears}
 use Rattle.rules.specs.Map.{decode, isRegister, settingBits, settingRow, bits, onlyRead, readOnly, guard, isLock, isShadowed}
 use Rattle.rules.specs.Samples as samples
 use Rattle.rules.specs.Stages.{classStages, stageIn}
@@ -101,8 +101,8 @@ module _ (h : Handler) (r v k : ℕ) where
     unfolding blockAccepts readOnly bits isLock stageIn
     block-accepted =
         accepted-write h r v
-        ∙ ap (λ (q : Register). isRegister q && (not (readOnly q) && (fits (bits q) v && (not (bars h q v) && not (unlike h q v))))) e
-        ∙ ap (λ (b : Bool). not (onlyRead (settingRow s .way)) && (fits (settingBits s) v && (not (b && not (settingRow s .lock && eqb v 0)) && not (unlike h (Block s k) v)))) block-locked
+        ∙ ap (λ (q : Register). isRegister q && (not (readOnly q) && (fits (bits q) v && (not (silly h q v) && (not (bars h q v) && not (unlike h q v)))))) e
+        ∙ ap (λ (b : Bool). not (onlyRead (settingRow s .way)) && (fits (settingBits s) v && (not (silly h (Block s k) v) && (not (b && not (settingRow s .lock && eqb v 0)) && not (unlike h (Block s k) v))))) block-locked
 
     -- as a first write to it is one
     pub block-first : isFirst h (decode (h .n) r) ≡ blockFirst s (classStages (h .stages) k)

@@ -10,7 +10,7 @@ use lib.Dec.{eqb}
 use lib.IntN.{pos, negℤ, negℤ-negℤ}
 use lib.ListN.{getD, length}
 use Rattle.bits.specs.Bits.{bitsOf, fits}
-use Rattle.rules.specs.Access.{value, bars, unlike, accessCases, verdict, accepts, accepted, named, drops, kept, raisedBy, accessedBy, accessed, acted, answerTo, effects}
+use Rattle.rules.specs.Access.{value, silly, bars, unlike, accessCases, verdict, accepts, accepted, named, drops, kept, raisedBy, accessedBy, accessed, acted, answerTo, effects}
 use Rattle.rules.specs.Answer.{refusalNumber, number, Case, firstOf}
 use Rattle.rules.specs.Map.{decode, isRegister, bits, readOnly}
 use Rattle.rules.specs.Stages.{dropped}
@@ -107,62 +107,67 @@ unrefused h x e =
       exists = clear 1 (omega arith);
       way = clear 2 (omega arith);
       width = clear 3 (omega arith);
-      free = clear 4 (omega arith);
-      same = clear 5 (omega arith);
+      threshold = clear 4 (omega arith);
+      free = clear 5 (omega arith);
+      same = clear 6 (omega arith);
     }
   where
-    clear : (i : ℕ) → i < 6 → getD (accessCases h x) i none .holds ≡ false
+    clear : (i : ℕ) → i < 7 → getD (accessCases h x) i none .holds ≡ false
     clear = first-accepts (accessCases h x) none .0 (accepts-is (verdict h x) e)
 
 -- and what meets no case is accepted
 pub is-accepted : (h : Handler) (x : Access) → Unrefused h x → accepted h x ≡ true
 unfolding verdict firstOf
-is-accepted h x u = rw (u .formed, u .exists, u .way, u .width, u .free, u .same)
+is-accepted h x u = rw (u .formed, u .exists, u .way, u .width, u .threshold, u .free, u .same)
 
--- a write is accepted if its number is a register's, which is not read only, holds the value, is not locked and has no other stage open
+-- a write is accepted if its number is a register's, which is not read only, holds the value, locks no silly threshold, is not locked and has no
+-- other stage open
 pub accepted-write : (h : Handler) (r v : ℕ)
     → accepted h (Access.Write r v)
     ≡ (isRegister (decode (h .n) r) && (not (readOnly (decode (h .n) r)) && (fits (bits (decode (h .n) r)) v
-    && (not (bars h (decode (h .n) r) v) && not (unlike h (decode (h .n) r) v)))))
+    && (not (silly h (decode (h .n) r) v) && (not (bars h (decode (h .n) r) v) && not (unlike h (decode (h .n) r) v))))))
 unfolding verdict firstOf
 accepted-write h r v =
-    go (isRegister (decode (h .n) r)) (readOnly (decode (h .n) r)) (fits (bits (decode (h .n) r)) v) (bars h (decode (h .n) r) v)
-    (unlike h (decode (h .n) r) v)
+    go (isRegister (decode (h .n) r)) (readOnly (decode (h .n) r)) (fits (bits (decode (h .n) r)) v) (silly h (decode (h .n) r) v)
+    (bars h (decode (h .n) r) v) (unlike h (decode (h .n) r) v)
   where
-    go : (a b c d e : Bool)
+    go : (a b c s d e : Bool)
         → accepts (cond (not a) (Verdict.Refused Refusal.NoRegister) (cond b (Verdict.Refused Refusal.WrongWay)
-        (cond (not c) (Verdict.Refused Refusal.TooWide) (cond d (Verdict.Refused Refusal.Locked)
-        (cond e (Verdict.Refused Refusal.Differs) Verdict.Accepted)))))
-        ≡ (a && (not b && (c && (not d && not e))))
-    go false b c d e = refl
-    go true true c d e = refl
-    go true false false d e = refl
-    go true false true true e = refl
-    go true false true false true = refl
-    go true false true false false = refl
+        (cond (not c) (Verdict.Refused Refusal.TooWide) (cond s (Verdict.Refused Refusal.SillyThreshold)
+        (cond d (Verdict.Refused Refusal.Locked) (cond e (Verdict.Refused Refusal.Differs) Verdict.Accepted))))))
+        ≡ (a && (not b && (c && (not s && (not d && not e)))))
+    go false b c s d e = refl
+    go true true c s d e = refl
+    go true false false s d e = refl
+    go true false true true d e = refl
+    go true false true false true e = refl
+    go true false true false false true = refl
+    go true false true false false false = refl
 
--- and its stage is dropped, refused or not, if it is a register's, not read only, and holds the value
+-- and its stage is dropped, refused or not, if it is a register's, not read only, holds the value, and locks no silly threshold
 pub drops-write : (h : Handler) (r v : ℕ)
     → dropsBy (verdict h (Access.Write r v))
-    ≡ (isRegister (decode (h .n) r) && (not (readOnly (decode (h .n) r)) && (fits (bits (decode (h .n) r)) v && not (accepted h (Access.Write r v)))))
+    ≡ (isRegister (decode (h .n) r) && (not (readOnly (decode (h .n) r)) && (fits (bits (decode (h .n) r)) v
+    && (not (silly h (decode (h .n) r) v) && not (accepted h (Access.Write r v))))))
 unfolding verdict firstOf
 drops-write h r v =
-    go (isRegister (decode (h .n) r)) (readOnly (decode (h .n) r)) (fits (bits (decode (h .n) r)) v) (bars h (decode (h .n) r) v)
-    (unlike h (decode (h .n) r) v)
+    go (isRegister (decode (h .n) r)) (readOnly (decode (h .n) r)) (fits (bits (decode (h .n) r)) v) (silly h (decode (h .n) r) v)
+    (bars h (decode (h .n) r) v) (unlike h (decode (h .n) r) v)
   where
-    by : Bool → Bool → Bool → Bool → Bool → Verdict
-    by a b c d e =
+    by : Bool → Bool → Bool → Bool → Bool → Bool → Verdict
+    by a b c s d e =
         cond (not a) (Verdict.Refused Refusal.NoRegister) (cond b (Verdict.Refused Refusal.WrongWay)
-        (cond (not c) (Verdict.Refused Refusal.TooWide) (cond d (Verdict.Refused Refusal.Locked)
-        (cond e (Verdict.Refused Refusal.Differs) Verdict.Accepted))))
+        (cond (not c) (Verdict.Refused Refusal.TooWide) (cond s (Verdict.Refused Refusal.SillyThreshold)
+        (cond d (Verdict.Refused Refusal.Locked) (cond e (Verdict.Refused Refusal.Differs) Verdict.Accepted)))))
 
-    go : (a b c d e : Bool) → dropsBy (by a b c d e) ≡ (a && (not b && (c && not (accepts (by a b c d e)))))
-    go false b c d e = refl
-    go true true c d e = refl
-    go true false false d e = refl
-    go true false true true e = refl
-    go true false true false true = refl
-    go true false true false false = refl
+    go : (a b c s d e : Bool) → dropsBy (by a b c s d e) ≡ (a && (not b && (c && (not s && not (accepts (by a b c s d e))))))
+    go false b c s d e = refl
+    go true true c s d e = refl
+    go true false false s d e = refl
+    go true false true true d e = refl
+    go true false true false true e = refl
+    go true false true false false true = refl
+    go true false true false false false = refl
 
 -- ── a refused access ──
 
@@ -246,7 +251,7 @@ locked-after h x s e =
 
 -- ── the numbers that come back ──
 
--- the six refusals of an access
+-- the seven refusals of an access
 access-refusal : (h : Handler) (x : Access) (m : Refusal) → verdict h x ≡ Verdict.Refused m → AccessRefusal (refusalNumber m)
 unfolding verdict
 access-refusal h x m e = let f = first-is (accessCases h x) none m .0 e in subst P (f .names) (small (f .place) (f .inside))
@@ -254,16 +259,17 @@ access-refusal h x m e = let f = first-is (accessCases h x) none m .0 e in subst
     P : Refusal → Type 0
     P m = AccessRefusal (refusalNumber m)
 
-    small : (i : ℕ) → i < 6 → P (getD (accessCases h x) i none .refusal)
+    small : (i : ℕ) → i < 7 → P (getD (accessCases h x) i none .refusal)
     small zero l = inl (omega arith, omega arith)
     small (suc zero) l = inl (omega arith, omega arith)
     small (suc (suc zero)) l = inl (omega arith, omega arith)
     small (suc (suc (suc zero))) l = inl (omega arith, omega arith)
-    small (suc (suc (suc (suc zero)))) l = inl (omega arith, omega arith)
-    small (suc (suc (suc (suc (suc zero))))) l = inr refl
-    small (suc (suc (suc (suc (suc (suc i)))))) l = absurd (omega arith)
+    small (suc (suc (suc (suc zero)))) l = inr (inr refl)
+    small (suc (suc (suc (suc (suc zero))))) l = inl (omega arith, omega arith)
+    small (suc (suc (suc (suc (suc (suc zero)))))) l = inr (inl refl)
+    small (suc (suc (suc (suc (suc (suc (suc i))))))) l = absurd (omega arith)
 
--- a read gives 0 to 4,294,967,295, anything else accepted 0, and a refusal -1 to -5 or -12
+-- a read gives 0 to 4,294,967,295, anything else accepted 0, and a refusal -1 to -5, -12 or -14
 pub answer-number : (h : Handler) (x : Access) → ((r : ℕ) → value h (decode (h .n) r) < 2 ^ 32) → AccessNumber (number (answerTo h x))
 unfolding answerTo accessed number
 answer-number h x w = go (verdict h x) refl x
@@ -276,15 +282,15 @@ answer-number h x w = go (verdict h x) refl x
     go (Verdict.Refused m) e y = inr (refusalNumber m, access-refusal h x m e, refl)
 
 -- so no access answers -6, which a new handler answers alone
-pub answer-refusal : (h : Handler) (x : Access) (m : ℕ) → number (answerTo h x) ≡ negℤ (pos m) → (m ≤ 5) ⊎ (m ≡ 12)
+pub answer-refusal : (h : Handler) (x : Access) (m : ℕ) → number (answerTo h x) ≡ negℤ (pos m) → (m ≤ 5) ⊎ ((m ≡ 12) ⊎ (m ≡ 14))
 unfolding answerTo accessed number
 answer-refusal h x m = go (verdict h x) refl x
   where
-    value-least : (v m : ℕ) → pos v ≡ negℤ (pos m) → (m ≤ 5) ⊎ (m ≡ 12)
+    value-least : (v m : ℕ) → pos v ≡ negℤ (pos m) → (m ≤ 5) ⊎ ((m ≡ 12) ⊎ (m ≡ 14))
     value-least v zero e = inl (omega arith)
     value-least v (suc m) e = absurd (let z : _≡_ {A = ℕ} 0 1 = cc in omega arith)
 
-    go : (t : Verdict) → verdict h x ≡ t → (y : Access) → number (accessedBy t h y .answer) ≡ negℤ (pos m) → (m ≤ 5) ⊎ (m ≡ 12)
+    go : (t : Verdict) → verdict h x ≡ t → (y : Access) → number (accessedBy t h y .answer) ≡ negℤ (pos m) → (m ≤ 5) ⊎ ((m ≡ 12) ⊎ (m ≡ 14))
     go Verdict.Accepted e Access.Nothing d = value-least 0 m d
     go Verdict.Accepted e (Access.Read r) d = value-least (value h (decode (h .n) r)) m d
     go Verdict.Accepted e (Access.Write r v) d = value-least 0 m d
@@ -293,4 +299,4 @@ answer-refusal h x m = go (verdict h x) refl x
         let i : pos (refusalNumber r) ≡ pos m = sym (negℤ-negℤ (pos (refusalNumber r))) ∙ ap negℤ d ∙ negℤ-negℤ (pos m) in
         let j : refusalNumber r ≡ m = cc in
         ⊎-elim (λ (b : (1 ≤ refusalNumber r) × (refusalNumber r ≤ 5)). inl (omega (arith, b .1)))
-        (λ (b : refusalNumber r ≡ 12). inr (sym j ∙ b)) (access-refusal h x r e)
+        (λ (b : (refusalNumber r ≡ 12) ⊎ (refusalNumber r ≡ 14)). inr (⊎-elim (λ c. inl (sym j ∙ c)) (λ c. inr (sym j ∙ c)) b)) (access-refusal h x r e)

@@ -236,7 +236,7 @@ pub read-answer : (h : Handler) (r : ℕ) → isRegister (decode (h .n) r) ≡ t
     → answerTo h (Read r) ≡ Answer.Value (value h (decode (h .n) r))
 read-answer h r a b =
     answer-accepted h (Read r)
-    (is-accepted h (Read r) (record { formed = refl; exists = ap not a; way = b; width = refl; free = refl; same = refl }))
+    (is-accepted h (Read r) (record { formed = refl; exists = ap not a; way = b; width = refl; threshold = refl; free = refl; same = refl }))
 
 -- commit, then read: the value comes back
 pub write-read : (h : Handler) (r v : ℕ) → h .n ≤ most → stores h r v ≡ true → plain (decode (h .n) r) ≡ true

@@ -6,7 +6,7 @@ use mathlib.Core.Bool.{Bool, true, false, cond, not, _&&_}
 use borrow.Author.Tests.{eq-eqb}
 use lib.Dec.{eqb}
 use Rattle.bits.specs.Bits.{fits}
-use Rattle.rules.specs.Access.{verdict, accepts, accepted, isFirst, written, named, drops, accessedBy, accessed, acted}
+use Rattle.rules.specs.Access.{locksSilly, silly, verdict, accepts, accepted, isFirst, written, named, drops, accessedBy, accessed, acted}
 use Rattle.rules.specs.Answer.{firstOf}
 use Rattle.rules.specs.Map.{decode, isRegister, bits, settingBits, settingRow, onlyRead, onlyWritten, readOnly, writeOnly}
 use Rattle.rules.specs.Stages.{settingStage, classStages, stageIn, withSettingStage, withStage, staged, dropped}
@@ -69,14 +69,17 @@ write-stages h r v = go (verdict h (Write r v))
     go Verdict.Accepted = chosen (isFirst h q) _ _
     go (Verdict.Refused m) = chosen (drops m) _ _
 
--- not read only and not too wide, a write is accepted or drops the stage: a, b and c say that it can be written, fits and is not barred, f that it is first
-by-case : {A : Type 0} (a b c f : Bool) (x y z : A)
-    → cond (a && (b && c)) (cond f x y) (cond (a && (b && not (a && (b && c)))) y z) ≡ cond (a && b) (cond ((a && (b && c)) && f) x y) z
-by-case false b c f x y z = refl
-by-case true false c f x y z = refl
-by-case true true true true x y z = refl
-by-case true true true false x y z = refl
-by-case true true false f x y z = refl
+-- not refused with 2, 4 or 14, a write is accepted or drops the stage: a, b, s and c say that it can be written, fits, locks no silly threshold and is not
+-- barred, f that it is first
+by-case : {A : Type 0} (a b s c f : Bool) (x y z : A)
+    → cond (a && (b && (s && c))) (cond f x y) (cond (a && (b && (s && not (a && (b && (s && c)))))) y z)
+    ≡ cond (a && (b && s)) (cond ((a && (b && (s && c))) && f) x y) z
+by-case false b s c f x y z = refl
+by-case true false s c f x y z = refl
+by-case true true false c f x y z = refl
+by-case true true true true true x y z = refl
+by-case true true true true false x y z = refl
+by-case true true true false f x y z = refl
 
 -- ── a read ──
 
@@ -115,12 +118,12 @@ module _ (h : Handler) (r k : ℕ) (s : Setting) (e : decode (h .n) r ≡ Block 
 
   -- a refused write drops it
   drops-own : (v : ℕ) → dropsBy (verdict h (Write r v))
-      ≡ (not (onlyRead (settingRow s .way)) && (fits (settingBits s) v && not (blockAccepts s v (classAt h k) here)))
+      ≡ (not (onlyRead (settingRow s .way)) && (fits (settingBits s) v && (not (locksSilly s v (classAt h k)) && not (blockAccepts s v (classAt h k) here))))
   unfolding readOnly bits
   drops-own v =
       drops-write h r v
-      ∙ ap (λ (q : Register). isRegister q && (not (readOnly q) && (fits (bits q) v && not (accepted h (Write r v))))) e
-      ∙ ap (λ (a : Bool). not (onlyRead (settingRow s .way)) && (fits (settingBits s) v && not a)) (block-accepted h r v k s e)
+      ∙ ap (λ (q : Register). isRegister q && (not (readOnly q) && (fits (bits q) v && (not (silly h q v) && not (accepted h (Write r v)))))) e
+      ∙ ap (λ (a : Bool). not (onlyRead (settingRow s .way)) && (fits (settingBits s) v && (not (locksSilly s v (classAt h k)) && not a))) (block-accepted h r v k s e)
 
   -- a write to class k's block, by the block and its stages alone (for request (x))
   pub stages-written : (v : ℕ) → classStages (acted h (Write r v) .stages) k ≡ blockStaged s v (classAt h k) (classStages (h .stages) k)
@@ -137,8 +140,8 @@ module _ (h : Handler) (r k : ℕ) (s : Setting) (e : decode (h .n) r ≡ Block 
       ∙ ap₂ (λ (f d : Bool). cond b (cond f (classStages (staged q v (h .stages)) k) (classStages (dropped q (h .stages)) k))
       (cond d (classStages (dropped q (h .stages)) k) here)) (block-first h r v k s e) (drops-own v)
       ∙ ap₂ (λ (x y : ClassStages). cond b (cond (blockFirst s here) x y)
-      (cond (not (onlyRead (settingRow s .way)) && (fits (settingBits s) v && not b)) y here)) p gone
-      ∙ by-case (not (onlyRead (settingRow s .way))) (fits (settingBits s) v) _ (blockFirst s here) (withSettingStage s (v + 1) here) (blockDropped s here) here
+      (cond (not (onlyRead (settingRow s .way)) && (fits (settingBits s) v && (not (locksSilly s v (classAt h k)) && not b))) y here)) p gone
+      ∙ by-case (not (onlyRead (settingRow s .way))) (fits (settingBits s) v) (not (locksSilly s v (classAt h k))) _ (blockFirst s here) (withSettingStage s (v + 1) here) (blockDropped s here) here
 
   -- a read of it drops the stage of its register
   pub stages-read : classStages (acted h (Read r) .stages) k ≡ blockDropped s (classStages (h .stages) k)

@@ -6,7 +6,7 @@ use mathlib.Core.Bool.{Bool, false, cond, not, _&&_}
 use lib.Dec.{eqb}
 use Rattle.class_rules.specs.declared.Class.{Class}
 use Rattle.bits.specs.Bits.{fits}
-use Rattle.rules.specs.Access.{withSetting, settingIsClr, named}
+use Rattle.rules.specs.Access.{withSetting, locksSilly, settingIsClr, named}
 use Rattle.rules.specs.Map.{decode, settingBits, settingRow, onlyRead}
 use Rattle.rules.specs.Stages.{settingStage, withSettingStage}
 use Rattle.rules.specs.declared.Access.{Access}
@@ -38,13 +38,15 @@ shutBy ByClrRegwen c = eqb (c .clrwen) 0
 abbrev pub settingLocked : Setting → Class → Bool
 settingLocked s c = shutBy (settingRow s .guard) c
 
--- a write of v at a register of the block is accepted: not read only, not too wide, not locked, and not unlike an open stage of the block's stages b
+-- a write of v at a register of the block is accepted: not read only, not too wide, no lock of a silly threshold, not locked, and not unlike an open
+-- stage of the block's stages b
 unfoldable pub blockAccepts : Setting → ℕ → Class → ClassStages → Bool
 blockAccepts s v c b =
     not (onlyRead (settingRow s .way))
     && (fits (settingBits s) v
+    && (not (locksSilly s v c)
     && (not (settingLocked s c && not (settingRow s .lock && eqb v 0))
-    && not (not (eqb (settingStage s b) 0) && not (eqb (settingStage s b) (v + 1)))))
+    && not (not (eqb (settingStage s b) 0) && not (eqb (settingStage s b) (v + 1))))))
 
 -- a first write to it would be staged
 abbrev pub blockFirst : Setting → ClassStages → Bool
@@ -58,10 +60,10 @@ blockWritten s v c b = cond (blockAccepts s v c b && not (blockFirst s b)) (with
 unfoldable pub blockDropped : Setting → ClassStages → ClassStages
 blockDropped s b = cond (not (eqb (settingStage s b) 0)) (withSettingStage s 0 b) b
 
--- and after a write that is not refused with 2 or 4: a first one is staged, any other leaves no stage, refused with 3 or 12 too
+-- and after a write that is not refused with 2, 4 or 14: a first one is staged, any other leaves no stage, refused with 3 or 12 too
 unfoldable pub blockStaged : Setting → ℕ → Class → ClassStages → ClassStages
 blockStaged s v c b =
-    cond (not (onlyRead (settingRow s .way)) && fits (settingBits s) v) (cond (blockAccepts s v c b && blockFirst s b) (withSettingStage s (v + 1) b) (blockDropped s b)) b
+    cond (not (onlyRead (settingRow s .way)) && (fits (settingBits s) v && not (locksSilly s v c))) (cond (blockAccepts s v c b && blockFirst s b) (withSettingStage s (v + 1) b) (blockDropped s b)) b
 
 -- it is an accepted clear
 unfoldable pub blockClears : Setting → ℕ → Class → ClassStages → Bool

@@ -7,7 +7,7 @@ use mathlib.Core.Bool.{true, false}
 use mathlib.Core.List.{List}
 use lib.IntN.{ℤ, pos, negℤ}
 use lib.ListN.{getD, length}
-use Rattle.rules.specs.Access.{malformed, noRegister, wrongWay, tooWide, barred, differs}
+use Rattle.rules.specs.Access.{malformed, noRegister, wrongWay, tooWide, sillyThreshold, barred, differs}
 use Rattle.rules.specs.Answer.{Case}
 use Rattle.rules.specs.declared.Access.{Access}
 use Rattle.rules.specs.declared.Handler.{Handler}
@@ -27,12 +27,13 @@ pub record Unrefused (h : Handler) (x : Access) : Type 0 where
   pub exists : noRegister h x ≡ false
   pub way : wrongWay h x ≡ false
   pub width : tooWide h x ≡ false
+  pub threshold : sillyThreshold h x ≡ false
   pub free : barred h x ≡ false
   pub same : differs h x ≡ false
 
--- the refusals of an access: 1 to 5, and 12
+-- the refusals of an access: 1 to 5, 12 and 14
 abbrev pub AccessRefusal : ℕ → Type 0
-AccessRefusal m = ((1 ≤ m) × (m ≤ 5)) ⊎ (m ≡ 12)
+AccessRefusal m = ((1 ≤ m) × (m ≤ 5)) ⊎ ((m ≡ 12) ⊎ (m ≡ 14))
 
 -- what an access may answer: a value of 32 bits, or the negated number of a refusal
 abbrev pub AccessNumber : ℤ → Type 0

@@ -147,6 +147,7 @@ fn drops_stage(m: Refusal) -> bool
         Refusal::NoRecord => false,
         Refusal::ShortBuffer => false,
         Refusal::Differs => true,
+        Refusal::SillyThreshold => false,
     }
 }
 
@@ -167,6 +168,7 @@ fn raises_of(m: Refusal) -> u8
         Refusal::NoRecord => 0,
         Refusal::ShortBuffer => 0,
         Refusal::Differs => 32,
+        Refusal::SillyThreshold => 0,
     }
 }
 

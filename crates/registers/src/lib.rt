@@ -2,6 +2,7 @@
 pub mod access;
 pub mod read;
 mod restage;
+mod silly;
 mod stage;
 pub mod verdict;
 mod write;

@@ -1,5 +1,6 @@
-// "One tick", step 1: the refusals of an access, in the order 5, 1, 2, 4, 3, 12.
+// "One tick", step 1: the refusals of an access, in the order 5, 1, 2, 4, 14, 3, 12.
 use crate::read::value_of;
+use crate::silly::is_silly;
 use crate::stage::stage_of;
 use map::column::guard_of;
 use map::column::is_lock;
@@ -18,7 +19,7 @@ ghost use mathlib.Core.Bool.{false, not};
 ghost use Rattle.bits.specs.Bits.{fits};
 ghost use Rattle.rules.specs.Map.{isRegister, bits, writeOnly, readOnly};
 ghost use Rattle.rules.specs.Answer.{firstOf};
-ghost use Rattle.rules.specs.Access.{locked, bars, unlike, inOrder, verdict};
+ghost use Rattle.rules.specs.Access.{locked, silly, bars, unlike, inOrder, verdict};
 
 // A register is locked while the REGWEN that guards it is 0.
 pub fn is_locked(h: Handler, q: Register) -> bool
@@ -43,9 +44,17 @@ fn is_unlike(h: Handler, q: Register, v: u32) -> bool
     (code != 0) & (code != v as u64 + 1)
 }
 
-// The first refusal whose case holds, in the order 5, 1, 2, 4, 3, 12, or acceptance.
-fn first_refusal(bad: bool, none: bool, wrong: bool, wide: bool, shut: bool, other: bool) -> Verdict
-    ensures { λ r. ⌜ r ≡ firstOf (inOrder bad none wrong wide shut other) ⌝ }
+// The first refusal whose case holds, in the order 5, 1, 2, 4, 14, 3, 12, or acceptance.
+fn first_refusal(
+    bad: bool,
+    none: bool,
+    wrong: bool,
+    wide: bool,
+    late: bool,
+    shut: bool,
+    other: bool,
+) -> Verdict
+    ensures { λ r. ⌜ r ≡ firstOf (inOrder bad none wrong wide late shut other) ⌝ }
 {
     if bad {
         Verdict::Refused(Refusal::BadRecord)
@@ -55,6 +64,8 @@ fn first_refusal(bad: bool, none: bool, wrong: bool, wide: bool, shut: bool, oth
         Verdict::Refused(Refusal::WrongWay)
     } else if wide {
         Verdict::Refused(Refusal::TooWide)
+    } else if late {
+        Verdict::Refused(Refusal::SillyThreshold)
     } else if shut {
         Verdict::Refused(Refusal::Locked)
     } else if other {
@@ -66,19 +77,36 @@ fn first_refusal(bad: bool, none: bool, wrong: bool, wide: bool, shut: bool, oth
 
 // The refusals of a read.
 fn read_verdict(q: Register) -> Verdict
-    ensures { λ r. ⌜ r ≡ firstOf (inOrder false (not (isRegister q)) (writeOnly q) false false false) ⌝ }
+    ensures { λ r. ⌜ r ≡ firstOf (inOrder false (not (isRegister q)) (writeOnly q) false false false false) ⌝ }
 {
-    first_refusal(false, !is_register(q), write_only(q), false, false, false)
+    first_refusal(
+        false,
+        !is_register(q),
+        write_only(q),
+        false,
+        false,
+        false,
+        false,
+    )
 }
 
 // The refusals of a write.
 fn write_verdict(h: Handler, q: Register, v: u32) -> Verdict
-    ensures { λ r. ⌜ r ≡ firstOf (inOrder false (not (isRegister q)) (readOnly q) (not (fits (bits q) v)) (bars h q v) (unlike h q v)) ⌝ }
+    ensures { λ r. ⌜ r ≡ firstOf (inOrder false (not (isRegister q)) (readOnly q) (not (fits (bits q) v)) (silly h q v) (bars h q v) (unlike h q v)) ⌝ }
 {
     let wide = !((v as u64) < limit(q));
+    let late = is_silly(h, q, v);
     let shut = is_barred(h, q, v);
     let other = is_unlike(h, q, v);
-    first_refusal(false, !is_register(q), read_only(q), wide, shut, other)
+    first_refusal(
+        false,
+        !is_register(q),
+        read_only(q),
+        wide,
+        late,
+        shut,
+        other,
+    )
 }
 
 // The verdict on an access.
@@ -86,9 +114,9 @@ pub fn verdict_of(h: Handler, x: Access) -> Verdict
     ensures { λ r. ⌜ r ≡ verdict h x ⌝ }
 {
     match x {
-        Access::Nothing => first_refusal(false, false, false, false, false, false),
+        Access::Nothing => first_refusal(false, false, false, false, false, false, false),
         Access::Read(r) => read_verdict(register_at(h.n, r)),
         Access::Write(r, v) => write_verdict(h, register_at(h.n, r), v),
-        Access::Malformed => first_refusal(true, false, false, false, false, false),
+        Access::Malformed => first_refusal(true, false, false, false, false, false, false),
     }
 }

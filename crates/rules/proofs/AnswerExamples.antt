@@ -10,7 +10,7 @@ use Rattle.rules.specs.State.{newHandler, made, withClasses}
 use Rattle.rules.specs.declared.Access.{Access}
 use Rattle.rules.specs.declared.Answer.{Answer}
 use Rattle.rules.specs.declared.Handler.{Handler}
-use Rattle.rules.specs.declared.Refusal.the-variants.{NoRegister, WrongWay, Locked, TooWide, BadRecord, BadCount, BadState, BadLength, ShortList, NoRecord, ShortBuffer, Differs}
+use Rattle.rules.specs.declared.Refusal.the-variants.{NoRegister, WrongWay, Locked, TooWide, BadRecord, BadCount, BadState, BadLength, ShortList, NoRecord, ShortBuffer, Differs, SillyThreshold}
 use Rattle.rules.specs.Scenes.{rest, gives, refused}
 use Rattle.rules.proofs.Scenes.{rules, then}
 
@@ -30,8 +30,9 @@ numbers : (number (Answer.Value 4294967295) ≡ pos 4294967295)
     × (number (Answer.Refused NoRecord) ≡ negsuc 9)
     × (number (Answer.Refused ShortBuffer) ≡ negsuc 10)
     × (number (Answer.Refused Differs) ≡ negsuc 11)
+    × (number (Answer.Refused SillyThreshold) ≡ negsuc 13)
 unfolding rules
-numbers = (refl, refl, refl, refl, refl, refl, refl, refl, refl, refl, refl, refl, refl, refl, refl)
+numbers = (refl, refl, refl, refl, refl, refl, refl, refl, refl, refl, refl, refl, refl, refl, refl, refl)
 
 -- "N is 0 or over 64: a handler of no alerts, otherwise as new"; request (iii): 6 reads 248
 makes : (made 0 ≡ record { handler = newHandler 0; answer = refused 6 })

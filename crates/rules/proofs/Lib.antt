@@ -9,3 +9,4 @@ pub mod TraceExamples
 pub mod WriterExamples
 pub mod StageExamples
 pub mod ShadowExamples
+pub mod LockExamples

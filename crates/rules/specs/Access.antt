@@ -6,7 +6,7 @@ use mathlib.Core.List.{List, [], _∷_}
 use lib.Dec.{eqb}
 use Rattle.bits.specs.Bits.{bit, bitsOf, fits}
 use Rattle.bits.specs.Index.{each}
-use Rattle.class_rules.specs.Class.{noClass, phaseCyc}
+use Rattle.class_rules.specs.Class.{noClass, en, phaseCyc}
 use Rattle.class_rules.specs.declared.Class.{Class}
 use Rattle.rules.specs.Answer.{Case, firstOf, refusalNumber}
 use Rattle.rules.specs.Map.{offset, decode, isRegister, bits, writeOnly, readOnly, guard, isLock, isShadowed}
@@ -20,7 +20,7 @@ use Rattle.rules.specs.declared.Effects.{Effects}
 use Rattle.rules.specs.declared.Field.{Field}
 use Rattle.rules.specs.declared.Handler.{Handler}
 use Rattle.rules.specs.declared.Refusal.{Refusal}
-use Rattle.rules.specs.declared.Refusal.the-variants.{NoRegister, WrongWay, Locked, TooWide, BadRecord, Differs}
+use Rattle.rules.specs.declared.Refusal.the-variants.{NoRegister, WrongWay, Locked, TooWide, BadRecord, Differs, SillyThreshold}
 use Rattle.rules.specs.declared.Register.{Register}
 use Rattle.rules.specs.declared.Register.the-variants.{IntrState, IntrEnable, IntrTest, Local, Alert, Block, Unassigned}
 use Rattle.rules.specs.declared.Setting.{Setting}
@@ -84,6 +84,26 @@ tooWide h (Read r) = false
 tooWide h (Write r v) = not (fits (bits (decode (h .n) r)) v)
 tooWide h Malformed = false
 
+-- 14, request (vii): a 0 to a class REGWEN while EN is 1, ACCUM_THRESH is 65535 and REGWEN is still 1; EN is CTRL's bit 0
+abbrev pub locksSilly : Setting → ℕ → Class → Bool
+locksSilly s v c =
+    eqb (offset s) (offset Setting.Regwen) && (eqb v 0 && (en c && (eqb (c .thresh) 65535 && eqb (c .regwen) 1)))
+
+abbrev pub silly : Handler → Register → ℕ → Bool
+silly h IntrState v = false
+silly h IntrEnable v = false
+silly h IntrTest v = false
+silly h (Local f j) v = false
+silly h (Alert f i) v = false
+silly h (Block s k) v = locksSilly s v (classAt h k)
+silly h Unassigned v = false
+
+abbrev pub sillyThreshold : Handler → Access → Bool
+sillyThreshold h Nothing = false
+sillyThreshold h (Read r) = false
+sillyThreshold h (Write r v) = silly h (decode (h .n) r) v
+sillyThreshold h Malformed = false
+
 -- 3: register locked; in REGWEN and CLR_REGWEN a 0 is accepted again
 abbrev pub bars : Handler → Register → ℕ → Bool
 bars h q v = locked h q && not (isLock q && eqb v 0)
@@ -104,19 +124,20 @@ differs h (Read r) = false
 differs h (Write r v) = unlike h (decode (h .n) r) v
 differs h Malformed = false
 
--- for an access the order is 5, 1, 2, 4, 3, 12, after 7; each with whether its case holds
-abbrev pub inOrder : Bool → Bool → Bool → Bool → Bool → Bool → List Case
-inOrder bad none wrong wide shut other =
+-- for an access the order is 5, 1, 2, 4, 14, 3, 12, after 7; each with whether its case holds
+abbrev pub inOrder : Bool → Bool → Bool → Bool → Bool → Bool → Bool → List Case
+inOrder bad none wrong wide late shut other =
     record { refusal = BadRecord; holds = bad }
     ∷ record { refusal = NoRegister; holds = none }
     ∷ record { refusal = WrongWay; holds = wrong }
     ∷ record { refusal = TooWide; holds = wide }
+    ∷ record { refusal = SillyThreshold; holds = late }
     ∷ record { refusal = Locked; holds = shut }
     ∷ record { refusal = Differs; holds = other }
     ∷ []
 
 abbrev pub accessCases : Handler → Access → List Case
-accessCases h x = inOrder (malformed x) (noRegister h x) (wrongWay h x) (tooWide h x) (barred h x) (differs h x)
+accessCases h x = inOrder (malformed x) (noRegister h x) (wrongWay h x) (tooWide h x) (sillyThreshold h x) (barred h x) (differs h x)
 
 unfoldable pub verdict : Handler → Access → Verdict
 verdict h x = firstOf (accessCases h x)

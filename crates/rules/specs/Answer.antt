@@ -6,10 +6,10 @@ use mathlib.Core.List.{List, [], _∷_}
 use lib.IntN.{ℤ, pos, negℤ}
 use Rattle.rules.specs.declared.Answer.{Answer}
 use Rattle.rules.specs.declared.Refusal.{Refusal}
-use Rattle.rules.specs.declared.Refusal.the-variants.{NoRegister, WrongWay, Locked, TooWide, BadRecord, BadCount, BadState, BadLength, ShortList, NoRecord, ShortBuffer, Differs}
+use Rattle.rules.specs.declared.Refusal.the-variants.{NoRegister, WrongWay, Locked, TooWide, BadRecord, BadCount, BadState, BadLength, ShortList, NoRecord, ShortBuffer, Differs, SillyThreshold}
 use Rattle.rules.specs.declared.Verdict.{Verdict}
 
--- the table's first column; 10 and 11 are request (ii)'s, 12 is request (v)'s
+-- the table's first column; 10 and 11 are request (ii)'s, 12 is request (v)'s, 14 is request (vii)'s
 abbrev pub refusalNumber : Refusal → ℕ
 refusalNumber NoRegister = 1
 refusalNumber WrongWay = 2
@@ -23,6 +23,7 @@ refusalNumber ShortList = 9
 refusalNumber NoRecord = 10
 refusalNumber ShortBuffer = 11
 refusalNumber Differs = 12
+refusalNumber SillyThreshold = 14
 
 -- a read gives 0 to 4,294,967,295, anything else accepted gives 0, and a refusal gives the negated refusal number
 unfoldable pub number : Answer → ℤ

@@ -187,6 +187,7 @@ pub enum Refusal {
     NoRecord,
     ShortBuffer,
     Differs,
+    SillyThreshold,
 }
 
 pub enum Verdict {

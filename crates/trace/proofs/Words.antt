@@ -17,7 +17,7 @@ use Rattle.rules.specs.Answer.{refusalNumber}
 use Rattle.rules.specs.declared.Answer.{Answer}
 use Rattle.rules.specs.declared.Output.{Output}
 use Rattle.rules.specs.declared.Refusal.{Refusal}
-use Rattle.rules.specs.declared.Refusal.the-variants.{NoRegister, WrongWay, Locked, TooWide, BadRecord, BadCount, BadState, BadLength, ShortList, NoRecord, ShortBuffer, Differs}
+use Rattle.rules.specs.declared.Refusal.the-variants.{NoRegister, WrongWay, Locked, TooWide, BadRecord, BadCount, BadState, BadLength, ShortList, NoRecord, ShortBuffer, Differs, SillyThreshold}
 use Rattle.rules.specs.declared.Ticked.{Ticked}
 use Rattle.rules.specs.Word.{wordLayout, refusalOf, readOf, wordFields, wordOf}
 use Rattle.trace.proofs.Digits.{num-one}
@@ -36,6 +36,7 @@ refusal-lt ShortList = omega arith
 refusal-lt NoRecord = omega arith
 refusal-lt ShortBuffer = omega arith
 refusal-lt Differs = omega arith
+refusal-lt SillyThreshold = omega arith
 
 answer-lt : (a : Answer) → refusalOf a < 2 ^ 4
 answer-lt Answer.Done = omega arith

@@ -13,6 +13,8 @@ impl Refusal {
     pub const SHORT_BUFFER: Refusal = Refusal(11);
     /// A second write that differs from the first. The stage is dropped, and local alert 5 occurs if it is enabled.
     pub const DIFFERS: Refusal = Refusal(12);
+    /// A class with EN that waits for 65,536 events is not locked so. Nothing is changed.
+    pub const THRESHOLD: Refusal = Refusal(14);
 }
 
 /// A read gives 0 to 4294967295, writing records the bytes written, anything else accepted 0, a refusal its negated number.

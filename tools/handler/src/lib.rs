@@ -42,8 +42,8 @@ impl Handler {
     }
 
     /// One tick; the access has the register numbers of `registers::MAP`. A shadowed register takes two equal writes: the
-    /// first is staged, the second commits. Refusal 7: state unchanged, tick not run, no outputs. Refusals 1 to 5 and 12: the
-    /// access changes no register, and the tick runs; 3 and 12 drop the stage of the register that it names.
+    /// first is staged, the second commits. Refusal 7: state unchanged, tick not run, no outputs. Refusals 1 to 5, 12 and 14:
+    /// the access changes no register, and the tick runs; 3 and 12 drop the stage of the register that it names.
     pub fn tick(self, access: Access, wires: Wires) -> Ticked {
         let (kind, register, value) = access.numbers();
         let given = library::tick(self, kind, register, value, wires);

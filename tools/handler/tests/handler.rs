@@ -98,6 +98,20 @@ fn a_stage_stands_in_its_field() {
 }
 
 #[test]
+fn a_class_that_waits_for_65536_events_is_not_locked() {
+    let number = |setting| MAP.class(1, setting);
+    let h = configure(made(248), number(Setting::Ctrl), 0x393D);
+    let h = configure(h, number(Setting::AccumThresh), 65535);
+    let lock = Access::Write(number(Setting::Regwen), 0);
+    let t = h.tick(lock, REST);
+    assert_eq!(t.answer.value(), Err(Refusal::THRESHOLD));
+    assert_eq!(t.handler, h);
+    let h = configure(h, number(Setting::AccumThresh), 65534);
+    let t = h.tick(lock, REST);
+    assert_eq!((t.answer, t.handler.classes[1].regwen), (Answer(0), 0));
+}
+
+#[test]
 fn the_wires_and_registers_of_every_alert_are_its_own() {
     for i in [0, 1, 63, 64, 127, 128, 191, 192, 247] {
         let number = |field| MAP.alert(field, i);

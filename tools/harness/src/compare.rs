@@ -5,6 +5,7 @@ mod case;
 mod coverage;
 mod difference;
 mod expected;
+mod locking;
 mod program;
 mod shadowed;
 

@@ -12,6 +12,7 @@ mod set_up;
 mod stages;
 mod steps;
 mod sweep;
+mod threshold;
 mod wires;
 
 pub use kind::{Kind, KINDS};

@@ -9,13 +9,13 @@ pub use place::Place;
 pub use way::{Way, WAYS};
 
 use crate::rng::Rng;
-use fit::{fit, fit_stages};
+use fit::{fit, fit_stages, fit_thresholds};
 use handler::{Handler, ALERTS, CLASSES};
 
 /// Changes a state in this way.
 pub fn spoil(way: Way, places: &[Place], rng: &mut Rng, state: &mut Handler) {
     // Half of the damage goes to states that no trace comes to.
-    let kept = matches!(way, Way::Kept | Way::Staged);
+    let kept = matches!(way, Way::Kept | Way::Staged | Way::Threshold);
     if way == Way::Fitted || (!kept && rng.once_in(2)) {
         fit(places, rng, state);
     }
@@ -23,6 +23,7 @@ pub fn spoil(way: Way, places: &[Place], rng: &mut Rng, state: &mut Handler) {
     match way {
         Way::Kept | Way::Fitted => {}
         Way::Staged => fit_stages(places, rng, state),
+        Way::Threshold => fit_thresholds(rng, state),
         Way::Random => random(places, rng, state),
         Way::Flip => flip(places, rng, state),
         Way::Flips => (0..2 + rng.below(4)).for_each(|_| flip(places, rng, state)),

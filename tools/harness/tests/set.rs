@@ -56,6 +56,24 @@ fn has_every_family_of_shadow_writes(coverage: &Coverage) {
     assert!(of.both > 10, "local 2 and local 5 at once: {}", of.both);
 }
 
+/// Each family of locks at 65534 and 65535 is there.
+fn has_every_family_of_thresholds(coverage: &Coverage) {
+    let of = &coverage.locking;
+    for (family, count, least) in [
+        ("65535", of.refused, 1000),
+        ("65535 without a line", of.no_line, 100),
+        ("a mending stage", of.mended, 100),
+        ("65534", of.below, 10),
+        ("EN off", of.en_off, 10),
+        ("staged only", of.staged, 10),
+        ("locked again", of.again, 100),
+        ("other values", of.other_values, 100),
+        ("other locks", of.other_locks, 100),
+    ] {
+        assert!(count > least, "{family}: {count}");
+    }
+}
+
 /// Every alert has a cause in some trace, and every assigned register is accessed.
 fn reaches_every_alert_and_register(edition: Edition, coverage: &Coverage) {
     let alerts: Vec<usize> = coverage.causes.iter().copied().collect();
@@ -102,6 +120,7 @@ fn the_default_set_of_old_records_reaches_all() {
     reaches_every_state_refusal_and_line(&coverage);
     reaches_every_alert_and_register(Edition::Bytes24, &coverage);
     has_every_family_of_shadow_writes(&coverage);
+    has_every_family_of_thresholds(&coverage);
     makes_every_move(&coverage);
     for n in [0, 1, 2, 7, 8, 9, 63, 64, 65] {
         assert!(coverage.counts.contains(&n), "N {n}");
@@ -114,6 +133,7 @@ fn the_default_set_of_new_records_reaches_all() {
     reaches_every_state_refusal_and_line(&coverage);
     reaches_every_alert_and_register(Edition::Bytes70, &coverage);
     has_every_family_of_shadow_writes(&coverage);
+    has_every_family_of_thresholds(&coverage);
     makes_every_move(&coverage);
     for n in [0, 1, 9, 64, 65, 127, 128, 191, 192, 247, 248, 249, 255] {
         assert!(coverage.counts.contains(&n), "N {n}");

@@ -155,7 +155,7 @@ fn every_way_gives_what_it_is_for() {
     assert!(try_all(&PROVED, 1, 20_000, &mut summary).is_none());
     assert_eq!(summary.refused() + summary.accepted(), 20_000);
     for ((_, name), [refused, accepted]) in WAYS.iter().zip(summary.ways) {
-        let never = ["kept", "fitted", "staged", "above"].contains(name);
+        let never = ["kept", "fitted", "staged", "threshold", "above"].contains(name);
         assert_eq!(refused == 0, never, "{name}");
         // Random bytes in every field do not keep the rule.
         assert_eq!(accepted == 0, ["random", "count"].contains(name), "{name}");
@@ -244,6 +244,23 @@ fn a_locked_write_that_keeps_the_stage_is_found() {
     }
     let odd = found(Subject { tick, ..PROVED }).odd;
     assert!(odd.field.starts_with("stage of class "), "{}", odd.field);
+}
+
+/// No trace shows it: none locks such a class.
+#[test]
+fn a_lock_that_is_refused_on_a_locked_class_is_found() {
+    fn tick(h: Handler, access: Access, wires: Wires) -> Ticked {
+        let mut open = h;
+        for class in &mut open.classes {
+            class.regwen |= 1;
+        }
+        let mut given = h.tick(access, wires);
+        if open.tick(access, wires).answer == Answer(-14) {
+            given.answer = Answer(-14);
+        }
+        given
+    }
+    assert_eq!(found(Subject { tick, ..PROVED }).odd.field, "answer");
 }
 
 #[test]

@@ -76,6 +76,7 @@ pub fn refusal(refusal: Refusal, reads: bool) -> &'static str {
         10 => "no record holds it",
         11 => "buffer too short",
         12 => "differs",
+        14 => "threshold",
         _ => "refused",
     }
 }

@@ -4,7 +4,7 @@ mod common;
 use common::random;
 use common::records::{all_at, apart, off_rest, record, record_24, record_70, start, REST};
 use common::round::{goes_round, text_of, trace_of};
-use common::{example, given, refused};
+use common::{example, examples, given, refused};
 use handler::{Edition, Wires};
 use harness::rng::Rng;
 use std::fs;
@@ -59,15 +59,10 @@ write ALERT65_REGWEN 1
 
 #[test]
 fn examples_go_round() {
-    for name in [
-        "broken-seal",
-        "handled-in-time",
-        "refused-accesses",
-        "far-alert",
-    ] {
+    for name in examples("trace") {
         goes_round(&fs::read(example(&format!("{name}.trace"))).expect("the example"));
     }
-    for name in ["broken-seal", "far-alert"] {
+    for name in examples("txt") {
         let text = fs::read_to_string(example(&format!("{name}.txt"))).expect("the example");
         let canonical: String = text
             .lines()

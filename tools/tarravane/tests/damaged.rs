@@ -4,7 +4,7 @@ mod common;
 use common::random;
 use common::records::{off_rest, record, record_24, record_70, start, REST};
 use common::round::{goes_round, trace_of};
-use common::{ended, example, given, refused, said_of};
+use common::{ended, example, examples, given, refused, said_of};
 use handler::registers::Setting;
 use handler::{Edition, Wires};
 use harness::rng::Rng;
@@ -39,12 +39,7 @@ fn any_bytes_go_round() {
 #[test]
 fn damaged_traces_go_round() {
     let mut rng = Rng::new(4);
-    for name in [
-        "broken-seal",
-        "handled-in-time",
-        "refused-accesses",
-        "far-alert",
-    ] {
+    for name in examples("trace") {
         let whole = fs::read(example(&format!("{name}.trace"))).expect("the example");
         for _ in 0..60 {
             let mut bytes = whole.clone();

@@ -58,6 +58,7 @@ fn refusals_are_told_in_words() {
         "locked",
         "malformed",
         "differs",
+        "threshold",
     ] {
         assert!(rows.contains(&format!("refused: {word}")), "{word}");
     }
@@ -109,7 +110,7 @@ fn only_changes() {
     assert_eq!(numbers(&seal), [15, 16, 18, 20, 22, 23, 26, 29, 32]);
     assert!(seal[4].contains("write CLASSA_CLR 1              refused: locked"));
     let refused = rows(&["--only-changes", &example("refused-accesses.trace")], &[]);
-    assert_eq!(numbers(&refused), [7, 8, 9, 10, 12, 13, 14, 15, 16]);
+    assert_eq!(numbers(&refused), [7, 8, 9, 10, 11, 13, 16, 17, 18, 19]);
 }
 
 /// Every lock that falls is a change; a lock that has fallen and a 1 that is written to one that has not are none.

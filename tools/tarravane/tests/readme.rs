@@ -37,6 +37,7 @@ fn shows(command: &str) {
 fn explain_prints_what_readme_shows() {
     shows("explain --only-changes examples/broken-seal.trace");
     shows("explain --summary examples/broken-seal.trace");
+    shows("explain --from 9 --to 19 examples/silly-threshold.trace");
 }
 
 /// The text that README shows gives a trace, without a warning.

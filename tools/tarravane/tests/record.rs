@@ -3,7 +3,7 @@ mod common;
 
 use common::folder::Folder;
 use common::records::{all_at, off_rest, record, record_70};
-use common::{ended, example, given, refused, said_of};
+use common::{ended, example, examples, given, refused, said_of};
 use handler::{Edition, Wires};
 use std::fs;
 
@@ -18,7 +18,7 @@ fn said_of_line(line: &str) -> String {
 
 #[test]
 fn the_example_texts_give_the_example_traces() {
-    for name in ["broken-seal", "far-alert"] {
+    for name in examples("txt") {
         let [text, trace] = ["txt", "trace"].map(|end| example(&format!("{name}.{end}")));
         let trace = fs::read(trace).expect("the example");
         assert_eq!(given("record", &[&text], &[]), trace);

@@ -67,13 +67,27 @@ other refusals: none
     );
 }
 
+/// The lock that was refused is told, and the start came when the class was locked.
+#[test]
+fn the_silly_threshold() {
+    let text = of_example("silly-threshold");
+    for line in [
+        "class A: 1 start; clears accepted none, refused at 20",
+        "  start at 19 by ALERT0; locked, LOCK set; Ph0 19, Ph1 20, Ph2 21, Ph3 22, Term 23",
+        "  1 (no register): 1 time",
+        "  14 (lock with a threshold of 65535): 1 time",
+    ] {
+        assert!(text.contains(&format!("{line}\n")), "{text}");
+    }
+}
+
 #[test]
 fn refusals_are_counted_by_number() {
     let text = of_example("refused-accesses");
     let refusals = "\
 events:
-  ALERT0: 1 event, at 16
-shadow writes: 4 staged, 3 committed; dropped at 12; open at the end none
+  ALERT0: 1 event, at 19
+shadow writes: 5 staged, 4 committed; dropped at 13; open at the end none
 other refusals, by number:
   1 (no register): 2 times
   2 (write only or read only): 2 times
@@ -81,6 +95,7 @@ other refusals, by number:
   4 (too wide): 1 time
   5 (malformed): 1 time
   12 (second write differs): 1 time
+  14 (lock with a threshold of 65535): 1 time
 ";
     assert!(text.ends_with(refusals), "{text}");
 }

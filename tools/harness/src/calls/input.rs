@@ -20,10 +20,14 @@ pub fn register(map: Map, rng: &mut Rng) -> u16 {
 /// Any access; the number may have more bits than a record's.
 pub fn access(rng: &mut Rng) -> Access {
     let register = register(MAP, rng);
-    match rng.below(10) {
+    match rng.below(12) {
         0 => Access::Nothing,
-        1..=4 => Access::Read(register),
-        5..=8 => Access::Write(register, rng.pick(&WRITTEN)),
+        1..=3 => Access::Read(register),
+        4..=9 => Access::Write(register, rng.pick(&WRITTEN)),
+        10 => {
+            let lock = MAP.class(rng.index(CLASSES), Setting::Regwen);
+            Access::Write(lock, rng.pick(&[0, 0, 0, 0, 1, 2]))
+        }
         _ => Access::Malformed,
     }
 }

@@ -1,5 +1,6 @@
 //! What a set of traces reached, taken from the reference while it runs.
 
+use super::locking::Locking;
 use super::shadowed::Shadowed;
 use crate::record::{Head, NONE, READ};
 use handler::Edition;
@@ -9,7 +10,7 @@ use std::collections::BTreeSet;
 use std::fmt;
 
 /// The refusals that a tick of a trace gets, 0 for none.
-pub const ANSWERS: [usize; 7] = [0, 1, 2, 3, 4, 5, 12];
+pub const ANSWERS: [usize; 8] = [0, 1, 2, 3, 4, 5, 12, 14];
 
 /// Counts over all traces of a set.
 #[derive(Default)]
@@ -23,7 +24,7 @@ pub struct Coverage {
     /// Ticks that read, were refused, or had an interrupt or line on.
     pub showing: u64,
     /// Ticks by refusal number, 0 for accepted.
-    pub answers: [u64; 13],
+    pub answers: [u64; 15],
     /// Traces with a missing or refused N.
     pub no_handler: u64,
     /// Traces with a cut end.
@@ -53,6 +54,8 @@ pub struct Coverage {
     pub lone_equal: BTreeSet<usize>,
     /// What became of stages.
     pub shadowed: Shadowed,
+    /// What became of class locks by thresholds of 65534 and 65535.
+    pub locking: Locking,
 }
 
 impl Coverage {
@@ -120,7 +123,7 @@ impl Coverage {
             self.registers.len(),
             self.causes.len()
         )?;
-        write!(out, "{}", self.shadowed)
+        write!(out, "{}{}", self.shadowed, self.locking)
     }
 
     /// What the classes reached.

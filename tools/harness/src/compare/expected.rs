@@ -32,6 +32,7 @@ pub fn expected(bytes: &[u8], coverage: &mut Coverage) -> Vec<u8> {
         coverage.alone(&before, &handler, &record[8..]);
         let shadowed = &mut coverage.shadowed;
         shadowed.tick(input.edition, head, word[0], &before, &handler);
+        coverage.locking.tick(input.edition, head, word[0], &before);
         writeln!(text, "{:016x}", word[0]).expect("a string takes all");
     }
     coverage.end(&handler);

@@ -27,10 +27,12 @@ pub enum Kind {
     Damaged,
     /// Stages: first, equal and differing writes, and what comes between them.
     Shadow,
+    /// Thresholds of 65534 and 65535, EN on and off, and locks of such classes.
+    Threshold,
 }
 
 /// Every kind with its name on the command line.
-pub const KINDS: [(Kind, &str); 12] = [
+pub const KINDS: [(Kind, &str); 13] = [
     (Kind::Mixed, "mixed"),
     (Kind::Escalate, "escalate"),
     (Kind::Timeout, "timeout"),
@@ -43,6 +45,7 @@ pub const KINDS: [(Kind, &str); 12] = [
     (Kind::Noise, "noise"),
     (Kind::Damaged, "damaged"),
     (Kind::Shadow, "shadow"),
+    (Kind::Threshold, "threshold"),
 ];
 
 impl Kind {
@@ -69,7 +72,7 @@ impl Kind {
             Kind::Locks,
             Kind::Refusals,
             Kind::Shadow,
-            Kind::Timeout,
+            Kind::Threshold,
             Kind::Sweep,
             Kind::Ends,
         ];

@@ -46,9 +46,10 @@ pub fn step(scene: &mut Scene, values: &Values, weights: &Weights) {
         7 => scene.refused(values),
         8 => scene.malformed(),
         9 => scene.stage(values),
-        _ => {
+        10 => {
             let gap = scene.rng.pick(&[0, 1, 1, 2]);
             scene.burst(gap);
         }
+        _ => scene.threshold(),
     }
 }

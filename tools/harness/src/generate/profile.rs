@@ -16,8 +16,9 @@ pub struct Values {
 }
 
 /// How often each step comes in the main part of a trace: watch, none, clear,
-/// interrupts, cause, change, lock, refused, malformed, stage, burst.
-pub type Weights = [u64; 11];
+/// interrupts, cause, change, lock, refused, malformed, stage, burst,
+/// threshold.
+pub type Weights = [u64; 12];
 
 /// Values and weights of the kinds that `play` makes.
 pub fn profile(kind: Kind) -> (Values, Weights) {
@@ -35,28 +36,34 @@ pub fn profile(kind: Kind) -> (Values, Weights) {
             values.timeouts = &[0];
             values.lengths = &[0, 0, 1, 2, 3, 4];
             values.lock_once_in = 8;
-            [85, 2, 12, 3, 3, 4, 0, 3, 2, 1, 2]
+            [85, 2, 12, 3, 3, 4, 0, 3, 2, 1, 2, 0]
         }
         Kind::Timeout => {
             values.thresholds = &[2, 65535, 65535];
             values.timeouts = &[0, 1, 2, 3, 4, 7, MAX];
-            [85, 2, 9, 14, 1, 3, 0, 2, 1, 1, 1]
+            [85, 2, 9, 14, 1, 3, 0, 2, 1, 1, 1, 0]
         }
         Kind::Accumulate => {
             values.thresholds = &[0, 1, 2, 3, 5, 9, 20];
-            [85, 2, 8, 5, 3, 3, 0, 4, 2, 1, 2]
+            [85, 2, 8, 5, 3, 3, 0, 4, 2, 1, 2, 0]
         }
         Kind::Locks => {
             values.thresholds = &[0, 0, 1, 2];
             values.lock_once_in = 1;
-            [80, 2, 10, 3, 2, 5, 5, 5, 2, 3, 4]
+            [80, 2, 10, 3, 2, 5, 5, 5, 2, 3, 4, 0]
         }
-        Kind::Refusals => [60, 2, 3, 3, 2, 2, 2, 18, 7, 3, 1],
+        Kind::Refusals => [60, 2, 3, 3, 2, 2, 2, 18, 7, 3, 1, 0],
         Kind::Shadow => {
             values.thresholds = &[0, 0, 1, 2, 65535];
-            [90, 2, 8, 5, 3, 2, 1, 3, 2, 30, 2]
+            [90, 2, 8, 5, 3, 2, 1, 3, 2, 30, 2, 0]
         }
-        _ => [85, 2, 8, 6, 4, 4, 1, 5, 3, 3, 2],
+        Kind::Threshold => {
+            // No event of a short trace exceeds them: its starts are timeouts.
+            values.thresholds = &[65534, 65535];
+            values.timeouts = &[0, 1, 2, 3, 4, 7, MAX];
+            [60, 2, 6, 10, 1, 0, 0, 2, 1, 1, 1, 25]
+        }
+        _ => [85, 2, 8, 6, 4, 4, 1, 5, 3, 3, 2, 0],
     };
     (values, weights)
 }

@@ -44,6 +44,16 @@ pub fn fit_stages(places: &[Place], rng: &mut Rng, state: &mut Handler) {
     }
 }
 
+/// Classes that wait for 65,535 or 65,536 events, mostly with EN, locked or
+/// not. No list of ticks locks one with EN and 65535.
+pub fn fit_thresholds(rng: &mut Rng, state: &mut Handler) {
+    for class in &mut state.classes {
+        class.thresh = rng.pick(&[65534, 65535, 65535, 65535]);
+        class.ctrl = class.ctrl & !1 | rng.pick(&[0, 1, 1, 1]);
+        class.regwen = rng.pick(&[0, 1, 1, 1]);
+    }
+}
+
 /// Lengths and thresholds at their ends and near each other, since else
 /// nothing would ever be reached.
 fn short(rng: &mut Rng, state: &mut Handler, k: usize) {

@@ -9,6 +9,8 @@ pub enum Way {
     Fitted,
     /// Stages opened and dropped at random, within their fields.
     Staged,
+    /// Classes with EN or without, and a threshold of 65534 or 65535.
+    Threshold,
     /// Random bytes in every field.
     Random,
     /// One bit flipped.
@@ -28,10 +30,11 @@ pub enum Way {
 }
 
 /// Every way with its name.
-pub const WAYS: [(Way, &str); 11] = [
+pub const WAYS: [(Way, &str); 12] = [
     (Way::Kept, "kept"),
     (Way::Fitted, "fitted"),
     (Way::Staged, "staged"),
+    (Way::Threshold, "threshold"),
     (Way::Random, "random"),
     (Way::Flip, "flip"),
     (Way::Flips, "flips"),

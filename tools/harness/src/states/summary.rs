@@ -17,7 +17,7 @@ pub struct Summary {
     /// Batches that were refused with 7 for more alerts than the edition has.
     pub over: u64,
     /// Ticks of accepted states by refusal number, 0 for accepted.
-    pub ticks: [u64; 13],
+    pub ticks: [u64; 15],
 }
 
 impl Summary {

@@ -1,6 +1,7 @@
 //! The slips: a piece of the reference's text and what replaces it.
 
 mod stages;
+mod threshold;
 
 /// One slip.
 pub struct Slip {
@@ -16,7 +17,8 @@ pub struct Slip {
 
 /// Every slip; the default set must find each of them.
 pub fn slips() -> impl Iterator<Item = &'static Slip> {
-    RULES.iter().chain(stages::STAGES)
+    let shadow = stages::STAGES.iter();
+    RULES.iter().chain(shadow).chain(threshold::THRESHOLD)
 }
 
 /// The first ten are those of the table in landing note 04; the others are slips of the same sort.
@@ -228,8 +230,8 @@ const RULES: &[Slip] = &[
     Slip {
         name: "a class with no lines is on",
         file: "class.rs",
-        right: "en && lines != 0",
-        wrong: "en && lines < 16",
+        right: "self.en() && lines != 0",
+        wrong: "self.en() && lines < 16",
     },
     Slip {
         name: "line 3 alone does not count",

@@ -5,13 +5,14 @@ use crate::facts::tick::Tick;
 use handler::CLASSES;
 
 /// The refusals that a tick of a trace gets.
-const NAMES: [(u8, &str); 6] = [
+const NAMES: [(u8, &str); 7] = [
     (1, "no register"),
     (2, "write only or read only"),
     (3, "locked"),
     (4, "too wide"),
     (5, "malformed"),
     (12, "second write differs"),
+    (14, "lock with a threshold of 65535"),
 ];
 
 #[derive(Default)]

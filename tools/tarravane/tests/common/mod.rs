@@ -6,6 +6,7 @@ pub mod random;
 pub mod records;
 pub mod round;
 
+use std::fs;
 use std::io::Write;
 use std::path::PathBuf;
 use std::process::{Command, Output, Stdio};
@@ -20,6 +21,19 @@ pub fn repository(name: &str) -> String {
 /// The path of an example.
 pub fn example(name: &str) -> String {
     repository(&format!("examples/{name}"))
+}
+
+/// The names of the examples that have a file of this ending.
+pub fn examples(ending: &str) -> Vec<String> {
+    let entries = fs::read_dir(example("")).expect("the examples");
+    let names = entries.map(|entry| entry.expect("an entry").file_name());
+    let ending = format!(".{ending}");
+    let stem = |name: &str| name.strip_suffix(&ending).map(str::to_string);
+    let mut all: Vec<String> = names
+        .filter_map(|name| stem(&name.to_string_lossy()))
+        .collect();
+    all.sort();
+    all
 }
 
 /// The program, to be run with these words.

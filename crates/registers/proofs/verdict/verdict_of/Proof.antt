@@ -49,7 +49,7 @@ unfolding verdict
 returns-2 c =
     rw (c .before .before .before .x .given .1)
     (c .read-verdict .ensures
-    ∙ ap (λ (q : Register). firstOf (inOrder false (not (isRegister q)) (writeOnly q) false false false)) (c .before .register-at .ensures))
+    ∙ ap (λ (q : Register). firstOf (inOrder false (not (isRegister q)) (writeOnly q) false false false false)) (c .before .register-at .ensures))
 
 returns-3 : tie.Need-returns-3
 unfolding verdict

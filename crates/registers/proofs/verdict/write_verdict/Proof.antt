@@ -7,6 +7,9 @@ use Rattle.registers.proofs.verdict.write_verdict.Tie as tie
 limit-requires : tie.Need-limit-requires
 limit-requires c κs = search needs
 
+is-silly-requires : tie.Need-is-silly-requires
+is-silly-requires c κs = search needs
+
 is-barred-requires : tie.Need-is-barred-requires
 is-barred-requires c κs = search needs
 
@@ -23,13 +26,14 @@ first-refusal-requires : tie.Need-first-refusal-requires
 first-refusal-requires c κs = search needs
 
 returns : tie.Need-returns
-returns c = rw (← c .before .before .is-register .ensures, ← c .before .read-only .ensures, ← c .before .before .before .before .before .limit .ensures, ← c .before .before .before .before .is-barred .ensures, ← c .before .before .before .is-unlike .ensures) (c .first-refusal .ensures)
+returns c = rw (← c .before .before .is-register .ensures, ← c .before .read-only .ensures, ← c .before .before .before .before .before .before .limit .ensures, ← c .before .before .before .before .before .is-silly .ensures, ← c .before .before .before .before .is-barred .ensures, ← c .before .before .before .is-unlike .ensures) (c .first-refusal .ensures)
 
 pub write-verdict-spec : {M : Type 1} → statement M
 write-verdict-spec =
     tie.close
     (tie.spec
     limit-requires
+    is-silly-requires
     is-barred-requires
     is-unlike-requires
     is-register-requires
