@@ -1,5 +1,6 @@
 //! A bit for each alert: that of alert i is bit 63 - i % 64 of word i / 64.
 use handler::WORDS;
+use std::array::from_fn;
 
 pub type AlertBits = [u64; WORDS];
 
@@ -16,6 +17,15 @@ pub fn put(bits: &mut AlertBits, alert: usize, on: bool) {
         true => bits[alert / 64] |= bit(alert),
         false => bits[alert / 64] &= !bit(alert),
     }
+}
+
+/// The bits of all alerts below n.
+pub fn below(n: usize) -> AlertBits {
+    from_fn(|word| match n.saturating_sub(64 * word) {
+        0 => 0,
+        64.. => u64::MAX,
+        some => !(u64::MAX >> some),
+    })
 }
 
 pub fn count(bits: AlertBits) -> u32 {
@@ -48,5 +58,13 @@ mod tests {
         let all: Vec<usize> = alerts(bits).collect();
         assert_eq!(all, [0, 1, 64, 127, 191, 192, 247]);
         assert_eq!(alerts([0; WORDS]).next(), None);
+    }
+
+    #[test]
+    fn alerts_below_a_number() {
+        for n in 0..=64 * WORDS {
+            let all: Vec<usize> = alerts(below(n)).collect();
+            assert_eq!(all, (0..n).collect::<Vec<_>>());
+        }
     }
 }

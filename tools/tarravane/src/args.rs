@@ -1,6 +1,8 @@
 //! The words after each command.
 pub mod explain;
+mod range;
 pub mod record;
+pub mod wave;
 
 /// What the words ask for.
 #[derive(Debug, PartialEq, Eq)]

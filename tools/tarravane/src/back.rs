@@ -87,9 +87,7 @@ pub fn run(asked: &Record) -> Result<End, String> {
         true => Progress::silent(),
         false => Progress::new("record", bytes.map(|bytes| start.records(bytes))),
     };
-    let end = output::write(asked.to.as_deref(), |out| {
+    output::write(asked.to.as_deref(), |out| {
         text(start, out, &mut from, &asked.from, &mut progress)
-    });
-    progress.clear();
-    end
+    })
 }

@@ -5,17 +5,16 @@ use crate::facts::{changes::changes, tick::Tick, ticks::Ticks};
 use crate::output::{self, Failure};
 use crate::progress::Progress;
 use crate::row::{row, wide_row, HEADER};
-use crate::say::say;
 use crate::summary::Summary;
-use crate::trace::{self, cut, Start};
+use crate::trace::{self, title, Start};
 use std::io::{Read, Write};
 
 /// The end of the trace: bytes that are left over make it a cut one.
 fn ended(out: &mut dyn Write, ticks: &Ticks<impl Read>) -> Result<End, Failure> {
-    match ticks.left() {
-        0 => Ok(End::Whole),
-        left => {
-            writeln!(out, "cut: {}", cut(left, ticks.number()))?;
+    match ticks.cut() {
+        None => Ok(End::Whole),
+        Some(cut) => {
+            writeln!(out, "{cut}")?;
             Ok(End::Damaged)
         }
     }
@@ -23,17 +22,7 @@ fn ended(out: &mut dyn Write, ticks: &Ticks<impl Read>) -> Result<End, Failure> 
 
 /// Is there a row for this tick?
 fn wanted(asked: &Rows, tick: &Tick) -> bool {
-    tick.number >= asked.from && (!asked.only_changes || changes(tick))
-}
-
-/// A first row that is past the end is told: no rows are no fault of the trace.
-fn tell_missed(from: u64, ticks: u64) {
-    if from > 1 && from > ticks {
-        let s = if ticks == 1 { "" } else { "s" };
-        say(&format!(
-            "--from {from}: the trace has only {ticks} tick{s}"
-        ));
-    }
+    tick.number >= asked.range.from && (!asked.only_changes || changes(tick))
 }
 
 fn rows(
@@ -43,10 +32,10 @@ fn rows(
     progress: &mut Progress,
 ) -> Result<End, Failure> {
     writeln!(out, "{HEADER}")?;
-    while ticks.number() < asked.to {
+    while ticks.number() < asked.range.to {
         let Some(tick) = ticks.take()? else {
             progress.clear();
-            tell_missed(asked.from, ticks.number());
+            asked.range.tell_missed(ticks.number());
             return ended(out, ticks);
         };
         if wanted(asked, &tick) {
@@ -69,13 +58,10 @@ fn summary(
     progress: &mut Progress,
 ) -> Result<End, Failure> {
     let mut summary = Summary::default();
-    while let Some(tick) = ticks.take()? {
-        summary.add(&tick);
-        if progress.is_due(tick.number) {
-            progress.say(tick.number);
-        }
-    }
-    progress.clear();
+    ticks.walk(u64::MAX, progress, |tick| {
+        summary.add(tick);
+        Ok::<(), Failure>(())
+    })?;
     writeln!(out, "{title}; ticks: {}", ticks.number())?;
     for line in summary.lines() {
         writeln!(out, "{line}")?;
@@ -97,8 +83,7 @@ fn shown(
             return Ok(End::Damaged);
         }
     };
-    let bytes = start.edition.bytes();
-    let title = format!("alerts: {}; records of {bytes} bytes", handler.n);
+    let title = title(start.edition, handler.n);
     let mut ticks = Ticks::new(from, &asked.trace, start.edition, handler);
     match &asked.shown {
         Shown::Rows(asked) => {
@@ -113,9 +98,7 @@ pub fn run(asked: &Explain) -> Result<End, String> {
     let (mut from, bytes) = trace::opened(&asked.trace)?;
     let start = Start::read(&mut from, &asked.trace)?;
     let mut progress = Progress::new("tick", bytes.map(|bytes| start.records(bytes)));
-    let end = output::write(None, |out| {
+    output::write(None, |out| {
         shown(asked, start, &mut from, out, &mut progress)
-    });
-    progress.clear();
-    end
+    })
 }

@@ -1,5 +1,6 @@
 //! What a tick tells, for every command that shows ticks. It is read off the library's states and words; wires and accesses
 //! are decoded by plain Rust.
+pub mod answer;
 pub mod changes;
 pub mod clears;
 pub mod events;
@@ -9,6 +10,7 @@ pub mod stages;
 pub mod starts;
 pub mod tick;
 pub mod ticks;
+pub mod wires;
 
 #[cfg(test)]
 mod tests;

@@ -34,6 +34,8 @@ equal writes: the first answers staged and acts on nothing, the second committed
 is a second write with another value: the stage is dropped, and LOC_ALERT5 occurs if it is enabled. So
 do a read, then marked unstaged, and a write that is refused as locked, but without LOC_ALERT5. A row
 ends with the number of stages that are open after its tick, as [2 staged]; in short form as *.
+`refused: threshold` is a class that is to be locked while it has EN and an ACCUM_THRESH of 65535: it
+would wait for 65,536 events. Nothing is changed.
 States: Idle, Tout (Timeout), Ph0 to Ph3 (the phases), Term (Terminal). A row that would be wider
 than 120 columns leaves its columns, and if need be counts the alerts that are off rest (wires ~12)
 or is in short form: r and w, states in two letters, counts as 12k or .3M, wires as ~12, causes as +3.
@@ -83,4 +85,43 @@ Exit status:
      it is written, and standard error says so, by `cut:` or `refused:`
   2  usage, a bad line, a missing tool or file, a failed read or write: one line on standard error
      says which
+";
+
+pub const WAVE: &str = "\
+usage: ./tarravane wave [--all] -o FILE.vcd [--] TRACE
+       ./tarravane wave [--from TICK] [--to TICK] -o FILE.svg [--] TRACE
+
+A trace of either edition as a wave: a file, or standard input where it is -. The ending of the file
+that -o names says which: .vcd is a Value Change Dump, which GTKWave and Surfer open, .svg a picture,
+which any browser opens and prints on one page of A4 in landscape; -o - is refused, as it has no
+ending. The file is there whole or not at all. The trace is named in it without folders.
+
+A dump: tick T is the time T, and lasts up to T + 1; at 0 stands a new handler with all wires at rest.
+  alerts            ALERT0_PAIR (positive wire, then negative), ALERT0_EVENT and ALERT0_CAUSE of each
+                    alert that moves, LOC_ALERT2_EVENT and LOC_ALERT2_CAUSE of local alerts that do
+  class_a to _d     CLASSA_STATE_NAME and CLASSA_STATE, CLASSA_ESC_CNT, CLASSA_ACCUM_CNT,
+                    CLASSA_INTERRUPT, CLASSA_CLEAR (an accepted clear)
+  lines             LINE0 to LINE3
+  access            KIND, REGISTER, VALUE, ANSWER as texts, with _ for spaces
+  trace             END: in the last tick how the trace ends, whole or cut
+  --all             also alerts that never move. Without it a trace is read twice, and what is no file
+                    is kept for that in a file without a name beside the result
+
+A picture: lanes for alerts that rose or broke, classes, interrupts, lines and accesses, refusals in
+red, staged writes hollow; above them the first event, starts, phases, lines and clears, and stages
+that were dropped or are open at the end. Calm spans of 12 ticks or more are folded. There is room for
+80 ticks: in a longer trace calm, reads, writes, wires and lesser changes are folded as far as need
+be, and at last the middle of the trace. A fold is a tear through all lanes; below it stands what it
+hides.
+  --from TICK       the picture begins at this tick; the first record is tick 1. What is told above
+                    the lanes begins at tick 1 all the same
+  --to TICK         it ends at this tick; the trace is read no further
+  --help            this text
+
+Exit status:
+  0  the file is written, of a whole trace
+  1  the trace is cut, or its N is missing, 0 or over 248 (with records of 24 bytes over 64): the file
+     has what can be shown, and says so, as does standard error, by `cut:` or `refused:`
+  2  usage, an ending that is neither, a missing tool or file, a failed read or write: one line on
+     standard error says which
 ";

@@ -9,6 +9,7 @@ mod help;
 mod names;
 mod output;
 mod progress;
+mod range;
 mod record;
 mod row;
 mod say;
@@ -16,6 +17,7 @@ mod source;
 mod summary;
 mod text;
 mod trace;
+mod wave;
 
 use args::Asked;
 use end::End;
@@ -46,6 +48,16 @@ fn record(words: &[String]) -> Result<End, String> {
     }
 }
 
+fn wave(words: &[String]) -> Result<End, String> {
+    match args::wave::parse(words)? {
+        Asked::Help => helped(help::WAVE),
+        Asked::Run(asked) => {
+            output::check(&asked.trace, Some(&asked.to))?;
+            wave::run(&asked)
+        }
+    }
+}
+
 fn run(words: &[String]) -> Result<End, String> {
     match words
         .split_first()
@@ -53,6 +65,7 @@ fn run(words: &[String]) -> Result<End, String> {
     {
         Some(("explain", rest)) => explain(rest),
         Some(("record", rest)) => record(rest),
+        Some(("wave", rest)) => wave(rest),
         Some((other, _)) => Err(format!("no such command: {other} (try ./tarravane help)")),
         None => Err("no command (try ./tarravane help)".to_string()),
     }

@@ -36,6 +36,20 @@ pub fn read(edition: Edition, number: u16, value: u32) -> String {
     }
 }
 
+/// A STATE number as document 01 names it.
+pub fn whole_state(number: u8) -> &'static str {
+    match number {
+        0 => "Idle",
+        1 => "Timeout",
+        3 => "Terminal",
+        4 => "Phase 0",
+        5 => "Phase 1",
+        6 => "Phase 2",
+        7 => "Phase 3",
+        _ => "?",
+    }
+}
+
 /// A STATE number.
 pub fn state(number: u8) -> &'static str {
     match number {

@@ -54,6 +54,15 @@ fn part(path: &Path) -> io::Result<(PathBuf, File)> {
     Ok((part, file))
 }
 
+/// A new file in the folder of the one that it is for. Its name is gone at once, so nothing is left of it.
+pub fn nameless(beside: &Path) -> io::Result<File> {
+    let path = beside.with_file_name(format!(".tarravane.{}.kept", process::id()));
+    let mut new = OpenOptions::new();
+    let file = new.read(true).write(true).create_new(true).open(&path)?;
+    fs::remove_file(&path)?;
+    Ok(file)
+}
+
 /// Fills a new file, then gives it the name; an older file of that name keeps its permissions.
 fn replaced(path: &Path, fill: impl Fill) -> Result<End, Failure> {
     let (part, file) = part(path)?;

@@ -52,3 +52,10 @@ impl Progress {
         }
     }
 }
+
+/// Whatever comes after it stands on a line of its own.
+impl Drop for Progress {
+    fn drop(&mut self) {
+        self.clear();
+    }
+}

@@ -58,7 +58,6 @@ fn grown(from: impl BufRead, name: &str, warnings: &mut Warnings) -> Result<Grow
     let mut progress = Progress::new("line", None);
     let mut lines = Lines::new(from, name);
     let done = read(&mut lines, &mut trace, warnings, &mut progress);
-    progress.clear();
     // A line that the writer refuses may stand before the one that stopped the reading.
     trace.write()?;
     done?;

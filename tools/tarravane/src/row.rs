@@ -4,12 +4,10 @@ mod class;
 mod said;
 mod stages;
 
-use crate::facts::stages::{change, Change};
+use crate::facts::answer;
 use crate::facts::tick::Tick;
-use crate::names;
 use class::class;
 use handler::registers::LETTERS;
-use handler::Access;
 
 /// No row is wider, but where it is asked for.
 pub const WIDTH: usize = 120;
@@ -26,25 +24,9 @@ enum Form {
 }
 
 fn answer(t: &Tick, form: Form) -> String {
-    let access = t.input.access;
-    let refused = |refusal| names::refusal(refusal, matches!(access, Access::Read(_)));
-    match (t.word.refusal(), access) {
-        (Some(refusal), _) if form == Form::Short => refused(refusal).to_string(),
-        (Some(refusal), _) => format!("refused: {}", refused(refusal)),
-        (None, Access::Read(register)) => {
-            let value = names::read(t.edition, register, t.word.value());
-            match change(t) {
-                Some(Change::Dropped) if form != Form::Short => value + ", unstaged",
-                _ => value,
-            }
-        }
-        (None, Access::Write(..)) => match change(t) {
-            Some(Change::Staged) => "staged",
-            Some(Change::Committed) => "committed",
-            _ => "done",
-        }
-        .to_string(),
-        (None, _) => "-".to_string(),
+    match form {
+        Form::Short => answer::short(t),
+        _ => answer::words(t),
     }
 }
 

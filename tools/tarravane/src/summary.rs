@@ -1,22 +1,27 @@
-//! `explain --summary`: what a technician asks first after a theft. Its memory is bounded, however long the trace.
+//! What a technician asks first after a theft: `explain --summary`, and in short below a picture. Its memory is bounded,
+//! however long the trace.
 mod class;
 mod escalation;
 mod events;
+mod first;
 mod kept;
 mod refusals;
 mod shadow;
 mod spans;
-mod words;
+pub mod words;
 
 use crate::facts::tick::Tick;
 use class::Class;
 use events::Events;
+use first::First;
+use handler::registers::LETTERS;
 use handler::CLASSES;
 use refusals::Refusals;
 use shadow::Shadow;
 
 #[derive(Default)]
 pub struct Summary {
+    first: First,
     classes: [Class; CLASSES],
     events: Events,
     shadow: Shadow,
@@ -28,6 +33,7 @@ impl Summary {
         for (k, class) in self.classes.iter_mut().enumerate() {
             class.add(t, k);
         }
+        self.first.add(t);
         self.events.add(t);
         self.shadow.add(t);
         self.refusals.add(t);
@@ -41,6 +47,27 @@ impl Summary {
         all.extend(self.events.lines());
         all.push(self.shadow.line());
         all.extend(self.refusals.lines());
+        all
+    }
+
+    /// In short: the first event, the classes with a start or a clear, all others in one line, stages that came to nothing,
+    /// and refusals.
+    pub fn short_lines(&self) -> Vec<String> {
+        let mut all = vec![self.first.words()];
+        let mut quiet = Vec::new();
+        for (k, class) in self.classes.iter().enumerate() {
+            match class.is_quiet() {
+                true => quiet.push(LETTERS[k].to_string()),
+                false => all.extend(class.short_lines(k)),
+            }
+        }
+        if !quiet.is_empty() {
+            let es = if quiet.len() > 1 { "es" } else { "" };
+            let quiet = quiet.join(", ");
+            all.push(format!("class{es} {quiet}: no start; no clear"));
+        }
+        all.extend(self.shadow.short_line());
+        all.push(self.refusals.line());
         all
     }
 }

@@ -4,6 +4,7 @@ mod start;
 mod text;
 
 use crate::source::{self, Source};
+use handler::Edition;
 use std::io::{Chain, Cursor, Read};
 
 pub use start::Start;
@@ -21,6 +22,11 @@ pub fn opened(name: &str) -> Result<(Trace, Option<u64>), String> {
         ));
     }
     Ok((Cursor::new(looked_at).chain(from), bytes))
+}
+
+/// What is said of a trace that replays.
+pub fn title(edition: Edition, alerts: usize) -> String {
+    format!("alerts: {alerts}; records of {} bytes", edition.bytes())
 }
 
 /// What is said of a cut trace: `left` bytes after so many records.

@@ -1,6 +1,7 @@
 //! What README shows of the commands is what they print.
 mod common;
 
+use common::folder::Folder;
 use common::{given, repository};
 use handler::Edition;
 use std::fs;
@@ -38,6 +39,33 @@ fn explain_prints_what_readme_shows() {
     shows("explain --only-changes examples/broken-seal.trace");
     shows("explain --summary examples/broken-seal.trace");
     shows("explain --from 9 --to 19 examples/silly-threshold.trace");
+}
+
+/// The waves that README shows are written as it says; its picture is the one that is stored.
+#[test]
+fn wave_writes_what_readme_names() {
+    let readme = readme();
+    let folder = Folder::new("readme");
+    let commands = readme
+        .lines()
+        .filter_map(|line| line.strip_prefix("    ./tarravane wave "));
+    let mut count = 0;
+    for command in commands {
+        let words: Vec<&str> = command.split_whitespace().take(3).collect();
+        let [trace, "-o", to] = words[..] else {
+            panic!("{command}");
+        };
+        given("wave", &[&repository(trace), "-o", &folder.path(to)], &[]);
+        count += 1;
+    }
+    assert_eq!((count, folder.names().len()), (2, 2));
+    assert!(readme.contains("](examples/broken-seal.svg)"));
+    let [drawn, stored] = [
+        folder.path("seal.svg"),
+        repository("examples/broken-seal.svg"),
+    ]
+    .map(|name| fs::read_to_string(name).expect("a picture"));
+    assert!(drawn == stored);
 }
 
 /// The text that README shows gives a trace, without a warning.

@@ -194,6 +194,5 @@ fn rows_before_a_cut_stay() {
             .collect::<Vec<_>>()
     };
     assert_eq!(rows(&all), rows(&cut));
-    assert!(cut.ends_with("cut: 23 bytes after tick 32, too few for a record
-"));
+    assert!(cut.ends_with("cut: 23 bytes after tick 32, too few for a record\n"));
 }

@@ -1,5 +1,6 @@
 //! The words after `explain`.
-use super::{is_option, Asked};
+use super::{is_option, range, Asked};
+use crate::range::Range;
 
 #[derive(Debug, PartialEq, Eq)]
 pub struct Explain {
@@ -16,37 +17,26 @@ pub enum Shown {
 
 #[derive(Clone, Copy, Debug, PartialEq, Eq)]
 pub struct Rows {
-    pub from: u64,
-    pub to: u64,
+    pub range: Range,
     pub only_changes: bool,
     pub wide: bool,
 }
 
 /// Every row, in at most 120 columns.
 const ALL: Rows = Rows {
-    from: 1,
-    to: u64::MAX,
+    range: Range::ALL,
     only_changes: false,
     wide: false,
 };
 
-fn tick(option: &str, word: Option<&String>) -> Result<u64, String> {
-    let word = word.ok_or_else(|| format!("{option} wants a tick number"))?;
-    match word.parse() {
-        Ok(number) if number > 0 => Ok(number),
-        _ => Err(format!(
-            "{option} wants a tick number from 1 on, not {word}"
-        )),
-    }
-}
-
 fn shown(rows: Rows, summary: bool) -> Result<Shown, String> {
-    let Rows { from, to, .. } = rows;
     match summary {
         true if rows != ALL => Err("--summary has no rows: no other option goes with it".into()),
         true => Ok(Shown::Summary),
-        false if from > to => Err(format!("--from {from} is after --to {to}")),
-        false => Ok(Shown::Rows(rows)),
+        false => {
+            range::check(rows.range)?;
+            Ok(Shown::Rows(rows))
+        }
     }
 }
 
@@ -58,8 +48,7 @@ pub fn parse(words: &[String]) -> Result<Asked<Explain>, String> {
         match word.as_str() {
             "--" if options => options = false,
             "--help" | "-h" if options => return Ok(Asked::Help),
-            "--from" if options => rows.from = tick(word, rest.next())?,
-            "--to" if options => rows.to = tick(word, rest.next())?,
+            "--from" | "--to" if options => range::take(&mut rows.range, word, rest.next())?,
             "--only-changes" if options => rows.only_changes = true,
             "--wide" if options => rows.wide = true,
             "--summary" if options => summary = true,
@@ -92,8 +81,7 @@ mod tests {
     #[test]
     fn options_stand_before_or_after_the_trace() {
         let some = Rows {
-            from: 3,
-            to: 9,
+            range: Range { from: 3, to: 9 },
             only_changes: true,
             wide: true,
         };

@@ -1,7 +1,8 @@
 //! Events of alerts, and local alerts that occur.
 use super::tick::Tick;
-use crate::alert_bits;
-use handler::{Handler, Refusal, Wires};
+use super::wires;
+use crate::alert_bits::{self, AlertBits};
+use handler::{Handler, Refusal};
 use std::array::from_fn;
 
 /// Local alert 2, alert integrity, and local alert 5, shadow update error: no other can occur.
@@ -19,25 +20,26 @@ pub fn is_enabled(h: &Handler, alert: usize) -> bool {
     h.alerts.en[alert] == 1
 }
 
-/// The alerts that have an event, enabled or not: those that the tick disarmed.
-pub fn alerts(t: &Tick) -> impl Iterator<Item = usize> {
+/// The bits of the alerts that have an event, enabled or not: those that the tick disarmed.
+pub fn bits(t: &Tick) -> AlertBits {
     let (before, after) = (t.before.receivers.armed, t.after.receivers.armed);
-    alert_bits::alerts(from_fn(|word| before[word] & !after[word]))
+    from_fn(|word| before[word] & !after[word])
+}
+
+/// The alerts that have an event, enabled or not.
+pub fn alerts(t: &Tick) -> impl Iterator<Item = usize> {
+    alert_bits::alerts(bits(t))
 }
 
 /// Does an enabled alert have equal wires?
-fn fails(h: &Handler, wires: Wires) -> bool {
-    let equal = from_fn(|word| !(wires.pos[word] ^ wires.neg[word]));
-    alert_bits::alerts(equal).any(|i| i < h.n && is_enabled(h, i))
+fn fails(t: &Tick) -> bool {
+    alert_bits::alerts(wires::broken(t)).any(|i| is_enabled(&t.after, i))
 }
 
 /// The local alerts that occur: by equal wires, and by a write that differs from its stage.
 pub fn locals(t: &Tick) -> impl Iterator<Item = usize> + '_ {
     let differs = t.word.refusal() == Some(Refusal::DIFFERS);
-    let raised = [
-        (INTEGRITY, fails(&t.after, t.input.wires)),
-        (SHADOW_UPDATE, differs),
-    ];
+    let raised = [(INTEGRITY, fails(t)), (SHADOW_UPDATE, differs)];
     let occurs = raised.into_iter().filter(|(_, raised)| *raised);
     occurs
         .map(|(j, _)| j)

@@ -114,7 +114,7 @@ fn each_of(edition: Edition, check: &mut dyn FnMut(&Tick)) {
         while let Some(tick) = ticks.take().expect("a tick") {
             check(&tick);
         }
-        assert_eq!((ticks.number(), ticks.left()), (TICKS as u64, 0));
+        assert_eq!((ticks.number(), ticks.cut()), (TICKS as u64, None));
     }
 }
 

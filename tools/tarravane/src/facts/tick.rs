@@ -1,6 +1,6 @@
 //! One tick.
 use handler::registers::Register;
-use handler::{Access, Edition, Handler, Input, Refusal, Word};
+use handler::{Access, Edition, Handler, Input, Refusal, Wires, Word};
 
 pub struct Tick {
     /// The first record is tick 1.
@@ -17,6 +17,23 @@ pub struct Tick {
 }
 
 impl Tick {
+    /// What there is before the first tick, as a tick: a new handler, no access, all wires at rest.
+    pub fn before_first(edition: Edition, new: Handler) -> Tick {
+        Tick {
+            number: 0,
+            edition,
+            record: Vec::new(),
+            input: Input {
+                access: Access::Nothing,
+                wires: Wires::REST,
+            },
+            before: new,
+            after: new,
+            last: Word::default(),
+            word: Word::default(),
+        }
+    }
+
     /// The register that is read or written, where the edition has it.
     pub fn register(&self) -> Option<Register> {
         match self.input.access {

@@ -1,7 +1,8 @@
 //! The ticks of a trace, one after another, so that memory stays bounded. The library runs each.
 use super::tick::Tick;
+use crate::progress::Progress;
 use crate::source::filled;
-use crate::trace::record;
+use crate::trace::{cut, record};
 use handler::{Edition, Handler, Word};
 use std::io::Read;
 
@@ -34,9 +35,10 @@ impl<'a, R: Read> Ticks<'a, R> {
         self.number
     }
 
-    /// The bytes at the end that make no whole record.
-    pub fn left(&self) -> usize {
-        self.left
+    /// What is said at the end of a cut trace, where bytes are left that make no whole record.
+    pub fn cut(&self) -> Option<String> {
+        let cut = || format!("cut: {}", cut(self.left, self.number));
+        (self.left > 0).then(cut)
     }
 
     /// The next tick; nothing after the last one.
@@ -66,5 +68,26 @@ impl<'a, R: Read> Ticks<'a, R> {
             last,
             word: words[0],
         }))
+    }
+
+    /// Hands over the ticks up to `to`, with progress; false where the trace ends before.
+    pub fn walk<E: From<String>>(
+        &mut self,
+        to: u64,
+        progress: &mut Progress,
+        mut each: impl FnMut(&Tick) -> Result<(), E>,
+    ) -> Result<bool, E> {
+        while self.number < to {
+            let Some(tick) = self.take()? else {
+                progress.clear();
+                return Ok(false);
+            };
+            each(&tick)?;
+            if progress.is_due(tick.number) {
+                progress.say(tick.number);
+            }
+        }
+        progress.clear();
+        Ok(true)
     }
 }

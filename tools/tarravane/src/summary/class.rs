@@ -1,6 +1,6 @@
 //! What became of one class.
 use super::escalation::Escalation;
-use super::kept::Kept;
+use super::kept::{Kept, MOST};
 use super::words;
 use crate::facts::clears::{clear, Clear};
 use crate::facts::starts::start;
@@ -37,19 +37,45 @@ impl Class {
         }
     }
 
-    pub fn lines(&self, k: usize) -> Vec<String> {
+    /// Has it neither a start nor a clear?
+    pub fn is_quiet(&self) -> bool {
+        self.starts.count() + self.accepted.count() + self.refused.count() == 0
+    }
+
+    /// How many starts and which clears.
+    fn title(&self, k: usize) -> String {
         let starts = words::count(self.starts.count(), "start");
         let [accepted, refused] = [&self.accepted, &self.refused].map(ticks);
         let clears = match self.accepted.count() + self.refused.count() {
             0 => "no clear".to_string(),
             _ => format!("clears accepted {accepted}, refused {refused}"),
         };
-        let mut all = vec![format!("class {}: {starts}; {clears}", LETTERS[k])];
-        all.extend(self.starts.first().iter().flat_map(Escalation::lines));
-        if self.starts.more() > 0 {
-            let more = words::count(self.starts.more(), "later start");
-            all.push(format!("  and {more}"));
+        format!("class {}: {starts}; {clears}", LETTERS[k])
+    }
+
+    /// The starts after the first `most`.
+    fn later(&self, most: usize) -> Option<String> {
+        let later = self.starts.count().saturating_sub(most as u64);
+        let words = || format!("  and {}", words::count(later, "later start"));
+        (later > 0).then(words)
+    }
+
+    pub fn lines(&self, k: usize) -> Vec<String> {
+        let mut all = vec![self.title(k)];
+        for [start, lines] in self.starts.first().iter().map(Escalation::words) {
+            all.extend([format!("  {start}"), format!("    {lines}")]);
         }
+        all.extend(self.later(MOST));
+        all
+    }
+
+    /// With the first two starts, in one line each.
+    pub fn short_lines(&self, k: usize) -> Vec<String> {
+        let mut all = vec![self.title(k)];
+        for [start, lines] in self.starts.first().iter().take(2).map(Escalation::words) {
+            all.push(format!("  {start}; {lines}"));
+        }
+        all.extend(self.later(2));
         all
     }
 }

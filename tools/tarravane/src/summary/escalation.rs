@@ -44,7 +44,8 @@ impl Escalation {
         }
     }
 
-    pub fn lines(&self) -> [String; 2] {
+    /// The start and the places that it came to, and the lines on the way.
+    pub fn words(&self) -> [String; 2] {
         let Start { locked, lock, .. } = self.start;
         let locked = if locked { "locked" } else { "not locked" };
         let lock = if lock { "LOCK set" } else { "no LOCK" };
@@ -54,8 +55,8 @@ impl Escalation {
         let places = places.join(", ");
         let (at, by) = (self.at, self.by());
         [
-            format!("  start at {at} by {by}; {locked}, {lock}; {places}"),
-            format!("    {}", self.spans.words()),
+            format!("start at {at} by {by}; {locked}, {lock}; {places}"),
+            self.spans.words(),
         ]
     }
 }

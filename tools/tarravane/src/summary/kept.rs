@@ -36,11 +36,6 @@ impl<T> Kept<T> {
         &mut self.first
     }
 
-    /// How many were counted only.
-    pub fn more(&self) -> u64 {
-        self.more
-    }
-
     pub fn count(&self) -> u64 {
         self.first.len() as u64 + self.more
     }
@@ -75,6 +70,6 @@ mod tests {
             kept.words(u64::to_string),
             "1, 2, 3, 4, 5, 6, 7, 8 and 2 more"
         );
-        assert_eq!((kept.more(), kept.count()), (2, 10));
+        assert_eq!((kept.first().len(), kept.count()), (MOST, 10));
     }
 }

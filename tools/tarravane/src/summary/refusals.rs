@@ -32,15 +32,27 @@ impl Refusals {
         }
     }
 
-    pub fn lines(&self) -> Vec<String> {
+    /// How often each was given, of those that were.
+    fn words(&self) -> Vec<String> {
         let all = NAMES.iter().zip(self.0);
-        let all: Vec<String> = all
-            .filter(|(_, count)| *count > 0)
-            .map(|((number, name), times)| format!("  {number} ({name}): {}", count(times, "time")))
-            .collect();
-        match all[..] {
-            [] => vec!["other refusals: none".to_string()],
-            _ => [vec!["other refusals, by number:".to_string()], all].concat(),
+        all.filter(|(_, count)| *count > 0)
+            .map(|((number, name), times)| format!("{number} ({name}): {}", count(times, "time")))
+            .collect()
+    }
+
+    pub fn lines(&self) -> Vec<String> {
+        let mut all = self.words();
+        if all.is_empty() {
+            return vec!["other refusals: none".to_string()];
+        }
+        all.iter_mut().for_each(|words| words.insert_str(0, "  "));
+        [vec!["other refusals, by number:".to_string()], all].concat()
+    }
+
+    pub fn line(&self) -> String {
+        match &self.words()[..] {
+            [] => "other refusals: none".to_string(),
+            all => format!("other refusals: {}", all.join(", ")),
         }
     }
 }

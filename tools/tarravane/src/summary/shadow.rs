@@ -28,6 +28,12 @@ impl Shadow {
         }
     }
 
+    /// Where some came to nothing, or may yet: a stage that was dropped, or is open at the end.
+    pub fn short_line(&self) -> Option<String> {
+        let done = self.dropped.count() + self.open.count() == 0;
+        (!done).then(|| self.line())
+    }
+
     pub fn line(&self) -> String {
         if self.staged == 0 {
             return "shadow writes: none".to_string();

@@ -2,9 +2,14 @@
 // Each test file is a program of its own and uses some of this.
 #![allow(dead_code)]
 pub mod folder;
+pub mod ran;
 pub mod random;
 pub mod records;
 pub mod round;
+pub mod svg;
+pub mod vcd;
+pub mod wave;
+pub mod xml;
 
 use std::fs;
 use std::io::Write;

@@ -1,0 +1,34 @@
+//! `wave`: a trace as a dump for wave viewers, or as a picture.
+mod opened;
+mod svg;
+mod vcd;
+
+use crate::args::wave::{Form, Wave};
+use crate::end::End;
+use crate::output;
+use crate::say::say;
+use crate::trace::{self, Start};
+use opened::Opened;
+
+pub fn run(asked: &Wave) -> Result<End, String> {
+    let (mut from, bytes) = trace::opened(&asked.trace)?;
+    let start = Start::read(&mut from, &asked.trace)?;
+    let name = &asked.trace;
+    let trace = Opened { name, start, bytes };
+    let mut damage = None;
+    let end = output::write(Some(&asked.to), |out| {
+        damage = match asked.form {
+            Form::Dump { all } => vcd::write(&trace, &mut from, all, &asked.to, out)?,
+            Form::Picture(range) => svg::write(&trace, &mut from, range, out)?,
+        };
+        Ok(match damage {
+            None => End::Whole,
+            Some(_) => End::Damaged,
+        })
+    })?;
+    // The file is there, whatever is said of its trace.
+    if let Some(why) = damage {
+        say(&why);
+    }
+    Ok(end)
+}

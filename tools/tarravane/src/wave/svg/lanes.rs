@@ -1,0 +1,57 @@
+//! The lanes below the time axis: inputs, states, outputs, accesses.
+mod accesses;
+mod alerts;
+mod classes;
+mod outputs;
+mod spans;
+
+use super::axis::Axis;
+use super::page::Page;
+
+/// What is free between groups of lanes.
+const BETWEEN: f64 = 7.0;
+
+/// Lines that lead from the lanes up to the ticks.
+fn grid(axis: &Axis, from: f64, to: f64) -> Page {
+    let mut page = Page::new(to);
+    let starts = axis.places.iter().map(|place| place.x);
+    for x in starts.chain([axis.end()]) {
+        page.path("grid", x, from, &format!("V{to:.1}"));
+    }
+    page
+}
+
+/// A tear through all lanes at each fold.
+fn tears(page: &mut Page, axis: &Axis, from: f64, to: f64) {
+    let teeth = ((to - from) / 12.0) as usize;
+    let steps = "l3 6l-3 6".repeat(teeth);
+    for (_, place) in axis.with_places().filter(|(cell, _)| cell.is_fold()) {
+        for class in ["gap", "tear"] {
+            page.path(class, place.middle() - 1.5, from, &steps);
+        }
+    }
+}
+
+/// A trace that is cut ends at a line.
+fn cut_line(page: &mut Page, axis: &Axis, from: f64, to: f64) {
+    page.path("cut", axis.end() + 2.0, from, &format!("V{to:.1}"));
+}
+
+pub fn draw(page: &mut Page, axis: &Axis, cut: bool) {
+    let (under, top) = (page.mark(), page.y);
+    alerts::draw(page, axis);
+    classes::draw(page, axis);
+    page.y += BETWEEN;
+    outputs::draw_interrupts(page, axis);
+    page.y += BETWEEN;
+    outputs::draw_lines(page, axis);
+    page.y += BETWEEN;
+    accesses::draw_marks(page, axis);
+    let bottom = page.y;
+    page.insert(under, grid(axis, top, bottom));
+    tears(page, axis, top, bottom);
+    if cut {
+        cut_line(page, axis, top, bottom);
+    }
+    accesses::draw_words(page, axis);
+}

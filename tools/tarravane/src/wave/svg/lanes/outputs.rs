@@ -1,0 +1,47 @@
+//! A lane for each interrupt and each line: where it is on.
+use super::super::axis::Axis;
+use super::super::cell::{Cell, LINES};
+use super::super::held::Held;
+use super::super::layout::LEFT;
+use super::super::page::Page;
+use super::spans::spans;
+use handler::registers::LETTERS;
+use handler::CLASSES;
+
+const HEIGHT: f64 = 10.0;
+const STEP: f64 = 14.0;
+
+fn lane(page: &mut Page, axis: &Axis, name: &str, of: impl Fn(&Cell) -> Held<bool>) {
+    page.lane_name(name, HEIGHT);
+    page.path(
+        "base",
+        LEFT,
+        page.y + HEIGHT,
+        &format!("H{:.1}", axis.end()),
+    );
+    for span in spans(axis, of) {
+        let (class, words) = match span.value {
+            Some(true) => ("high", "on"),
+            None => ("mixed", "on and off"),
+            Some(false) => continue,
+        };
+        let title = format!("{name}: {words}, {}", span.ticks());
+        page.titled(&title, |page| {
+            page.rect(class, span.place.x, page.y, span.place.width, HEIGHT);
+        });
+    }
+    page.y += STEP;
+}
+
+pub fn draw_interrupts(page: &mut Page, axis: &Axis) {
+    for k in 0..CLASSES {
+        let name = format!("interrupt {}", LETTERS[k]);
+        lane(page, axis, &name, |cell| cell.interrupts[k]);
+    }
+}
+
+pub fn draw_lines(page: &mut Page, axis: &Axis) {
+    for e in 0..LINES {
+        lane(page, axis, &format!("line {e}"), |cell| cell.lines[e]);
+    }
+}

@@ -1,0 +1,46 @@
+//! How much a tick matters in a picture.
+use crate::facts::changes::{changes, turns};
+use crate::facts::clears::clear;
+use crate::facts::events;
+use crate::facts::tick::Tick;
+use handler::{Access, CLASSES};
+
+/// From the least to the most; what matters least is folded first.
+#[derive(Clone, Copy, Debug, PartialEq, Eq, PartialOrd, Ord)]
+pub enum Weight {
+    /// No access, no change, steady wires.
+    Calm,
+    Read,
+    Write,
+    /// Wires that move, an event, a local alert.
+    Alert,
+    /// A cause, an accumulator or a lock changes, an access is refused, or a stage is dropped.
+    Change,
+    /// A state, a line or an interrupt changes, or a clear is asked for.
+    Turn,
+}
+
+impl Weight {
+    /// Those that are folded, the least first.
+    pub const FOLDED: [Weight; 5] = [
+        Weight::Calm,
+        Weight::Read,
+        Weight::Write,
+        Weight::Alert,
+        Weight::Change,
+    ];
+}
+
+/// `moved`: are the wires other ones than in the tick before?
+pub fn weight(t: &Tick, moved: bool) -> Weight {
+    let asks_clear = (0..CLASSES).any(|k| clear(t, k).is_some());
+    let occurs = events::alerts(t).next().is_some() || events::locals(t).next().is_some();
+    match t.input.access {
+        _ if turns(t) || asks_clear => Weight::Turn,
+        _ if changes(t) => Weight::Change,
+        _ if moved || occurs => Weight::Alert,
+        Access::Write(..) => Weight::Write,
+        Access::Nothing => Weight::Calm,
+        _ => Weight::Read,
+    }
+}

@@ -1,0 +1,172 @@
+//! The signals of a dump: where each stands, its name and its value in a tick.
+use super::moved::Moved;
+use super::value::{Kind, Value};
+use crate::alert_bits::{self, is_set};
+use crate::facts::clears::{clear, Clear};
+use crate::facts::tick::Tick;
+use crate::facts::{answer, events};
+use crate::names;
+use handler::registers::{Field, Register, Setting, LETTERS};
+use handler::{Access, CLASSES, LOCALS};
+
+#[derive(Clone, Copy, Debug, PartialEq, Eq)]
+pub enum Signal {
+    /// The positive wire, then the negative one.
+    Pair(usize),
+    Event(usize),
+    Cause(usize),
+    LocalEvent(usize),
+    LocalCause(usize),
+    State(usize),
+    StateName(usize),
+    EscCnt(usize),
+    AccumCnt(usize),
+    Interrupt(usize),
+    AcceptedClear(usize),
+    Line(usize),
+    AccessKind,
+    /// The register that is read or written.
+    Accessed,
+    /// The value that is written.
+    Written,
+    Answer,
+}
+
+use Signal::*;
+
+/// Signals that stand together.
+pub struct Scope {
+    pub name: String,
+    pub signals: Vec<Signal>,
+}
+
+fn alerts(moved: &Moved) -> Vec<Signal> {
+    let alerts = alert_bits::alerts(moved.alerts).flat_map(|i| [Pair(i), Event(i), Cause(i)]);
+    let locals = (0..LOCALS).filter(|&j| moved.locals[j]);
+    let locals = locals.flat_map(|j| [LocalEvent(j), LocalCause(j)]);
+    alerts.chain(locals).collect()
+}
+
+fn class(k: usize) -> Vec<Signal> {
+    vec![
+        StateName(k),
+        State(k),
+        EscCnt(k),
+        AccumCnt(k),
+        Interrupt(k),
+        AcceptedClear(k),
+    ]
+}
+
+/// All scopes; of the alerts those that move.
+pub fn scopes(moved: &Moved) -> Vec<Scope> {
+    let scope = |name: &str, signals| Scope {
+        name: name.to_string(),
+        signals,
+    };
+    let mut all = vec![scope("alerts", alerts(moved))];
+    for k in 0..CLASSES {
+        let letter = LETTERS[k].to_ascii_lowercase();
+        all.push(scope(&format!("class_{letter}"), class(k)));
+    }
+    all.push(scope("lines", (0..4).map(Line).collect()));
+    all.push(scope("access", vec![AccessKind, Accessed, Written, Answer]));
+    all
+}
+
+fn pair(t: &Tick, i: usize) -> u64 {
+    let wires = &t.input.wires;
+    u64::from(is_set(&wires.pos, i)) << 1 | u64::from(is_set(&wires.neg, i))
+}
+
+fn access_kind(t: &Tick) -> &'static str {
+    match t.input.access {
+        _ if t.is_malformed() => "malformed",
+        Access::Nothing => "none",
+        Access::Read(_) => "read",
+        Access::Write(..) => "write",
+        Access::Malformed => "malformed",
+    }
+}
+
+/// The register's name, and the value that is written to it; a malformed record has neither.
+fn accessed(t: &Tick) -> (Option<String>, Option<String>) {
+    let name = |number| Some(names::register(t.edition, number));
+    match t.input.access {
+        Access::Read(number) if !t.is_malformed() => (name(number), None),
+        Access::Write(number, value) if !t.is_malformed() => {
+            let value = names::written(t.edition, number, value);
+            (name(number), Some(value))
+        }
+        _ => (None, None),
+    }
+}
+
+fn text(words: Option<String>) -> Value {
+    words.map_or(Value::text("-"), Value::text)
+}
+
+impl Signal {
+    /// Registers have their own names.
+    pub fn name(self) -> String {
+        let class = |k, setting| Register::Class(k, setting).to_string();
+        match self {
+            Pair(i) => format!("ALERT{i}_PAIR"),
+            Event(i) => format!("ALERT{i}_EVENT"),
+            Cause(i) => Register::Alert(Field::Cause, i).to_string(),
+            LocalEvent(j) => format!("LOC_ALERT{j}_EVENT"),
+            LocalCause(j) => Register::Local(Field::Cause, j).to_string(),
+            State(k) => class(k, Setting::State),
+            StateName(k) => format!("CLASS{}_STATE_NAME", LETTERS[k]),
+            EscCnt(k) => class(k, Setting::EscCnt),
+            AccumCnt(k) => class(k, Setting::AccumCnt),
+            Interrupt(k) => format!("CLASS{}_INTERRUPT", LETTERS[k]),
+            AcceptedClear(k) => format!("CLASS{}_CLEAR", LETTERS[k]),
+            Line(e) => format!("LINE{e}"),
+            AccessKind => "KIND".to_string(),
+            Accessed => "REGISTER".to_string(),
+            Written => "VALUE".to_string(),
+            Answer => "ANSWER".to_string(),
+        }
+    }
+
+    pub fn kind(self) -> Kind {
+        match self {
+            Pair(_) => Kind::Pair,
+            State(_) | EscCnt(_) | AccumCnt(_) => Kind::Number,
+            StateName(_) | AccessKind | Accessed | Written | Answer => Kind::Text,
+            _ => Kind::Bit,
+        }
+    }
+
+    /// The alert that it is of, where it is of one.
+    pub fn alert(self) -> Option<usize> {
+        match self {
+            Pair(i) | Event(i) | Cause(i) => Some(i),
+            _ => None,
+        }
+    }
+
+    /// Its value in a tick: access and wires of the tick, states and outputs after it.
+    pub fn value(self, t: &Tick) -> Value {
+        let classes = &t.after.classes;
+        match self {
+            Pair(i) => Value::Number(pair(t, i)),
+            Event(i) => Value::Bit(is_set(&events::bits(t), i)),
+            Cause(i) => Value::Bit(t.after.alerts.cause[i] == 1),
+            LocalEvent(j) => Value::Bit(events::locals(t).any(|other| other == j)),
+            LocalCause(j) => Value::Bit(t.after.locals.cause[j] == 1),
+            State(k) => Value::Number(classes[k].state.into()),
+            StateName(k) => Value::text(names::state(classes[k].state)),
+            EscCnt(k) => Value::Number(classes[k].count.into()),
+            AccumCnt(k) => Value::Number(classes[k].accum.into()),
+            Interrupt(k) => Value::Bit(t.word.interrupt(k)),
+            AcceptedClear(k) => Value::Bit(clear(t, k) == Some(Clear::Accepted)),
+            Line(e) => Value::Bit(t.word.line(e)),
+            AccessKind => Value::text(access_kind(t)),
+            Accessed => text(accessed(t).0),
+            Written => text(accessed(t).1),
+            Answer => Value::text(answer::words(t)),
+        }
+    }
+}

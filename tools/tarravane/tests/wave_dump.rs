@@ -1,0 +1,276 @@
+//! `wave -o FILE.vcd`: the dump is read back and compared with what the library gives, tick by tick.
+mod common;
+
+use common::folder::Folder;
+use common::ran::{ran, Ran};
+use common::records::{record, start};
+use common::vcd::Dump;
+use common::wave::{dump, wave};
+use common::{ended, example, examples, given};
+use handler::registers::{Setting, LETTERS};
+use handler::{Edition, Wires};
+use harness::compare::{generated, Case};
+use std::fs;
+
+fn trace(name: &str) -> Vec<u8> {
+    fs::read(example(&format!("{name}.trace"))).expect("the example")
+}
+
+/// The lines and interrupts of each word that the program prints stand in the dump of the same trace.
+#[test]
+fn the_words_are_found_in_every_tick() {
+    assert_eq!(examples("words"), examples("trace"));
+    for name in examples("trace") {
+        let dump = dump(&trace(&name), &[]);
+        let words = fs::read_to_string(example(&format!("{name}.words"))).expect("words");
+        let ticks = words.lines().count() as u64;
+        for (tick, word) in (1..).zip(words.lines()) {
+            let word = u64::from_str_radix(word, 16).expect("hex");
+            for k in 0..4 {
+                let letter = LETTERS[k];
+                let name = format!("{}.CLASS{letter}_INTERRUPT", scope(k));
+                assert_eq!(dump.is_on(&name, tick), word >> (63 - k) & 1 == 1);
+                let line = format!("lines.LINE{k}");
+                assert_eq!(dump.is_on(&line, tick), word >> (59 - k) & 1 == 1);
+            }
+        }
+        assert_eq!(dump.end, ticks + 1);
+        assert_eq!(dump.at("trace.END", ticks), "whole");
+        assert_eq!(dump.at("trace.END", ticks - 1), "-");
+    }
+}
+
+fn scope(k: usize) -> String {
+    format!("class_{}", LETTERS[k].to_ascii_lowercase())
+}
+
+/// States, counts and outputs of a tick.
+fn check_classes(dump: &Dump, t: &Ran) {
+    for k in 0..4 {
+        let (scope, letter, class) = (scope(k), LETTERS[k], &t.after.classes[k]);
+        let at = |name: &str| dump.at(&format!("{scope}.CLASS{letter}_{name}"), t.number);
+        assert_eq!(at("STATE"), class.state.to_string());
+        let names = ["Idle", "Tout", "?", "Term", "Ph0", "Ph1", "Ph2", "Ph3"];
+        assert_eq!(at("STATE_NAME"), names[usize::from(class.state)]);
+        assert_eq!(at("ESC_CNT"), class.count.to_string());
+        assert_eq!(at("ACCUM_CNT"), class.accum.to_string());
+        assert_eq!(at("INTERRUPT") == "1", t.word.interrupt(k));
+        let line = format!("lines.LINE{k}");
+        assert_eq!(dump.is_on(&line, t.number), t.word.line(k));
+    }
+}
+
+/// Is the record a well-formed write of 1 to the CLR of class k, which is accepted?
+fn clears(edition: Edition, t: &Ran, k: usize) -> bool {
+    let clr = edition.registers().class(k, Setting::Clr);
+    let head = record(edition, 2, clr.into(), 1, Wires::REST);
+    t.record[..8] == head[..8] && t.word.refusal().is_none()
+}
+
+/// The pair, event and cause of an alert in a tick.
+fn alert(edition: Edition, t: &Ran, i: usize) -> (u8, bool, bool) {
+    let armed = |h: &handler::Handler| h.receivers.armed[i / 64] >> (63 - i % 64) & 1 == 1;
+    let event = armed(&t.before) && !armed(&t.after);
+    (t.pair(edition, i), event, t.after.alerts.cause[i] == 1)
+}
+
+/// What is in the dump of alert i: all that the ticks say of it. Nothing only where it never moves.
+fn check_alert(dump: &Dump, edition: Edition, ticks: &[Ran], i: usize, all: bool) {
+    let name = |what: &str| format!("alerts.ALERT{i}_{what}");
+    let moves = |t: &Ran| alert(edition, t, i) != (0b01, false, false);
+    assert_eq!(dump.has(&name("PAIR")), all || ticks.iter().any(moves));
+    if !dump.has(&name("PAIR")) {
+        return;
+    }
+    assert_eq!(dump.at(&name("PAIR"), 0), "1");
+    for t in ticks {
+        let (pair, event, cause) = alert(edition, t, i);
+        assert_eq!(dump.at(&name("PAIR"), t.number), pair.to_string());
+        assert_eq!(dump.is_on(&name("EVENT"), t.number), event);
+        assert_eq!(dump.is_on(&name("CAUSE"), t.number), cause);
+    }
+}
+
+fn check_locals(dump: &Dump, ticks: &[Ran], all: bool) {
+    for j in 0..7 {
+        let name = |what: &str| format!("alerts.LOC_ALERT{j}_{what}");
+        let cause = |t: &Ran| t.after.locals.cause[j] == 1;
+        if ticks.iter().any(cause) || all {
+            for t in ticks {
+                assert_eq!(dump.is_on(&name("CAUSE"), t.number), cause(t));
+                let newly = cause(t) && t.before.locals.cause[j] == 0;
+                assert!(!newly || dump.is_on(&name("EVENT"), t.number));
+            }
+        }
+    }
+}
+
+fn check(bytes: &[u8], all: bool) {
+    let (edition, ticks) = ran(bytes);
+    let dump = dump(bytes, if all { &["--all"] } else { &[] });
+    for t in &ticks {
+        check_classes(&dump, t);
+        for (k, letter) in LETTERS.iter().enumerate() {
+            let name = format!("{}.CLASS{letter}_CLEAR", scope(k));
+            assert_eq!(dump.is_on(&name, t.number), clears(edition, t, k));
+        }
+    }
+    let n = ticks.first().map_or(0, |t| t.before.n);
+    (0..n).for_each(|i| check_alert(&dump, edition, &ticks, i, all));
+    assert!(!dump.has(&format!("alerts.ALERT{n}_PAIR")));
+    check_locals(&dump, &ticks, all);
+    assert_eq!(dump.end, ticks.len() as u64 + 1);
+}
+
+/// Traces that reach deep states, of both editions.
+#[test]
+fn every_signal_is_what_the_library_gives() {
+    for edition in Edition::ALL {
+        for case in generated(edition, 11).take(9) {
+            let bytes = case.bytes();
+            check(&bytes, case.seed.is_multiple_of(2));
+        }
+    }
+}
+
+/// The same dump by the name of a file, which is read twice, and from standard input, which is kept.
+#[test]
+fn a_file_and_standard_input_give_one_dump() {
+    let folder = Folder::new("dump-file");
+    for case in generated(Edition::NEWEST, 5).take(3) {
+        let bytes = Case {
+            records: Some(300),
+            ..case
+        }
+        .bytes();
+        let (name, to) = (folder.path("a.trace"), folder.path("a.vcd"));
+        fs::write(&name, &bytes).expect("a trace");
+        given("wave", &[&name, "-o", &to], &[]);
+        let by_name = fs::read_to_string(&to).expect("the dump");
+        let (kept, said) = wave(&bytes, "vcd", &[], 0);
+        assert!(said.is_empty());
+        let names = ["trace: a.trace", "trace: standard input"];
+        assert!(by_name.contains(names[0]) && kept.contains(names[1]));
+        assert_eq!(by_name.replace(names[0], names[1]), kept);
+    }
+    assert_eq!(folder.names(), ["a.trace", "a.vcd"]);
+}
+
+/// Only alerts that move; all of them by --all, and none at N and above.
+#[test]
+fn alerts_that_never_move_are_left_out() {
+    let far = trace("far-alert");
+    let some = dump(&far, &[]);
+    let alerts = some.names.iter().filter(|name| name.starts_with("alerts."));
+    let alerts: Vec<&String> = alerts.collect();
+    let wanted = ["PAIR", "EVENT", "CAUSE"].map(|what| format!("alerts.ALERT247_{what}"));
+    assert_eq!(alerts, wanted.iter().collect::<Vec<_>>());
+    let all = dump(&far, &["--all"]);
+    assert_eq!(all.names.len() - some.names.len(), 3 * 247 + 2 * 7);
+}
+
+#[test]
+fn the_head_names_trace_alerts_and_edition() {
+    let dump = dump(&trace("far-alert"), &[]);
+    assert_eq!(
+        dump.comments,
+        [
+            "trace: standard input",
+            "alerts: 248; records of 70 bytes",
+            "tick t is the time t; 0: a new handler, all wires at rest"
+        ]
+    );
+    assert_eq!(dump.timescale, "1 s");
+    let scopes: Vec<&str> = dump
+        .names
+        .iter()
+        .filter_map(|name| name.split('.').next())
+        .collect();
+    let mut scopes = scopes;
+    scopes.dedup();
+    assert_eq!(
+        scopes,
+        ["alerts", "class_a", "class_b", "class_c", "class_d", "lines", "access", "trace"]
+    );
+}
+
+#[test]
+fn accesses_are_told_in_words() {
+    let dump = dump(&trace("refused-accesses"), &[]);
+    let told = |tick| {
+        ["KIND", "REGISTER", "VALUE", "ANSWER"].map(|what| dump.at(&format!("access.{what}"), tick))
+    };
+    assert_eq!(told(0), ["none", "-", "-", "-"]);
+    assert_eq!(told(1), ["write", "ALERT0_EN", "1", "staged"]);
+    assert_eq!(told(2), ["write", "ALERT0_EN", "1", "committed"]);
+    assert_eq!(told(7), ["read", "333", "-", "refused:_no_register"]);
+    let threshold = |value, answer| ["write", "CLASSA_ACCUM_THRESH", value, answer];
+    assert_eq!(told(10), threshold("65536", "refused:_too_wide"));
+    assert_eq!(
+        told(11),
+        ["write", "CLASSA_REGWEN", "0", "refused:_threshold"]
+    );
+    assert_eq!(told(13), threshold("3", "refused:_differs"));
+    assert_eq!(told(16), ["write", "CLASSA_REGWEN", "0", "done"]);
+    assert_eq!(told(19), ["malformed", "-", "-", "refused:_malformed"]);
+    assert_eq!(told(20), ["read", "CLASSA_ACCUM_CNT", "-", "1"]);
+    let dump = common::wave::dump(&trace("broken-seal"), &[]);
+    assert_eq!(dump.at("access.ANSWER", 23), "4_Ph0");
+    assert_eq!(dump.at("access.VALUE", 14), "0x393f");
+}
+
+/// A read that drops a stage says so, and a write that differs makes local alert 5 occur.
+#[test]
+fn stages_that_are_dropped_are_told() {
+    let text = "alerts 1
+        write LOC_ALERT5_EN 1
+        write LOC_ALERT5_EN 1
+        write CLASSA_ACCUM_THRESH 2
+        read CLASSA_ACCUM_THRESH
+        write CLASSA_ACCUM_THRESH 2
+        write CLASSA_ACCUM_THRESH 3
+        none";
+    let dump = dump(&given("record", &["-"], text.as_bytes()), &[]);
+    for (tick, answer) in [(4, "0,_unstaged"), (6, "refused:_differs")] {
+        assert_eq!(dump.at("access.ANSWER", tick), answer);
+    }
+    for tick in 0..=7 {
+        let on = |what: &str| dump.is_on(&format!("alerts.LOC_ALERT5_{what}"), tick);
+        assert_eq!((on("EVENT"), on("CAUSE")), (tick == 6, tick >= 6));
+    }
+}
+
+/// What can be shown is shown, and the end says why there is no more.
+#[test]
+fn damaged_traces_have_a_dump() {
+    let seal = trace("broken-seal");
+    for words in [&[][..], &["--all"]] {
+        let (text, said) = wave(&seal[..seal.len() - 1], "vcd", words, 1);
+        let dump = Dump::parse(&text);
+        assert_eq!(said.len(), 1);
+        assert!(said[0].starts_with("cut: "), "{said:?}");
+        assert_eq!(dump.at("trace.END", 32), said[0].replace(' ', "_"));
+        assert_eq!((dump.at("trace.END", 31), dump.end), ("-", 33));
+        let (text, said) = wave(&[255, 0], "vcd", words, 1);
+        let dump = Dump::parse(&text);
+        assert_eq!(said.len(), 1);
+        assert!(said[0].starts_with("refused: "), "{said:?}");
+        assert_eq!(dump.names, ["trace.END"]);
+        assert_eq!(dump.at("trace.END", 0), said[0].replace(' ', "_"));
+    }
+    let none = common::wave::dump(&start(Edition::NEWEST, 3), &[]);
+    assert_eq!((none.at("trace.END", 0), none.end), ("whole", 1));
+}
+
+/// A name cannot end its comment, and has no folders.
+#[test]
+fn a_file_of_any_name() {
+    let folder = Folder::new("dump-names");
+    let name = folder.path("a $end\n$var.trace");
+    let to = folder.path("a.vcd");
+    fs::write(&name, trace("broken-seal")).expect("a trace");
+    let (_, said) = ended("wave", &[&name, "-o", &to], &[], 0);
+    assert!(said.is_empty());
+    let dump = Dump::parse(&fs::read_to_string(&to).expect("the dump"));
+    assert_eq!(dump.comments[0], "trace: a _end__var.trace");
+}
