@@ -15,3 +15,26 @@ pub enum Asked<T> {
 fn is_option(word: &str) -> bool {
     word.len() > 1 && word.starts_with('-')
 }
+
+#[cfg(test)]
+mod tests {
+    use super::*;
+
+    /// What a command makes of the words of a line.
+    pub fn parsed<T>(
+        parse: fn(&[String]) -> Result<Asked<T>, String>,
+        line: &str,
+    ) -> Result<Asked<T>, String> {
+        let words: Vec<String> = line.split_whitespace().map(str::to_string).collect();
+        parse(&words)
+    }
+
+    #[test]
+    fn help_is_asked_for_by_its_option() {
+        for line in ["--help", "-h", "t --help", "--help --both"] {
+            assert_eq!(parsed(explain::parse, line), Ok(Asked::Help), "{line}");
+            assert_eq!(parsed(record::parse, line), Ok(Asked::Help), "{line}");
+            assert_eq!(parsed(wave::parse, line), Ok(Asked::Help), "{line}");
+        }
+    }
+}

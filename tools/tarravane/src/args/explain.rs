@@ -66,11 +66,11 @@ pub fn parse(words: &[String]) -> Result<Asked<Explain>, String> {
 
 #[cfg(test)]
 mod tests {
+    use super::super::tests;
     use super::*;
 
     fn parsed(line: &str) -> Result<Asked<Explain>, String> {
-        let words: Vec<String> = line.split_whitespace().map(str::to_string).collect();
-        parse(&words)
+        tests::parsed(parse, line)
     }
 
     fn asked(trace: &str, shown: Shown) -> Result<Asked<Explain>, String> {
@@ -97,13 +97,6 @@ mod tests {
         assert_eq!(parsed("-- --help"), asked("--help", Shown::Rows(ALL)));
         assert_eq!(parsed("--summary -- -x"), asked("-x", Shown::Summary));
         assert_eq!(parsed("-- --"), asked("--", Shown::Rows(ALL)));
-    }
-
-    #[test]
-    fn help_is_asked_for_by_its_option() {
-        for line in ["--help", "-h", "t --help", "--help --all"] {
-            assert_eq!(parsed(line), Ok(Asked::Help), "{line}");
-        }
     }
 
     #[test]

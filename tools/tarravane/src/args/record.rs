@@ -37,11 +37,11 @@ pub fn parse(words: &[String]) -> Result<Asked<Record>, String> {
 
 #[cfg(test)]
 mod tests {
+    use super::super::tests;
     use super::*;
 
     fn parsed(line: &str) -> Result<Asked<Record>, String> {
-        let words: Vec<String> = line.split_whitespace().map(str::to_string).collect();
-        parse(&words)
+        tests::parsed(parse, line)
     }
 
     #[test]
@@ -63,13 +63,6 @@ mod tests {
             parsed("-o --help -- -o"),
             asked("-o", Some("--help"), false)
         );
-    }
-
-    #[test]
-    fn help_is_asked_for_by_its_option() {
-        for line in ["--help", "-h", "t -o u --help"] {
-            assert_eq!(parsed(line), Ok(Asked::Help), "{line}");
-        }
     }
 
     #[test]

@@ -83,11 +83,11 @@ pub fn parse(words: &[String]) -> Result<Asked<Wave>, String> {
 
 #[cfg(test)]
 mod tests {
+    use super::super::tests;
     use super::*;
 
     fn parsed(line: &str) -> Result<Asked<Wave>, String> {
-        let words: Vec<String> = line.split_whitespace().map(str::to_string).collect();
-        parse(&words)
+        tests::parsed(parse, line)
     }
 
     fn asked(trace: &str, to: &str, form: Form) -> Result<Asked<Wave>, String> {
@@ -111,13 +111,6 @@ mod tests {
             parsed("-o a.svg -- --all"),
             asked("--all", "a.svg", Form::Picture(Range::ALL))
         );
-    }
-
-    #[test]
-    fn help_is_asked_for_by_its_option() {
-        for line in ["--help", "-h", "t -o u --help"] {
-            assert_eq!(parsed(line), Ok(Asked::Help), "{line}");
-        }
     }
 
     #[test]

@@ -6,10 +6,18 @@ mod outputs;
 mod spans;
 
 use super::axis::Axis;
+use super::layout::LEFT;
 use super::page::Page;
 
 /// What is free between groups of lanes.
 const BETWEEN: f64 = 7.0;
+
+/// The name of a lane that is this high, and the line on which its marks stand.
+fn begin(page: &mut Page, axis: &Axis, name: &str, height: f64) {
+    page.lane_name(name, height);
+    let end = format!("H{:.1}", axis.end());
+    page.path("base", LEFT, page.y + height, &end);
+}
 
 /// Lines that lead from the lanes up to the ticks.
 fn grid(axis: &Axis, from: f64, to: f64) -> Page {

@@ -2,10 +2,9 @@
 //! own; all others share one.
 use super::super::axis::{Axis, Place};
 use super::super::cell::Cell;
-use super::super::layout::LEFT;
 use super::super::marks::{self, HEIGHT};
 use super::super::page::Page;
-use super::BETWEEN;
+use super::{begin, BETWEEN};
 use crate::alert_bits::{self, put, AlertBits};
 use handler::{LOCALS, WORDS};
 use std::array::from_fn;
@@ -64,18 +63,8 @@ fn draw_cell(page: &mut Page, cell: &Cell, place: Place, of: &AlertBits) {
     }
 }
 
-fn begin(page: &mut Page, axis: &Axis, name: &str) {
-    page.lane_name(name, HEIGHT);
-    page.path(
-        "base",
-        LEFT,
-        page.y + HEIGHT,
-        &format!("H{:.1}", axis.end()),
-    );
-}
-
 fn lane(page: &mut Page, axis: &Axis, name: &str, of: &AlertBits) {
-    begin(page, axis, name);
+    begin(page, axis, name, HEIGHT);
     for (cell, place) in axis.with_places() {
         draw_cell(page, cell, place, of);
     }
@@ -83,7 +72,7 @@ fn lane(page: &mut Page, axis: &Axis, name: &str, of: &AlertBits) {
 }
 
 fn local_lane(page: &mut Page, axis: &Axis, j: usize) {
-    begin(page, axis, &format!("LOC_ALERT{j}"));
+    begin(page, axis, &format!("LOC_ALERT{j}"), HEIGHT);
     for (cell, place) in axis.with_places() {
         if cell.alerts.locals[j] {
             event(page, "event", cell, place);

@@ -2,8 +2,8 @@
 use super::super::axis::Axis;
 use super::super::cell::{Cell, LINES};
 use super::super::held::Held;
-use super::super::layout::LEFT;
 use super::super::page::Page;
+use super::begin;
 use super::spans::spans;
 use handler::registers::LETTERS;
 use handler::CLASSES;
@@ -12,13 +12,7 @@ const HEIGHT: f64 = 10.0;
 const STEP: f64 = 14.0;
 
 fn lane(page: &mut Page, axis: &Axis, name: &str, of: impl Fn(&Cell) -> Held<bool>) {
-    page.lane_name(name, HEIGHT);
-    page.path(
-        "base",
-        LEFT,
-        page.y + HEIGHT,
-        &format!("H{:.1}", axis.end()),
-    );
+    begin(page, axis, name, HEIGHT);
     for span in spans(axis, of) {
         let (class, words) = match span.value {
             Some(true) => ("high", "on"),
