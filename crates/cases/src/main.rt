@@ -1,9 +1,10 @@
-// The cases of document 01 that are run, its slips that look right, two waves of the public papers and a class with no lines, through the
+// The cases of document 01 that are run, its slips that look right, the waves of the public papers and a class with no lines, through the
 // code's own tick, the trace writer and shadow writes. What each prints is held to the file `stdout`.
 mod play; // play.rt: one tick, played and shown
 mod refusals; // refusals.rt: answers of single accesses
 mod slips; // slips.rt: "Slips that look right"
-mod waves; // waves.rt: the waves of the public papers
+mod waves; // waves.rt: waves of the public papers, of a class
+mod pairs; // pairs.rt: those of an alert's pair
 mod lines; // lines.rt: a class with no lines
 mod writing; // writing.rt: the trace writer
 mod shadow; // shadow.rt: shadow writes
@@ -19,6 +20,9 @@ fn main() {
     slips::refusal_as_value();
     waves::gathering();
     waves::timeout();
+    pairs::handshake();
+    pairs::integrity();
+    pairs::skewed();
     lines::no_event();
     lines::timeout();
     lines::phase();

@@ -4,6 +4,7 @@ use rules::Access;
 use rules::Edition;
 use rules::Handler;
 use rules::Input;
+use rules::Output;
 use rules::Sample;
 use rules::Wires;
 use trace::edition::carry;
@@ -37,10 +38,12 @@ pub const ALERT1_EN: u16 = 129;
 
 pub const ON: u32 = 0x393F;
 
-// Positive wires with no alert, alert 0, and alerts 0 and 1 raised.
+// Positive wires with no alert, alert 0, alert 1, and both raised.
 pub const REST: u64 = 0;
 
 pub const RAISE: u64 = 0x8000_0000_0000_0000;
+
+pub const RAISE_NEXT: u64 = 0x4000_0000_0000_0000;
 
 pub const RAISE_TWO: u64 = 0xC000_0000_0000_0000;
 
@@ -83,13 +86,14 @@ fn old(x: Access) -> Access {
     }
 }
 
-fn input(x: Access, pos: u64) -> Input {
+// An access and these wires of the first alerts.
+pub fn input(x: Access, pos: u64, neg: u64) -> Input {
     Input {
         access: old(x),
         sample: Sample {
             alerts: Wires {
                 pos: [pos, 0, 0, 0],
-                neg: [!pos, 0, 0, 0],
+                neg: [neg, 0, 0, 0],
             },
         },
     }
@@ -97,7 +101,7 @@ fn input(x: Access, pos: u64) -> Input {
 
 // A tick that is not shown.
 pub fn play(h: Handler, x: Access, pos: u64) -> Handler {
-    handler::tick::tick(h, input(x, pos)).handler
+    handler::tick::tick(h, input(x, pos, !pos)).handler
 }
 
 // A first write, which is staged.
@@ -111,7 +115,7 @@ pub fn configure(h: Handler, r: u16, v: u32) -> Handler {
 }
 
 // What register r holds, and a space.
-fn show_value(h: Handler, r: u16) {
+pub fn show_value(h: Handler, r: u16) {
     print_number(
         registers::read::value_of(
             h,
@@ -121,9 +125,17 @@ fn show_value(h: Handler, r: u16) {
     print(b" ");
 }
 
+// Interrupts, lines, and the end of the row.
+pub fn show_output(o: Output) {
+    print_number(o.interrupts as u64);
+    print(b" ");
+    print_number(o.lines as u64);
+    print(b"\n");
+}
+
 // A tick, shown as: answer, STATE, ESC_CNT and ACCUM_CNT of class 0, interrupts, lines.
 pub fn show(h: Handler, x: Access, pos: u64) -> Handler {
-    let t = handler::tick::tick(h, input(x, pos));
+    let t = handler::tick::tick(h, input(x, pos, !pos));
     let g = t.handler;
     print(b"  ");
     print_answer(t.answer);
@@ -131,10 +143,7 @@ pub fn show(h: Handler, x: Access, pos: u64) -> Handler {
     show_value(g, STATE);
     show_value(g, ESC_CNT);
     show_value(g, ACCUM_CNT);
-    print_number(t.output.interrupts as u64);
-    print(b" ");
-    print_number(t.output.lines as u64);
-    print(b"\n");
+    show_output(t.output);
     g
 }
 
@@ -145,6 +154,15 @@ pub fn show_rest(h: Handler, n: usize) -> Handler {
         g = show(g, Access::Nothing, REST);
     }
     g
+}
+
+// n ticks of rest that are not shown, and one that is.
+pub fn show_after(h: Handler, n: usize) -> Handler {
+    let mut g = h;
+    for _ in 0..n {
+        g = play(g, Access::Nothing, REST);
+    }
+    show(g, Access::Nothing, REST)
 }
 
 // n events of alert 0, each after a tick of rest, not shown.

@@ -1,0 +1,82 @@
+//! The waves that docs/PAPERS.md shows are those that the cases print.
+mod common;
+
+use common::page::section;
+use common::repository;
+use std::fs;
+
+/// The rows of a wave of a class, and of a pair, by their place in a line that the case prints.
+const CLASS: &[(&str, usize)] = &[
+    ("CLASSA_STATE", 1),
+    ("CLASSA_ESC_CNT", 2),
+    ("CLASSA_ACCUM_CNT", 3),
+    ("irq_o[0]", 4),
+    ("lines", 5),
+];
+const PAIR: &[(&str, usize)] = &[
+    ("ALERT0_CAUSE", 2),
+    ("LOC_ALERT2_CAUSE", 3),
+    ("CLASSA_STATE", 4),
+    ("CLASSA_ACCUM_CNT", 5),
+    ("CLASSB_ACCUM_CNT", 6),
+    ("interrupts", 7),
+    ("lines", 8),
+];
+
+/// The lines that a case prints below its name, in words.
+fn printed(wave: &str) -> Vec<Vec<String>> {
+    let all = fs::read_to_string(repository("crates/cases/stdout")).expect("the cases");
+    let start = format!("\n{wave}: ");
+    let (_, rest) = all.split_once(&start).expect(wave);
+    let words = |line: &str| line.split_whitespace().map(str::to_string).collect();
+    let lines = rest.lines().skip(1);
+    lines
+        .take_while(|line| line.starts_with(' '))
+        .map(words)
+        .collect()
+}
+
+/// The values of a row of a block.
+fn row(block: &str, name: &str, columns: usize) -> Vec<String> {
+    let line = block.lines().find(|line| {
+        let rest = line.strip_prefix(name);
+        rest.is_some_and(|rest| rest.starts_with(' '))
+    });
+    let words = line.expect(name)[name.len()..].split_whitespace();
+    words.take(columns).map(str::to_string).collect()
+}
+
+fn check(wave: &str, block: &str, names: &[(&str, usize)]) {
+    let printed = printed(wave);
+    assert_eq!(row(block, "cycle", 99).len(), printed.len(), "{wave}");
+    for (name, place) in names {
+        let column: Vec<String> = printed.iter().map(|line| line[*place].clone()).collect();
+        assert_eq!(row(block, name, printed.len()), column, "{wave}: {name}");
+    }
+}
+
+#[test]
+fn the_waves_are_those_of_the_cases() {
+    let section = section("Waves that are run");
+    let mut shown = Vec::new();
+    for part in section.split("\nW").skip(1) {
+        let (number, rest) = part.split_once(',').expect("a number");
+        let wave = format!("W{number}");
+        let block = rest.split("```").nth(1).expect("a block");
+        match wave.as_str() {
+            "W5" | "W6" => check(&wave, block, CLASS),
+            "W4" => check(
+                &wave,
+                block,
+                &[&[("diff_p", 0), ("diff_n", 1)], PAIR].concat(),
+            ),
+            _ => check(
+                &wave,
+                block,
+                &[&[("alert_p", 0), ("alert_n", 1)], PAIR].concat(),
+            ),
+        }
+        shown.push(wave);
+    }
+    assert_eq!(shown, ["W1", "W3", "W4", "W5", "W6"]);
+}
