@@ -2,14 +2,17 @@
 //! nothing here.
 //!
 //! A register is named as documents 01 and 02 name it: `INTR_STATE`, `LOC_ALERT2_CAUSE`, `ALERT5_EN`, `CLASSA_CTRL`.
+//! `papers` has what the public papers call it.
 mod decode;
 mod field;
 mod map;
+mod papers;
 mod register;
 mod setting;
 
 pub use field::Field;
 pub use map::{Map, INTR_BITS, INTR_ENABLE, INTR_STATE, INTR_TEST, MAP, MAP_24};
+pub use papers::Naming;
 pub use register::{Register, LETTERS};
 pub use setting::Setting;
 

@@ -8,6 +8,7 @@ use crate::source::filled;
 use crate::text::{alerts, edition, line};
 use crate::trace::record::{input, written};
 use crate::trace::{self, cut, Start};
+use handler::registers::Naming;
 use handler::Edition;
 use std::io::{stdout, IsTerminal, Read, Write};
 
@@ -16,7 +17,7 @@ use std::io::{stdout, IsTerminal, Read, Write};
 fn words(edition: Edition, bytes: &[u8]) -> String {
     let input = input(edition, bytes);
     match written(edition, &[input]) {
-        Ok(again) if again == bytes => line::words(edition, &input),
+        Ok(again) if again == bytes => line::words(Naming::Ours, edition, &input),
         _ => line::raw_words(bytes),
     }
 }

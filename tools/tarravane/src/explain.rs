@@ -7,6 +7,7 @@ use crate::progress::Progress;
 use crate::row::{row, wide_row, HEADER};
 use crate::summary::Summary;
 use crate::trace::{self, title, Start};
+use handler::registers::Naming;
 use std::io::{Read, Write};
 
 /// The end of the trace: bytes that are left over make it a cut one.
@@ -41,7 +42,7 @@ fn rows(
         if wanted(asked, &tick) {
             progress.clear();
             let row = if asked.wide { wide_row } else { row };
-            writeln!(out, "{}", row(&tick))?;
+            writeln!(out, "{}", row(asked.naming, &tick))?;
         }
         if progress.is_due(tick.number) {
             out.flush()?;
@@ -52,6 +53,7 @@ fn rows(
 }
 
 fn summary(
+    naming: Naming,
     title: &str,
     ticks: &mut Ticks<impl Read>,
     out: &mut dyn Write,
@@ -63,7 +65,7 @@ fn summary(
         Ok::<(), Failure>(())
     })?;
     writeln!(out, "{title}; ticks: {}", ticks.number())?;
-    for line in summary.lines() {
+    for line in summary.lines(naming) {
         writeln!(out, "{line}")?;
     }
     ended(out, ticks)
@@ -90,7 +92,7 @@ fn shown(
             writeln!(out, "{title}; a class: its state, then ESC_CNT/ACCUM_CNT")?;
             rows(asked, &mut ticks, out, progress)
         }
-        Shown::Summary => summary(&title, &mut ticks, out, progress),
+        Shown::Summary(naming) => summary(*naming, &title, &mut ticks, out, progress),
     }
 }
 

@@ -16,7 +16,9 @@ shown as it is.
                    stage was dropped
   --wide           every wire, cause and open stage, and a malformed record's bytes as raw HEX; rows
                    may then be wider than 120 columns
-  --summary        no rows, and no other option: for each class its starts (by which alerts or by
+  --papers         registers by the names that the public papers have for them, as
+                   CLASSA_CTRL_SHADOWED; docs/PAPERS.md has all of them
+  --summary        no rows, and no other option but --papers: for each class its starts (by which alerts or by
                    the timeout, whether the class was locked and LOCK set), the first tick of each
                    phase and of Terminal, the ticks in which it drove each line, and its clears
                    (writes of 1 to CLR); then the first and last event of each alert, the shadow
@@ -58,8 +60,9 @@ from standard input where that is -, and goes to the file that -o names, or to s
 A text: `alerts N` first, then a line for each tick: none, read REGISTER or write REGISTER VALUE, and
 after it, where an alert is not at rest, wires I=PQ or I-J=PQ and more of them: alert I, or I to J,
 has its positive wire at P, its negative at Q. Every other alert is at rest, 01. A register has its
-name, as CLASSA_CTRL, or its number; a number is decimal, or hex after 0x. What follows # is a
-comment; blank lines are skipped. A line has at most 4096 bytes before its comment.
+name, as CLASSA_CTRL, that of the public papers, as CLASSA_CTRL_SHADOWED, or its number; a number is
+decimal, or hex after 0x. What follows # is a comment; blank lines are skipped. A line has at most
+4096 bytes before its comment.
 A line is one write: what configures (EN, CLASS, CTRL, ACCUM_THRESH, TIMEOUT_CYC, PHASE0_CYC to
 PHASE3_CYC) takes two equal lines, the first staged and the second committed.
 

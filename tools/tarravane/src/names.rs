@@ -1,18 +1,19 @@
 //! Document 01's words for the numbers of a trace.
-use handler::registers::{Register, Setting};
+use handler::registers::{Naming, Register, Setting};
 use handler::{Edition, Refusal};
 
 /// A register by its name, which is the same in every edition; by its number where the edition has none.
-pub fn register(edition: Edition, number: u16) -> String {
+pub fn register(naming: Naming, edition: Edition, number: u16) -> String {
     match edition.registers().register(number) {
-        Some(register) => register.to_string(),
+        Some(register) => naming.name(register),
         None => number.to_string(),
     }
 }
 
-/// The edition's number of a register's name.
-pub fn number(edition: Edition, register: &str) -> Option<u16> {
-    edition.registers().number(Register::named(register)?)
+/// The edition's number of a register's name, ours or the papers'.
+pub fn number(edition: Edition, name: &str) -> Option<u16> {
+    let register = Register::named(name).or_else(|| Register::named_in_papers(name))?;
+    edition.registers().number(register)
 }
 
 /// A value of a register: of CTRL in hex, of any other in decimal.
@@ -114,13 +115,15 @@ mod tests {
             (Bytes70, 1281, "CLASSA_CTRL"),
             (Bytes70, 504, "504"),
         ] {
-            assert_eq!(register(edition, number), name);
+            assert_eq!(register(Naming::Ours, edition, number), name);
         }
         for edition in Edition::ALL {
             for n in 0..=u16::MAX {
                 let named = edition.registers().register(n).is_some();
-                let again = number(edition, &register(edition, n));
-                assert_eq!(again, named.then_some(n));
+                for naming in [Naming::Ours, Naming::Papers] {
+                    let again = number(edition, &register(naming, edition, n));
+                    assert_eq!(again, named.then_some(n));
+                }
             }
             assert_eq!(number(edition, "CLASSA_CTL"), None);
         }

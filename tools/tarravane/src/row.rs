@@ -7,7 +7,7 @@ mod stages;
 use crate::facts::answer;
 use crate::facts::tick::Tick;
 use class::class;
-use handler::registers::LETTERS;
+use handler::registers::{Naming, LETTERS};
 
 /// No row is wider, but where it is asked for.
 pub const WIDTH: usize = 120;
@@ -55,10 +55,11 @@ fn columns(t: &Tick, said: &str, form: Form) -> String {
 
 /// The row in the first form that has room for it, with the line of a text, else with the wires counted; in short form
 /// causes may be left out, and are then counted. Open stages are counted at its end.
-pub fn row(t: &Tick) -> String {
+pub fn row(naming: Naming, t: &Tick) -> String {
     let (edition, x) = (t.edition, &t.input);
     let causes = causes::set(&t.before, &t.after);
-    for said in [said::whole(edition, x), said::counted(edition, x)] {
+    let whole = said::whole(naming, edition, x);
+    for said in [whole, said::counted(naming, edition, x)] {
         for form in [Form::Columns, Form::Squeezed] {
             let row = columns(t, &said, form) + &causes.concat() + &stages::count(&t.after, form);
             if row.trim_end().len() <= WIDTH {
@@ -66,21 +67,21 @@ pub fn row(t: &Tick) -> String {
             }
         }
     }
-    let short = columns(t, &said::shortest(edition, x), Form::Short);
+    let short = columns(t, &said::shortest(naming, edition, x), Form::Short);
     let stages = stages::count(&t.after, Form::Short);
     let room = WIDTH.saturating_sub(short.len() + stages.len());
     short + &causes::fitted(&causes, room) + &stages
 }
 
 /// The row with every wire, cause and open stage, and the bytes of a malformed record, however wide.
-pub fn wide_row(t: &Tick) -> String {
+pub fn wide_row(naming: Naming, t: &Tick) -> String {
     let said = if t.is_malformed() {
         said::raw(&t.record, &t.input)
     } else {
-        said::whole(t.edition, &t.input)
+        said::whole(naming, t.edition, &t.input)
     };
     let causes = causes::set(&t.before, &t.after).concat();
-    let row = columns(t, &said, Form::Columns) + &causes + &stages::list(&t.after);
+    let row = columns(t, &said, Form::Columns) + &causes + &stages::list(naming, &t.after);
     row.trim_end().to_string()
 }
 

@@ -14,7 +14,7 @@ use crate::facts::tick::Tick;
 use class::Class;
 use events::Events;
 use first::First;
-use handler::registers::LETTERS;
+use handler::registers::{Naming, LETTERS};
 use handler::CLASSES;
 use refusals::Refusals;
 use shadow::Shadow;
@@ -39,13 +39,13 @@ impl Summary {
         self.refusals.add(t);
     }
 
-    pub fn lines(&self) -> Vec<String> {
+    pub fn lines(&self, naming: Naming) -> Vec<String> {
         let mut all = Vec::new();
         for (k, class) in self.classes.iter().enumerate() {
             all.extend(class.lines(k));
         }
         all.extend(self.events.lines());
-        all.push(self.shadow.line());
+        all.push(self.shadow.line(naming));
         all.extend(self.refusals.lines());
         all
     }

@@ -1,6 +1,7 @@
 //! The words after `explain`.
 use super::{is_option, range, Asked};
 use crate::range::Range;
+use handler::registers::Naming;
 
 #[derive(Debug, PartialEq, Eq)]
 pub struct Explain {
@@ -12,7 +13,7 @@ pub struct Explain {
 #[derive(Debug, PartialEq, Eq)]
 pub enum Shown {
     Rows(Rows),
-    Summary,
+    Summary(Naming),
 }
 
 #[derive(Clone, Copy, Debug, PartialEq, Eq)]
@@ -20,6 +21,7 @@ pub struct Rows {
     pub range: Range,
     pub only_changes: bool,
     pub wide: bool,
+    pub naming: Naming,
 }
 
 /// Every row, in at most 120 columns.
@@ -27,12 +29,16 @@ const ALL: Rows = Rows {
     range: Range::ALL,
     only_changes: false,
     wide: false,
+    naming: Naming::Ours,
 };
 
 fn shown(rows: Rows, summary: bool) -> Result<Shown, String> {
+    let naming = rows.naming;
     match summary {
-        true if rows != ALL => Err("--summary has no rows: no other option goes with it".into()),
-        true => Ok(Shown::Summary),
+        true if Rows { naming, ..rows } != (Rows { naming, ..ALL }) => {
+            Err("--summary has no rows: of the other options only --papers goes with it".into())
+        }
+        true => Ok(Shown::Summary(naming)),
         false => {
             range::check(rows.range)?;
             Ok(Shown::Rows(rows))
@@ -51,6 +57,7 @@ pub fn parse(words: &[String]) -> Result<Asked<Explain>, String> {
             "--from" | "--to" if options => range::take(&mut rows.range, word, rest.next())?,
             "--only-changes" if options => rows.only_changes = true,
             "--wide" if options => rows.wide = true,
+            "--papers" if options => rows.naming = Naming::Papers,
             "--summary" if options => summary = true,
             option if options && is_option(option) => {
                 return Err(format!("explain has no option {option}"))
@@ -84,18 +91,24 @@ mod tests {
             range: Range { from: 3, to: 9 },
             only_changes: true,
             wide: true,
+            naming: Naming::Papers,
         };
-        let line = "--from 3 t --to 9 --only-changes --wide";
+        let line = "--from 3 t --papers --to 9 --only-changes --wide";
         assert_eq!(parsed(line), asked("t", Shown::Rows(some)));
         assert_eq!(parsed("-"), asked("-", Shown::Rows(ALL)));
-        assert_eq!(parsed("t --summary"), asked("t", Shown::Summary));
+        let summary = |naming| asked("t", Shown::Summary(naming));
+        assert_eq!(parsed("t --summary"), summary(Naming::Ours));
+        assert_eq!(parsed("--papers t --summary"), summary(Naming::Papers));
     }
 
     #[test]
     fn no_option_follows_two_hyphens() {
         assert_eq!(parsed("-- t"), asked("t", Shown::Rows(ALL)));
         assert_eq!(parsed("-- --help"), asked("--help", Shown::Rows(ALL)));
-        assert_eq!(parsed("--summary -- -x"), asked("-x", Shown::Summary));
+        assert_eq!(
+            parsed("--summary -- -x"),
+            asked("-x", Shown::Summary(Naming::Ours))
+        );
         assert_eq!(parsed("-- --"), asked("--", Shown::Rows(ALL)));
     }
 
@@ -114,6 +127,7 @@ mod tests {
             "t -x",
             "t --summary --wide",
             "t --summary --to 3",
+            "t --summary --papers --only-changes",
         ] {
             assert!(parsed(line).is_err(), "{line}");
         }

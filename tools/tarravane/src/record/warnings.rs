@@ -3,7 +3,7 @@ use crate::names;
 use crate::say::say;
 use crate::text::line::Line;
 use crate::text::wires;
-use handler::registers::Register;
+use handler::registers::{Naming, Register};
 use handler::{Access, Edition};
 
 /// The most lines of a text that are warned of; those after them are counted.
@@ -30,7 +30,7 @@ fn unheeded(edition: Edition, n: u8, line: &Line) -> Vec<String> {
     let Line::Tick(input) = line else { return all };
     if let Access::Read(register) | Access::Write(register, _) = input.access {
         if is_above(edition, n, register) {
-            let name = names::register(edition, register);
+            let name = names::register(Naming::Ours, edition, register);
             all.push(format!("{name} is no register"));
         }
     }

@@ -1,10 +1,11 @@
 //! What a row says of access and wires.
 use crate::text::{access, line, wires};
+use handler::registers::Naming;
 use handler::{Edition, Input};
 
 /// The line of a text.
-pub fn whole(edition: Edition, x: &Input) -> String {
-    line::words(edition, x)
+pub fn whole(naming: Naming, edition: Edition, x: &Input) -> String {
+    line::words(naming, edition, x)
 }
 
 /// Wires as the number of alerts that are off rest, after these words; nothing where all are at rest.
@@ -16,13 +17,13 @@ fn number(words: &str, x: &Input) -> String {
 }
 
 /// The access, and the wires as a number.
-pub fn counted(edition: Edition, x: &Input) -> String {
-    access::words(edition, x.access) + &number(" wires ", x)
+pub fn counted(naming: Naming, edition: Edition, x: &Input) -> String {
+    access::words(naming, edition, x.access) + &number(" wires ", x)
 }
 
 /// The access with r for read and w for write, and the wires as a number.
-pub fn shortest(edition: Edition, x: &Input) -> String {
-    let words = access::words(edition, x.access);
+pub fn shortest(naming: Naming, edition: Edition, x: &Input) -> String {
+    let words = access::words(naming, edition, x.access);
     let access = match words.split_once(' ') {
         Some(("read", rest)) => format!("r {rest}"),
         Some(("write", rest)) => format!("w {rest}"),

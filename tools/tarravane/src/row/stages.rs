@@ -2,6 +2,7 @@
 use super::Form;
 use crate::facts::stages::open;
 use crate::names;
+use handler::registers::Naming;
 use handler::Handler;
 
 /// How many are open, as ` [2 staged]`, in short form that some are, as ` *`; nothing where none is.
@@ -14,8 +15,11 @@ pub fn count(h: &Handler, form: Form) -> String {
 }
 
 /// Each with its value.
-pub fn list(h: &Handler) -> String {
-    let one = |(register, value)| format!("{register} {}", names::value(Some(register), value));
+pub fn list(naming: Naming, h: &Handler) -> String {
+    let one = |(register, value)| {
+        let value = names::value(Some(register), value);
+        format!("{} {value}", naming.name(register))
+    };
     match open(h) {
         all if all.is_empty() => String::new(),
         all => format!(

@@ -2,6 +2,7 @@
 use super::{row, HEADER, WIDTH};
 use crate::facts::tick::Tick;
 use crate::trace::record;
+use handler::registers::Naming;
 use handler::{Edition, Handler, Word, ALERTS};
 
 /// A state as wide as any: all classes counting, every cause set, hundreds of stages open.
@@ -56,8 +57,10 @@ fn the_widest_row_fits() {
                 let mut tick = tick(edition, before, first);
                 for number in [1, 9_999_999_999] {
                     tick.number = number;
-                    let text = row(&tick);
-                    assert!(text.len() <= WIDTH, "{} columns: {text}", text.len());
+                    for naming in [Naming::Ours, Naming::Papers] {
+                        let text = row(naming, &tick);
+                        assert!(text.len() <= WIDTH, "{} columns: {text}", text.len());
+                    }
                 }
             }
         }

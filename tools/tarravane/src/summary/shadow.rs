@@ -2,14 +2,15 @@
 use super::kept::Kept;
 use crate::facts::stages::{change, open, Change};
 use crate::facts::tick::Tick;
+use handler::registers::{Naming, Register};
 
 #[derive(Default)]
 pub struct Shadow {
     staged: u64,
     committed: u64,
     dropped: Kept<u64>,
-    /// The names of the registers that have a stage after the last tick.
-    open: Kept<String>,
+    /// The registers that have a stage after the last tick.
+    open: Kept<Register>,
 }
 
 impl Shadow {
@@ -24,17 +25,17 @@ impl Shadow {
         }
         self.open = Kept::default();
         for (register, _) in open(&t.after) {
-            self.open.push(register.to_string());
+            self.open.push(register);
         }
     }
 
     /// Where some came to nothing, or may yet: a stage that was dropped, or is open at the end.
     pub fn short_line(&self) -> Option<String> {
         let done = self.dropped.count() + self.open.count() == 0;
-        (!done).then(|| self.line())
+        (!done).then(|| self.line(Naming::Ours))
     }
 
-    pub fn line(&self) -> String {
+    pub fn line(&self, naming: Naming) -> String {
         if self.staged == 0 {
             return "shadow writes: none".to_string();
         }
@@ -44,7 +45,7 @@ impl Shadow {
             self.staged,
             self.committed,
             self.dropped.words(u64::to_string),
-            self.open.words(String::clone)
+            self.open.words(|register| naming.name(*register))
         )
     }
 }

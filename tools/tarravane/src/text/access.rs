@@ -1,9 +1,11 @@
 //! The access of a tick: `none`, `read REGISTER` or `write REGISTER VALUE`.
 use super::word::{number, shown};
 use crate::names;
+use handler::registers::Naming;
 use handler::{Access, Edition};
 
-/// A register by name, or by the edition's number as far as the writer takes one; whether a record holds it, the writer says.
+/// A register by its name, ours or the papers', or by the edition's number as far as the writer takes one; whether a record
+/// holds it, the writer says.
 fn register(edition: Edition, verb: &str, word: Option<&str>) -> Result<u16, String> {
     let word = word.ok_or_else(|| format!("{verb} wants a register"))?;
     let number = || number(word).and_then(|n| u16::try_from(n).ok());
@@ -39,8 +41,8 @@ pub fn parse<'a>(
 }
 
 /// The words of an access. No text has the last of them.
-pub fn words(edition: Edition, access: Access) -> String {
-    let name = |number| names::register(edition, number);
+pub fn words(naming: Naming, edition: Edition, access: Access) -> String {
+    let name = |number| names::register(naming, edition, number);
     match access {
         Access::Nothing => "none".to_string(),
         Access::Read(number) => format!("read {}", name(number)),
@@ -69,7 +71,10 @@ mod tests {
                     Access::Write(register, 0),
                     Access::Write(register, u32::MAX),
                 ] {
-                    assert_eq!(parsed(edition, &words(edition, access)), Ok(access));
+                    for naming in [Naming::Ours, Naming::Papers] {
+                        let words = words(naming, edition, access);
+                        assert_eq!(parsed(edition, &words), Ok(access));
+                    }
                 }
             }
             assert_eq!(parsed(edition, "none"), Ok(Access::Nothing));
@@ -83,6 +88,7 @@ mod tests {
             let access = Ok(Access::Write(number, 0x393F));
             for text in [
                 "write CLASSA_CTRL 0x393f",
+                "write CLASSA_CTRL_SHADOWED 0x393f",
                 &format!("write {number} 14655"),
                 &format!("write {number:#x} 0x393F"),
             ] {

@@ -1,6 +1,7 @@
 //! A line of a text, without its comment.
 use super::word::{shown, split};
 use super::{access, hex, wires};
+use handler::registers::Naming;
 use handler::{Edition, Input, Wires};
 
 /// What a line after `alerts` gives.
@@ -67,8 +68,8 @@ pub fn parse(edition: Edition, line: &str) -> Result<Line, String> {
 }
 
 /// The line of a tick.
-pub fn words(edition: Edition, input: &Input) -> String {
-    access::words(edition, input.access) + &wires::words(input.wires)
+pub fn words(naming: Naming, edition: Edition, input: &Input) -> String {
+    access::words(naming, edition, input.access) + &wires::words(input.wires)
 }
 
 /// The line of a record that is not well-formed.
@@ -99,7 +100,7 @@ mod tests {
             assert_eq!(parse(edition, line), Ok(Line::Tick(input)));
             let odd = format!("\t write  {ctrl}\t14655 wires\t0=10 ");
             assert_eq!(parse(edition, &odd), Ok(Line::Tick(input)));
-            assert_eq!(words(edition, &input), line);
+            assert_eq!(words(Naming::Ours, edition, &input), line);
         }
         assert!(is_blank("") && is_blank(" \t ") && !is_blank(" x"));
     }

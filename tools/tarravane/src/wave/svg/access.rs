@@ -3,6 +3,7 @@ use crate::facts::answer;
 use crate::facts::stages::{change, Change};
 use crate::facts::tick::Tick;
 use crate::text::access::words;
+use handler::registers::Naming;
 use handler::Access;
 
 #[derive(Clone, Copy, Debug, PartialEq, Eq)]
@@ -41,7 +42,7 @@ fn mark(t: &Tick) -> Option<Mark> {
 
 fn said(t: &Tick) -> Option<Said> {
     let mark = mark(t)?;
-    let access = words(t.edition, t.input.access);
+    let access = words(Naming::Ours, t.edition, t.input.access);
     let words = match mark {
         Mark::Refused => format!("{access}: {}", answer::short(t)),
         // Its mark says that it is done.

@@ -6,7 +6,7 @@ use crate::facts::clears::{clear, Clear};
 use crate::facts::tick::Tick;
 use crate::facts::{answer, events};
 use crate::names;
-use handler::registers::{Field, Register, Setting, LETTERS};
+use handler::registers::{Field, Naming, Register, Setting, LETTERS};
 use handler::{Access, CLASSES, LOCALS};
 
 #[derive(Clone, Copy, Debug, PartialEq, Eq)]
@@ -91,7 +91,7 @@ fn access_kind(t: &Tick) -> &'static str {
 
 /// The register's name, and the value that is written to it; a malformed record has neither.
 fn accessed(t: &Tick) -> (Option<String>, Option<String>) {
-    let name = |number| Some(names::register(t.edition, number));
+    let name = |number| Some(names::register(Naming::Ours, t.edition, number));
     match t.input.access {
         Access::Read(number) if !t.is_malformed() => (name(number), None),
         Access::Write(number, value) if !t.is_malformed() => {
