@@ -40,7 +40,8 @@ ends with the number of stages that are open after its tick, as [2 staged]; in s
 would wait for 65,536 events. Nothing is changed.
 States: Idle, Tout (Timeout), Ph0 to Ph3 (the phases), Term (Terminal). A row that would be wider
 than 120 columns leaves its columns, and if need be counts the alerts that are off rest (wires ~12)
-or is in short form: r and w, states in two letters, counts as 12k or .3M, wires as ~12, causes as +3.
+or is in short form: r and w, states in two letters, counts as 12k or .3M, wires as ~12, causes as +3,
+and, where its name has no room, a register by its number.
 
 Exit status:
   0  the trace was shown as asked, also where the reader of the output went away

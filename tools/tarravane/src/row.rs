@@ -67,9 +67,13 @@ pub fn row(naming: Naming, t: &Tick) -> String {
             }
         }
     }
-    let short = columns(t, &said::shortest(naming, edition, x), Form::Short);
     let stages = stages::count(&t.after, Form::Short);
-    let room = WIDTH.saturating_sub(short.len() + stages.len());
+    let room = |short: &String| WIDTH.saturating_sub(short.len() + stages.len());
+    let mut short = columns(t, &said::shortest(naming, edition, x), Form::Short);
+    if room(&short) < causes::least(&causes) {
+        short = columns(t, &said::numbered(edition, x), Form::Short);
+    }
+    let room = room(&short);
     short + &causes::fitted(&causes, room) + &stages
 }
 

@@ -26,6 +26,14 @@ pub fn set(before: &Handler, after: &Handler) -> Vec<String> {
     all
 }
 
+/// The columns that they take at least.
+pub fn least(causes: &[String]) -> usize {
+    match causes.len() {
+        0 => 0,
+        number => format!(" +{number}").len(),
+    }
+}
+
 /// As many causes as there is room for, and how many more there are.
 pub fn fitted(causes: &[String], room: usize) -> String {
     let mut text = String::new();

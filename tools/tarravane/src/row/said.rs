@@ -1,7 +1,8 @@
 //! What a row says of access and wires.
+use crate::names;
 use crate::text::{access, line, wires};
 use handler::registers::Naming;
-use handler::{Edition, Input};
+use handler::{Access, Edition, Input};
 
 /// The line of a text.
 pub fn whole(naming: Naming, edition: Edition, x: &Input) -> String {
@@ -28,6 +29,18 @@ pub fn shortest(naming: Naming, edition: Edition, x: &Input) -> String {
         Some(("read", rest)) => format!("r {rest}"),
         Some(("write", rest)) => format!("w {rest}"),
         _ => words,
+    };
+    access + &number(" ", x)
+}
+
+/// The same with a register by its number, where its name has no room.
+pub fn numbered(edition: Edition, x: &Input) -> String {
+    let access = match x.access {
+        Access::Read(number) => format!("r {number}"),
+        Access::Write(number, value) => {
+            format!("w {number} {}", names::written(edition, number, value))
+        }
+        other => access::words(Naming::Ours, edition, other),
     };
     access + &number(" ", x)
 }
