@@ -1,6 +1,7 @@
 //! Traces by edition, kind and seed. The same three give the same bytes.
 
 mod damage;
+mod edges;
 mod ends;
 mod kind;
 mod long;
@@ -13,6 +14,7 @@ mod stages;
 mod steps;
 mod sweep;
 mod threshold;
+mod together;
 mod wires;
 
 pub use kind::{Kind, KINDS};
@@ -61,6 +63,7 @@ pub fn trace(edition: Edition, kind: Kind, seed: u64) -> Vec<u8> {
     match kind {
         Kind::Sweep => sweep::sweep(edition, rng),
         Kind::Ends => ends::ends(edition, rng),
+        Kind::Edges => edges::edges(edition, rng),
         Kind::Full => long::long(edition, rng, seed),
         Kind::Noise => damage::noise(edition, rng),
         Kind::Damaged => {

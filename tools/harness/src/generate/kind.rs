@@ -29,10 +29,12 @@ pub enum Kind {
     Shadow,
     /// Thresholds of 65534 and 65535, EN on and off, and locks of such classes.
     Threshold,
+    /// Each class and phase alone, values at the edges of a width, two things in one tick.
+    Edges,
 }
 
 /// Every kind with its name on the command line.
-pub const KINDS: [(Kind, &str); 13] = [
+pub const KINDS: [(Kind, &str); 14] = [
     (Kind::Mixed, "mixed"),
     (Kind::Escalate, "escalate"),
     (Kind::Timeout, "timeout"),
@@ -46,6 +48,7 @@ pub const KINDS: [(Kind, &str); 13] = [
     (Kind::Damaged, "damaged"),
     (Kind::Shadow, "shadow"),
     (Kind::Threshold, "threshold"),
+    (Kind::Edges, "edges"),
 ];
 
 impl Kind {
@@ -62,7 +65,7 @@ impl Kind {
             .map(|entry| entry.0)
     }
 
-    /// The kind of the trace at a place of a set: one in a hundred is long.
+    /// The kind of the trace at a place of a set: one in a hundred is long, three have edges.
     pub fn at(place: u64) -> Kind {
         const ROUND: [Kind; 10] = [
             Kind::Mixed,
@@ -76,10 +79,10 @@ impl Kind {
             Kind::Sweep,
             Kind::Ends,
         ];
-        if place % 100 == 99 {
-            Kind::Full
-        } else {
-            ROUND[(place % 10) as usize]
+        match place % 100 {
+            99 => Kind::Full,
+            24 | 49 | 74 => Kind::Edges,
+            _ => ROUND[(place % 10) as usize],
         }
     }
 }

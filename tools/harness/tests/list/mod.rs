@@ -1,5 +1,6 @@
 //! The slips: a piece of the reference's text and what replaces it.
 
+mod patterns;
 mod stages;
 mod threshold;
 
@@ -17,8 +18,8 @@ pub struct Slip {
 
 /// Every slip; the default set must find each of them.
 pub fn slips() -> impl Iterator<Item = &'static Slip> {
-    let shadow = stages::STAGES.iter();
-    RULES.iter().chain(shadow).chain(threshold::THRESHOLD)
+    let later = [stages::STAGES, threshold::THRESHOLD, patterns::PATTERNS];
+    RULES.iter().chain(later.into_iter().flatten())
 }
 
 /// The first ten are those of the table in landing note 04; the others are slips of the same sort.
