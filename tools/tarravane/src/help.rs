@@ -18,13 +18,13 @@ shown as it is.
                    may then be wider than 120 columns
   --papers         registers by the names that the public papers have for them, as
                    CLASSA_CTRL_SHADOWED; docs/PAPERS.md has all of them
-  --summary        no rows, and no other option but --papers: for each class its starts (by which alerts or by
-                   the timeout, whether the class was locked and LOCK set), the first tick of each
-                   phase and of Terminal, the ticks in which it drove each line, and its clears
-                   (writes of 1 to CLR); then the first and last event of each alert, the shadow
-                   writes (how many were staged and committed, when a stage was dropped, which are
-                   open at the end), and all other refusals by number. Of starts, lines, clears and
-                   stages the first 8 are shown, and the others counted
+  --summary        no rows, and no other option but --papers: for each class its starts (by which
+                   alerts or by the timeout, whether the class was locked and LOCK set), the first
+                   tick of each phase and of Terminal, the ticks in which it drove each line, and its
+                   clears (writes of 1 to CLR); then the first and last event of each alert, the
+                   shadow writes (how many were staged and committed, when a stage was dropped, which
+                   are open at the end), and all other refusals by number. Of starts, lines, clears
+                   and stages the first 8 are shown, and the others counted
   --help           this text
 
 A row: tick, access and wires, answer, interrupts that are on (A to D), lines that are on (0 to 3),
