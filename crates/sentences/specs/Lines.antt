@@ -1,0 +1,16 @@
+-- "One tick, in order", step 5 of one class and line, in one sentence: raw fields and plain comparisons, and no definition of the rules.
+-- Assumes nothing.
+use Prim.Native.Nat.{ℕ, _+_, _*_, _<_}
+use mathlib.Core.Path.{_≡_}
+use mathlib.Core.Logic.{_↔_}
+use mathlib.Core.Bool.{Bool, true}
+use Rattle.bits.specs.Bits.{bit, field}
+use Rattle.class_rules.specs.declared.Class.{Class}
+use Rattle.sentences.specs.Fits.{Fits}
+
+-- "Class k drives line e if enable e is set and k is in the phase that map e names": exactly then, of every class that fits
+-- "2 to 5 line enables, 6 to 13 line maps, two bits a line"; "STATE reads .. phases 4 to 7"
+abbrev pub Drives : (Class → ℕ → Bool) → Type 0
+Drives drives =
+    (c : Class) (e : ℕ) → Fits c → e < 4
+    → (drives c e ≡ true) ↔ ((bit (c .ctrl) (2 + e) ≡ true) × (c .state ≡ 4 + field (6 + 2 * e) 2 (c .ctrl)))
