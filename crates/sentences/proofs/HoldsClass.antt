@@ -36,7 +36,7 @@ module _ (s : Signals) (c : Class) where
 
   -- ── LOCK: the test of a start, and entering Phase 0 ──
 
-  unstarted-phase : (p : ℕ) → p < 4 → c .state ≡ 4 + p → starts s c ≡ false
+  pub unstarted-phase : (p : ℕ) → p < 4 → c .state ≡ 4 + p → starts s c ≡ false
   unfolding stateOf startsFrom
   unstarted-phase = by-phase (λ p. c .state ≡ 4 + p → starts s c ≡ false) (λ i. simp i) (λ i. simp i) (λ i. simp i) (λ i. simp i)
 
@@ -46,7 +46,7 @@ module _ (s : Signals) (c : Class) where
   by-first false true n o e = absurd (omega arith)
   by-first false false n o e = absurd (omega arith)
 
-  starts-is : Fits c → (starts s c ≡ true) ↔ Enters c (classStep s c)
+  pub starts-is : Fits c → (starts s c ≡ true) ↔ Enters c (classStep s c)
   unfolding classStep stateOf movedFrom startsFrom
   starts-is f = (
     by-state (λ m. c .state ≡ m → starts s c ≡ true → Enters c (classStep s c))
@@ -61,7 +61,7 @@ module _ (s : Signals) (c : Class) where
 
   -- ── the sentences ──
 
-  stepped : Fits c → Stepped s c (classStep s c)
+  pub stepped : Fits c → Stepped s c (classStep s c)
   unfolding classStep counted stateOf movedFrom startsFrom
   stepped f =
       let yes-trigger : Trigger s c → trigger s c ≡ true = trigger-is s c .1 in
@@ -98,5 +98,5 @@ module _ (s : Signals) (c : Class) where
         regwen = refl;
       }
 
-pub holds : ClassStep classStep
-holds s c f = stepped s c f
+pub holds-class : ClassStep classStep
+holds-class s c f = stepped s c f

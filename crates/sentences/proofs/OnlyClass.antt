@@ -2,16 +2,19 @@
 -- Assumes nothing.
 use Prim.Native.Nat.{ℕ, _+_, _≤_, _<_}
 use mathlib.Core.Path.{_≡_, refl, sym, _∙_}
+use mathlib.Core.Logic.{_≢_}
 use mathlib.Core.Bool.{Bool, true, false}
 use native.Mathlib.Omega.{arith}
 use native.Mathlib.Decide.{decLt, ℕ-discrete}
 use lib.ListN.{getD}
 use Rattle.class_rules.specs.declared.Class.{Class}
+use Rattle.class_rules.specs.declared.ClassState.{ClassState}
 use Rattle.class_rules.specs.declared.Signals.{Signals}
 use Rattle.sentences.specs.Fits.{Fits, ClassFits}
 use Rattle.sentences.specs.ClassStep.{Lock, Trigger, Due, At, Enters, Stepped, ClassStep, ClassEvent}
 use Rattle.sentences.specs.Lines.{Drives}
-use Rattle.sentences.proofs.Cases.{by-state, either, same-test}
+use Rattle.sentences.specs.Start.{TriggerIs, DueIs, StartsIs, StateIs}
+use Rattle.sentences.proofs.Cases.{by-state, by-phase, either, same-test}
 
 abbrev Same : Class → Class → Type 0
 Same d e = (d .state ≡ e .state) × (d .count ≡ e .count)
@@ -83,7 +86,7 @@ module _ (s : Signals) (c d e : Class) (f : Fits c) (a : Stepped s c d) (b : Ste
       (λ l. a .locks (l .0) (l .1) ∙ sym (b .locks (l .0 .0, sym (same-place .0) ∙ l .0 .1) (l .1)))
       (λ n. a .clrwen-stays n ∙ sym (b .clrwen-stays (λ l. n ((l .0 .0, same-place .0 ∙ l .0 .1), l .1))))
 
-  same-class : d ≡ e
+  pub same-class : d ≡ e
   same-class = λ i.
       record {
         lengths = (a .lengths ∙ sym (b .lengths)) i;
@@ -99,8 +102,8 @@ module _ (s : Signals) (c d e : Class) (f : Fits c) (a : Stepped s c d) (b : Ste
 
 -- ── two functions that satisfy the sentences are one ──
 
-pub only : (f g : Signals → Class → Class) → ClassStep f → ClassStep g → (s : Signals) (c : Class) → Fits c → f s c ≡ g s c
-only f g x y s c h = same-class s c (f s c) (g s c) h (x s c h) (y s c h)
+pub only-class : (f g : Signals → Class → Class) → ClassStep f → ClassStep g → (s : Signals) (c : Class) → Fits c → f s c ≡ g s c
+only-class f g x y s c h = same-class s c (f s c) (g s c) h (x s c h) (y s c h)
 
 pub only-event : (f g : Bool → Class → Bool) → ClassEvent f → ClassEvent g → (t : Bool) (c : Class) → f t c ≡ g t c
 only-event f g x y t c = same-test (f t c) (g t c) (x t c) (y t c)
@@ -108,5 +111,26 @@ only-event f g x y t c = same-test (f t c) (g t c) (x t c) (y t c)
 pub only-fits : (f g : Class → Bool) → ClassFits f → ClassFits g → (c : Class) → f c ≡ g c
 only-fits f g x y c = same-test (f c) (g c) (x c) (y c)
 
-pub only-lines : (f g : Class → ℕ → Bool) → Drives f → Drives g → (c : Class) (e : ℕ) → Fits c → e < 4 → f c e ≡ g c e
-only-lines f g x y c e h l = same-test (f c e) (g c e) (x c e h l) (y c e h l)
+pub only-lines : (f g : Class → ℕ → Bool) → Drives f → Drives g → (c : Class) (e : ℕ) → e < 4 → f c e ≡ g c e
+only-lines f g x y c e l = same-test (f c e) (g c e) (x c e l) (y c e l)
+
+-- ── the words of demand 3 ──
+
+pub only-trigger : (f g : Signals → Class → Bool) → TriggerIs f → TriggerIs g → (s : Signals) (c : Class) → f s c ≡ g s c
+only-trigger f g x y s c = same-test (f s c) (g s c) (x s c) (y s c)
+
+pub only-due : (f g : Signals → Class → Bool) → DueIs f → DueIs g → (s : Signals) (c : Class) → f s c ≡ g s c
+only-due f g x y s c = same-test (f s c) (g s c) (x s c) (y s c)
+
+pub only-starts : (f g : Signals → Class → Bool) → StartsIs f → StartsIs g → (s : Signals) (c : Class) → Fits c → f s c ≡ g s c
+only-starts f g x y s c h = same-test (f s c) (g s c) (x .reason s c h) (y .reason s c h)
+
+-- a STATE that refusal 7 does not meet, and phases 0 to 3
+pub only-state : (f p g q : ℕ → ClassState) → StateIs f p → StateIs g q → (m : ℕ) → m ≤ 7 → m ≢ 2 → f m ≡ g m
+only-state f p g q x y =
+    by-state (λ m. f m ≡ g m) (x .idle ∙ sym (y .idle)) (x .timeout ∙ sym (y .timeout)) (x .terminal ∙ sym (y .terminal))
+    (by-phase (λ n. f (4 + n) ≡ g (4 + n)) (x .phase-0 ∙ sym (y .phase-0)) (x .phase-1 ∙ sym (y .phase-1)) (x .phase-2 ∙ sym (y .phase-2))
+    (x .phase-3 ∙ sym (y .phase-3)))
+
+pub only-phase : (f p g q : ℕ → ClassState) → StateIs f p → StateIs g q → (n : ℕ) → n < 4 → p n ≡ q n
+only-phase f p g q x y n h = x .phases n h ∙ only-state f p g q x y (4 + n) (omega arith) (λ e. omega arith) ∙ sym (y .phases n h)
