@@ -1,0 +1,100 @@
+-- The rule of the whole tick satisfies the sentences: each step on its state, and refusal 7.
+-- Assumes nothing.
+use Prim.Native.Nat.{ℕ, _^_}
+use mathlib.Core.Path.{_≡_, refl, sym, ap, subst}
+use mathlib.Core.Logic.{_⊎_, inl, inr}
+use mathlib.Core.Bool.{true, false}
+use lib.Dec.{eqb}
+use Rattle.rules.specs.Access.{verdict, accessedBy, accessed, acted, answerTo, effects}
+use Rattle.rules.specs.Answer.{refusalNumber, number}
+use Rattle.rules.specs.Samples.{sampled}
+use Rattle.rules.specs.Tick.{outputOf, after, tick, ticked}
+use Rattle.rules.specs.Valid.{valid}
+use Rattle.rules.specs.declared.Access.{Access}
+use Rattle.rules.specs.declared.Handler.{Handler}
+use Rattle.rules.specs.declared.Input.{Input}
+use Rattle.rules.specs.declared.Ticked.{Ticked}
+use Rattle.rules.specs.declared.Verdict.{Verdict}
+use Rattle.laws.proofs.Cases.{pick}
+use Rattle.laws.proofs.KeepsAccess.{acted-valid}
+use Rattle.laws.proofs.Refusal7.{ticked-good, ticked-bad}
+use Rattle.sentences.specs.Numbers.{Numbers}
+use Rattle.sentences.specs.Samples.{RaisesFiveOrNone}
+use Rattle.sentences.specs.Tick.{Runs, Refused7, TickOf, Tick, Step1}
+use Rattle.sentences.specs.Valid.{Valid}
+use Rattle.sentences.proofs.Cases.{off}
+use Rattle.sentences.proofs.HoldsOutputs.{holds-outputs, holds-classes}
+use Rattle.sentences.proofs.HoldsSamples.{holds-samples}
+use Rattle.sentences.proofs.HoldsValid.{holds-valid}
+
+-- ── step 1 ──
+
+raises-by : (v : Verdict) (h : Handler) (x : Access) → RaisesFiveOrNone (accessedBy v h x .effects)
+raises-by Verdict.Accepted h x = inl refl
+raises-by (Verdict.Refused m) h x = pick (λ (n : ℕ). (n ≡ 0) ⊎ (n ≡ 32)) (eqb (refusalNumber m) 12) 32 0 (λ _. inr refl) (λ _. inl refl)
+
+pub holds-step1 : Step1 accessed
+unfolding accessed acted
+holds-step1 =
+    record {
+      valid = λ h x v. holds-valid (accessed h x .handler) .0 (acted-valid h x (holds-valid h .1 v));
+      raises = λ h x. raises-by (verdict h x) h x;
+    }
+
+-- ── the tick ──
+
+module _ (h : Handler) (x : Input) where
+  runs-tick : Valid h → Runs (accessed h (x .access)) (x .sample .alerts) (tick h x)
+  unfolding tick after acted effects answerTo
+  runs-tick v =
+      let a = accessed h (x .access) in
+      let u = holds-step1 .valid h (x .access) v in
+      let r = holds-step1 .raises h (x .access) in
+      record {
+        state2 = sampled (a .handler) (x .sample .alerts) (a .effects);
+        step2 = holds-samples (a .handler) (x .sample .alerts) (a .effects) u r;
+        steps34 = holds-classes (a .handler) (x .sample .alerts) (a .effects) u r;
+        step5 = holds-outputs (after h x);
+        answer = refl;
+      }
+
+  refuses : valid h ≡ false → Refused7 h (ticked h x)
+  refuses e =
+      let t = ticked-bad h x e in
+      record {
+        state = ap (λ (t : Ticked). t .handler) t;
+        interrupts = ap (λ (t : Ticked). t .output .interrupts) t;
+        lines = ap (λ (t : Ticked). t .output .lines) t;
+        answer = ap (λ (t : Ticked). t .answer) t;
+      }
+
+pub holds-tick : Tick accessed ticked
+holds-tick h x =
+    record {
+      refused = λ n. refuses h x (off (valid h) (holds-valid h) n);
+      runs = λ v.
+          subst (Runs (accessed h (x .access)) (x .sample .alerts)) (sym (ticked-good h x (holds-valid h .1 v))) (runs-tick h x v);
+    }
+
+-- ── the numbers that come back ──
+
+pub holds-numbers : Numbers number
+unfolding number
+holds-numbers =
+    record {
+      read = λ v. refl;
+      accepted = refl;
+      refusal-1 = refl;
+      refusal-2 = refl;
+      refusal-3 = refl;
+      refusal-4 = refl;
+      refusal-5 = refl;
+      refusal-6 = refl;
+      refusal-7 = refl;
+      refusal-8 = refl;
+      refusal-9 = refl;
+      refusal-10 = refl;
+      refusal-11 = refl;
+      refusal-12 = refl;
+      refusal-14 = refl;
+    }
