@@ -9,8 +9,9 @@ use native.Mathlib.Omega.{arith}
 use borrow.Author.Tests.{eqb-true, eq-eqb, ne-eqb}
 use lib.Dec.{eqb}
 use Rattle.class_rules.specs.Class.{lineEnable, lineMap, isPhase, stateOf, drives}
+use Rattle.class_rules.specs.declared.Class.{Class}
 use Rattle.class_rules.specs.declared.ClassState.the-variants.{Idle}
-use Rattle.sentences.specs.Lines.{Drives}
+use Rattle.sentences.specs.Lines.{DrivesLine, Drives}
 use Rattle.sentences.proofs.Cases.{and-is}
 
 -- a number over 7 is read as Idle, and never stands in a state that refusal 7 does not meet
@@ -43,7 +44,10 @@ module _ (p : ℕ) where
   is-phase h (suc (suc (suc (suc (suc (suc (suc (suc m)))))))) =
       let n : ℕ = suc (suc (suc (suc (suc (suc (suc (suc m))))))) in rw (over n (omega arith)) (none n (λ e. omega arith))
 
-pub holds-lines : Drives drives
+pub drives-is : (c : Class) (e : ℕ) → (drives c e ≡ true) ↔ DrivesLine c e
 unfolding drives
-holds-lines c e l =
+drives-is c e =
     and-is (lineEnable c e) (isPhase (stateOf (c .state)) (lineMap c e)) Iff·rfl (is-phase (lineMap c e) (mod-lt _ (omega arith)) (c .state))
+
+pub holds-lines : Drives drives
+holds-lines c e l = drives-is c e

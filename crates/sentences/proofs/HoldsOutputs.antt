@@ -23,7 +23,7 @@ use Rattle.sentences.specs.Samples.{RaisesFiveOrNone}
 use Rattle.sentences.specs.Valid.{Valid, classOf}
 use Rattle.sentences.proofs.Cases.{and-is, or-is, any-is, then}
 use Rattle.sentences.proofs.HoldsClass.{holds-class}
-use Rattle.sentences.proofs.HoldsLines.{holds-lines}
+use Rattle.sentences.proofs.HoldsLines.{drives-is}
 use Rattle.sentences.proofs.HoldsSamples.{holds-assigned}
 use Rattle.sentences.proofs.Words.{holds-event}
 
@@ -46,7 +46,7 @@ holds-outputs h =
           (and-is (bit (h .interrupts .state) k) (bit (h .interrupts .enable) k) Iff·rfl Iff·rfl);
       line = λ e l.
           same-word (bit-bitsOf 4 (λ e. anyTo (λ k. drives (classAt h k) e) 4) e l)
-          (any-is _ (λ k. drives (classAt h k) e) 4 (λ k m. holds-lines (classAt h k) e l));
+          (any-is _ (λ k. drives (classAt h k) e) 4 (λ k m. drives-is (classAt h k) e));
       interrupt-bits = up-to-15 _;
       line-bits = up-to-15 _;
     }
@@ -82,7 +82,7 @@ module _ (g : Handler) (w : Wires) (f : Effects) (v : Valid g) (r : RaisesFiveOr
         interrupt-bits = up-to-15 (interruptNow g w f);
         signals = signals g w f;
         meets = meets-signals;
-        steps = class-steps;
+        steps = λ k l. let q : k < 4 = omega arith in class-steps k q;
         entries = length-each 4 _;
         enable = refl;
         n = refl;

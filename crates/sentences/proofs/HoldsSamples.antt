@@ -2,7 +2,7 @@
 -- Assumes nothing.
 use Prim.Native.Nat.{ℕ, zero, suc, _+_, _*_, _≤_, _<_}
 use mathlib.Core.Path.{_≡_, refl, sym, ap, _∙_}
-use mathlib.Core.Logic.{_↔_, _⊎_, inl, inr, ⊎-elim, Iff·rfl}
+use mathlib.Core.Logic.{_↔_, ⊎-elim, Iff·rfl}
 use mathlib.Core.Bool.{Bool, true, false, false≢true, cond, not, _&&_, _||_}
 use native.Mathlib.Omega.{arith}
 use borrow.Author.Tests.{lt-ltb, le-ltb}
@@ -20,7 +20,7 @@ use Rattle.rules.specs.declared.Handler.{Handler}
 use Rattle.rules.specs.declared.Wires.{Wires}
 use Rattle.laws.proofs.StateLaws.{alert-sampled, local-sampled, armed-sampled}
 use Rattle.sentences.specs.Valid.{Valid}
-use Rattle.sentences.specs.Samples.{positive, negative, arming, Event, AlertEnabled, LocalEnabled, EqualWires, DifferingWrite, RaisesFiveOrNone, Occurs, Assigned, Sampled, SampleStep, AlertEventIs, OccursIs, AssignedIs}
+use Rattle.sentences.specs.Samples.{positive, negative, arming, Event, AlertEnabled, EqualWires, DifferingWrite, RaisesFiveOrNone, Occurs, Sampled, SampleStep, AlertEventIs, OccursIs, AssignedIs}
 use Rattle.sentences.proofs.Cases.{off, eq-is, lt-is, not-is, and-is, or-is, any-is, then}
 
 -- ── the pair of wires ──

@@ -1,14 +1,14 @@
 -- The rule of the whole tick satisfies the sentences: each step on its state, and refusal 7.
 -- Assumes nothing.
-use Prim.Native.Nat.{ℕ, _^_}
+use Prim.Native.Nat.{ℕ}
 use mathlib.Core.Path.{_≡_, refl, sym, ap, subst}
 use mathlib.Core.Logic.{_⊎_, inl, inr}
-use mathlib.Core.Bool.{true, false}
+use mathlib.Core.Bool.{false}
 use lib.Dec.{eqb}
 use Rattle.rules.specs.Access.{verdict, accessedBy, accessed, acted, answerTo, effects}
 use Rattle.rules.specs.Answer.{refusalNumber, number}
 use Rattle.rules.specs.Samples.{sampled}
-use Rattle.rules.specs.Tick.{outputOf, after, tick, ticked}
+use Rattle.rules.specs.Tick.{after, tick, ticked}
 use Rattle.rules.specs.Valid.{valid}
 use Rattle.rules.specs.declared.Access.{Access}
 use Rattle.rules.specs.declared.Handler.{Handler}
@@ -17,10 +17,11 @@ use Rattle.rules.specs.declared.Ticked.{Ticked}
 use Rattle.rules.specs.declared.Verdict.{Verdict}
 use Rattle.laws.proofs.Cases.{pick}
 use Rattle.laws.proofs.KeepsAccess.{acted-valid}
+use Rattle.laws.proofs.KeepsValid.{ticked-valid}
 use Rattle.laws.proofs.Refusal7.{ticked-good, ticked-bad}
 use Rattle.sentences.specs.Numbers.{Numbers}
 use Rattle.sentences.specs.Samples.{RaisesFiveOrNone}
-use Rattle.sentences.specs.Tick.{Runs, Refused7, TickOf, Tick, Step1}
+use Rattle.sentences.specs.Tick.{Runs, Refused7, Tick, Step1}
 use Rattle.sentences.specs.Valid.{Valid}
 use Rattle.sentences.proofs.Cases.{off}
 use Rattle.sentences.proofs.HoldsOutputs.{holds-outputs, holds-classes}
@@ -74,6 +75,7 @@ holds-tick h x =
       refused = λ n. refuses h x (off (valid h) (holds-valid h) n);
       runs = λ v.
           subst (Runs (accessed h (x .access)) (x .sample .alerts)) (sym (ticked-good h x (holds-valid h .1 v))) (runs-tick h x v);
+      stays-valid = λ v. holds-valid (ticked h x .handler) .0 (ticked-valid h x (holds-valid h .1 v));
     }
 
 -- ── the numbers that come back ──

@@ -1,6 +1,6 @@
 -- The test of refusal 7 satisfies its sentences.
 -- Assumes nothing.
-use Prim.Native.Nat.{ℕ, zero, suc, _+_, _^_, _≤_, _<_}
+use Prim.Native.Nat.{ℕ, zero, suc, _≤_, _<_}
 use mathlib.Core.Path.{_≡_}
 use mathlib.Core.Logic.{_↔_}
 use mathlib.Core.Bool.{Bool, true}
@@ -9,19 +9,17 @@ use native.Mathlib.Omega.{arith}
 use borrow.Author.Tests.{leb-true, le-leb}
 use lib.Dec.{leb}
 use lib.ListN.{getD}
-use Rattle.bits.specs.Bits.{fits}
 use Rattle.bits.specs.Index.{allTo}
 use Rattle.bits.proofs.IndexLaws.{all-at, all-of}
-use Rattle.class_rules.specs.Class.{classFits}
 use Rattle.rules.specs.State.{localColumn, alertColumn, classAt}
 use Rattle.rules.specs.Stages.{localStages, alertStages, classStages}
-use Rattle.rules.specs.Valid.{columnFits, columnsFit, codeFits, codesFit, fieldStagesFit, classStagesFit, stagesFit, valid}
+use Rattle.rules.specs.Valid.{columnFits, columnsFit, codesFit, fieldStagesFit, classStagesFit, stagesFit, valid}
 use Rattle.rules.specs.declared.ClassStages.{ClassStages}
 use Rattle.rules.specs.declared.Field.{Field}
 use Rattle.rules.specs.declared.Handler.{Handler}
 use Rattle.sentences.specs.Fits.{Fits}
-use Rattle.sentences.specs.Valid.{StagedUpTo, Valid, ValidIs}
-use Rattle.sentences.proofs.Cases.{le-is, most, and-is, and3-is, then, same-test}
+use Rattle.sentences.specs.Valid.{StagedUpTo, ValidIs}
+use Rattle.sentences.proofs.Cases.{le-is, most, and-is, same-test}
 use Rattle.sentences.proofs.HoldsFits.{holds-fits}
 
 -- every i below n

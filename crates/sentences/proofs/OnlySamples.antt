@@ -1,6 +1,6 @@
 -- No sentence of step 2 is missing: whatever satisfies them gives one result. Nothing here knows the rules' definitions.
 -- Assumes nothing.
-use Prim.Native.Nat.{ℕ, _+_, _-_, _*_, _^_, _≤_, _<_}
+use Prim.Native.Nat.{ℕ, _+_, _-_, _*_, _≤_, _<_}
 use mathlib.Core.Path.{_≡_, refl, sym, ap, _∙_}
 use mathlib.Core.Bool.{Bool, true, false}
 use mathlib.Core.List.{List}
@@ -45,6 +45,7 @@ module _ (g : Handler) (w : Wires) (f : Effects) (h k : Handler) (a : Sampled g 
       by-wires s false true false x y z = a .disarmed i s x y z ∙ sym (b .disarmed i s x y z)
       by-wires s r false true x y z = a .rearms i s y z ∙ sym (b .rearms i s y z)
       by-wires s r false false x y z = a .equal-wires i s (y ∙ sym z) ∙ sym (b .equal-wires i s (y ∙ sym z))
+
       go : Dec (i < g .n) → arming h i ≡ arming k i
       go (yes s) = by-wires s (arming g i) (positive w i) (negative w i) refl refl refl
       go (no s) = let u : g .n ≤ i = omega arith in a .arming-above i u l ∙ sym (b .arming-above i u l)

@@ -2,7 +2,7 @@
 -- the rules' definitions, but for the test that tells whether refusal 7 meets a state.
 -- Assumes nothing.
 use Prim.Native.Nat.{ℕ, _≤_, _<_}
-use mathlib.Core.Path.{_≡_, refl, sym, ap, _∙_, subst}
+use mathlib.Core.Path.{_≡_, refl, sym, _∙_, subst}
 use mathlib.Core.Logic.{_↔_}
 use mathlib.Core.Bool.{Bool, true, false, false≢true}
 use mathlib.Core.List.{[]}
@@ -11,7 +11,6 @@ use lib.IntN.{ℤ}
 use lib.ListN.{getD}
 use Rattle.bits.specs.Bits.{bit}
 use Rattle.bits.proofs.BitLaws.{bit-ext}
-use Rattle.class_rules.specs.declared.Class.{Class}
 use Rattle.class_rules.specs.declared.Signals.{Signals}
 use Rattle.rules.specs.Valid.{valid}
 use Rattle.rules.specs.declared.Access.{Access}
@@ -20,7 +19,6 @@ use Rattle.rules.specs.declared.Answer.{Answer}
 use Rattle.rules.specs.declared.Effects.{Effects}
 use Rattle.rules.specs.declared.Handler.{Handler}
 use Rattle.rules.specs.declared.Input.{Input}
-use Rattle.rules.specs.declared.Interrupts.{Interrupts}
 use Rattle.rules.specs.declared.Output.{Output}
 use Rattle.rules.specs.declared.Refusal.{Refusal}
 use Rattle.rules.specs.declared.Refusal.the-variants.{NoRegister, WrongWay, Locked, TooWide, BadRecord, BadCount, BadState, BadLength, ShortList, NoRecord, ShortBuffer, Differs, SillyThreshold}
@@ -29,7 +27,7 @@ use Rattle.rules.specs.declared.Wires.{Wires}
 use Rattle.sentences.specs.ClassStep.{Stepped}
 use Rattle.sentences.specs.Fits.{Fits}
 use Rattle.sentences.specs.Numbers.{Numbers}
-use Rattle.sentences.specs.Outputs.{Meets, ClassesStepped, OutputOf, Outputs}
+use Rattle.sentences.specs.Outputs.{ClassesStepped, OutputOf, Outputs}
 use Rattle.sentences.specs.Tick.{Runs, Refused7, Tick, Step1}
 use Rattle.sentences.specs.Valid.{Valid, classOf}
 use Rattle.sentences.proofs.Cases.{same-test}
@@ -128,15 +126,16 @@ same-refused h t u x y = λ i.
       output = record { interrupts = (x .interrupts ∙ sym (y .interrupts)) i; lines = (x .lines ∙ sym (y .lines)) i };
     }
 
--- two ticks over one step 1 are one, of every state and input
-pub only-tick : (step1 : Handler → Access → Accessed) → Step1 step1 → (f g : Handler → Input → Ticked) → Tick step1 f → Tick step1 g
-    → (h : Handler) (x : Input) → f h x ≡ g h x
-only-tick step1 s f g a b h x = go (valid h) (holds-valid h)
+-- two ticks are one, of every state and input, over steps 1 that give one result where refusal 7 does not meet the state
+pub only-tick : (p q : Handler → Access → Accessed) → Step1 p → ((h : Handler) (x : Access) → Valid h → p h x ≡ q h x)
+    → (f g : Handler → Input → Ticked) → Tick p f → Tick q g → (h : Handler) (x : Input) → f h x ≡ g h x
+only-tick p q s e f g a b h x = go (valid h) (holds-valid h)
   where
     go : (t : Bool) → (t ≡ true) ↔ Valid h → f h x ≡ g h x
     go true v =
         let w = v .0 refl in
-        same-ticked (step1 h (x .access)) (x .sample .alerts) (f h x) (g h x) (s .valid h (x .access) w) (a h x .runs w) (b h x .runs w)
+        same-ticked (p h (x .access)) (x .sample .alerts) (f h x) (g h x) (s .valid h (x .access) w) (a h x .runs w)
+        (subst (λ (d : Accessed). Runs d (x .sample .alerts) (g h x)) (sym (e h (x .access) w)) (b h x .runs w))
     go false v =
         let n : ¬ Valid h = λ w. false≢true (v .1 w) in same-refused h (f h x) (g h x) (a h x .refused n) (b h x .refused n)
 

@@ -1,7 +1,6 @@
 -- "One tick, in order": which step works on which state, and refusal 7, in sentences: raw fields and plain comparisons, and no definition of
 -- the rules. Step 1 is given: `step1` is any function of a state and an access, and Access.antt has its sentences.
 -- Assumes nothing.
-use Prim.Native.Nat.{ℕ}
 use mathlib.Core.Path.{_≡_}
 use Rattle.rules.specs.declared.Access.{Access}
 use Rattle.rules.specs.declared.Accessed.{Accessed}
@@ -46,6 +45,8 @@ pub record TickOf (step1 : Handler → Access → Accessed) (h : Handler) (x : I
   pub refused : ¬ Valid h → Refused7 h t
   -- "1. The access, on the state before any event of this tick", the steps after it "in order"
   pub runs : Valid h → Runs (step1 h (x .access)) (x .sample .alerts) t
+  -- "States that calls produce never get it": refusal 7
+  pub stays-valid : Valid h → Valid (t .handler)
 
 abbrev pub Tick : (Handler → Access → Accessed) → (Handler → Input → Ticked) → Type 0
 Tick step1 tick = (h : Handler) (x : Input) → TickOf step1 h x (tick h x)
