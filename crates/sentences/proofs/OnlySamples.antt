@@ -24,7 +24,7 @@ pub same-list : {A : Type 0} (n : ℕ) (d : A) (xs ys : List A) → length xs �
 same-list n d xs ys l m e = ext-getD d xs ys (l ∙ sym m) (λ i h. e i (omega arith))
 
 -- two lists of four words of 64 bits
-same-words : (xs ys : List ℕ) → length xs ≡ 4 → length ys ≡ 4 → ((v : ℕ) → v < 4 → getD xs v 0 ≤ 18446744073709551615)
+pub same-words : (xs ys : List ℕ) → length xs ≡ 4 → length ys ≡ 4 → ((v : ℕ) → v < 4 → getD xs v 0 ≤ 18446744073709551615)
     → ((v : ℕ) → v < 4 → getD ys v 0 ≤ 18446744073709551615) → ((i : ℕ) → i < 256 → placeIn xs i ≡ placeIn ys i) → xs ≡ ys
 same-words xs ys l m x y e = same-list 4 0 xs ys l m (λ v h. bit-ext 64 (getD xs v 0) (getD ys v 0) (omega (arith, x v h)) (omega (arith, y v h)) (at v h))
   where
