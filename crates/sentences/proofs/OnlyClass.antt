@@ -13,7 +13,7 @@ use Rattle.class_rules.specs.declared.Signals.{Signals}
 use Rattle.sentences.specs.Fits.{Fits, ClassFits}
 use Rattle.sentences.specs.ClassStep.{Lock, Trigger, Due, At, Enters, Stepped, ClassStep, ClassEvent}
 use Rattle.sentences.specs.Lines.{Drives}
-use Rattle.sentences.specs.Start.{TriggerIs, DueIs, StartsIs, StateIs}
+use Rattle.sentences.specs.Start.{TriggerIs, DueIs, StartsIs, StateIs, SettingsAre}
 use Rattle.sentences.proofs.Cases.{by-state, by-phase, either, same-test}
 
 abbrev Same : Class → Class → Type 0
@@ -134,3 +134,21 @@ only-state f p g q x y =
 
 pub only-phase : (f p g q : ℕ → ClassState) → StateIs f p → StateIs g q → (n : ℕ) → n < 4 → p n ≡ q n
 only-phase f p g q x y n h = x .phases n h ∙ only-state f p g q x y (4 + n) (omega arith) (λ e. omega arith) ∙ sym (y .phases n h)
+
+-- CTRL's fields and the phase lengths
+module _ (en lock en' lock' : Class → Bool) (enable enable' : Class → ℕ → Bool) (map cyc map' cyc' : Class → ℕ → ℕ)
+    (x : SettingsAre en lock enable map cyc) (y : SettingsAre en' lock' enable' map' cyc') (c : Class) where
+  pub only-en : en c ≡ en' c
+  only-en = same-test (en c) (en' c) (x .is-en c) (y .is-en c)
+
+  pub only-lock : lock c ≡ lock' c
+  only-lock = same-test (lock c) (lock' c) (x .is-lock c) (y .is-lock c)
+
+  pub only-enable : (e : ℕ) → e < 4 → enable c e ≡ enable' c e
+  only-enable e l = same-test (enable c e) (enable' c e) (x .enable c e l) (y .enable c e l)
+
+  pub only-map : (e : ℕ) → e < 4 → map c e ≡ map' c e
+  only-map e l = x .map c e l ∙ sym (y .map c e l)
+
+  pub only-length : (p : ℕ) → p < 4 → cyc c p ≡ cyc' c p
+  only-length p l = x .length c p l ∙ sym (y .length c p l)

@@ -44,13 +44,13 @@ pub record Stepped (s : Signals) (c d : Class) : Type 0 where
   pub accum-adds : s .clear ≡ false → s .event ≡ true → c .accum < 65535 → d .accum ≡ c .accum + 1
   -- "staying at 65,535"
   pub accum-full : s .clear ≡ false → s .event ≡ true → c .accum ≡ 65535 → d .accum ≡ 65535
-  -- and nothing else changes it. "Counting goes on in every state": none of these four reads STATE
+  -- a reading: nothing else changes it. "Counting goes on in every state": none of these four reads STATE
   pub accum-stays : s .clear ≡ false → s .event ≡ false → d .accum ≡ c .accum
   -- "Idle: trigger to Phase 0, count 1"
   pub idle-starts : c .state ≡ 0 → Trigger s c → At d 4 1
   -- "else if due to Timeout, count 1"
   pub idle-due : c .state ≡ 0 → ¬ Trigger s c → Due s c → At d 1 1
-  -- and else it stays
+  -- a reading: else it stays
   pub idle-stays : c .state ≡ 0 → ¬ Trigger s c → ¬ Due s c → At d 0 (c .count)
   -- "Timeout: trigger, .. to Phase 0, count 1"
   pub timeout-starts : c .state ≡ 1 → Trigger s c → At d 4 1
@@ -68,15 +68,15 @@ pub record Stepped (s : Signals) (c d : Class) : Type 0 where
   pub phase-last : c .state ≡ 4 + 3 → s .clear ≡ false → getD (c .lengths) 3 0 ≤ c .count → At d 3 0
   -- "else add 1". "EN is not read": none of these four reads it
   pub phase-adds : (p : ℕ) → p < 4 → c .state ≡ 4 + p → s .clear ≡ false → c .count < getD (c .lengths) p 0 → At d (4 + p) (c .count + 1)
-  -- "Terminal: accepted clear to Idle"
+  -- "Terminal: accepted clear to Idle"; a reading: the count stays, which is 0 in Terminal and in Idle
   pub terminal-clear : c .state ≡ 3 → s .clear ≡ true → At d 0 (c .count)
-  -- and else it stays
+  -- a reading: else it stays
   pub terminal-stays : c .state ≡ 3 → s .clear ≡ false → At d 3 (c .count)
   -- "Entering Phase 0 from Idle or Timeout with LOCK set makes CLR_REGWEN 0"
   pub locks : Enters c d → Lock c → d .clrwen ≡ 0
-  -- and nothing else changes it
+  -- a reading: nothing else in these steps changes it
   pub clrwen-stays : ¬ (Enters c d × Lock c) → d .clrwen ≡ c .clrwen
-  -- the other registers of the block stay
+  -- a reading: what the steps do not name stays
   pub lengths : d .lengths ≡ c .lengths
   pub timeout : d .timeout ≡ c .timeout
   pub ctrl : d .ctrl ≡ c .ctrl

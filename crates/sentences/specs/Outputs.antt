@@ -29,7 +29,7 @@ pub record Meets (g : Handler) (w : Wires) (f : Effects) (m h : Handler) (k : �
   pub event : (s .event ≡ true) ↔ ClassHasEvent g w f m k
   -- "the interrupt bit is now 1"
   pub interrupt : (s .interrupt ≡ true) ↔ (bit (h .interrupts .state) k ≡ true)
-  -- "A write of 1 to CLR is an accepted clear": step 1 hands on whether class k has one, "class 0 is lowest"
+  -- "A write of 1 to CLR is an accepted clear": step 1 hands on whether class k has one, class 0 at the lowest bit
   pub clear : (s .clear ≡ true) ↔ (bit (f .clears) k ≡ true)
 
 pub record ClassesStepped (g : Handler) (w : Wires) (f : Effects) (m h : Handler) : Type 0 where
@@ -42,7 +42,7 @@ pub record ClassesStepped (g : Handler) (w : Wires) (f : Effects) (m h : Handler
   pub meets : (k : ℕ) → k < 4 → Meets g w f m h k (signals k)
   pub steps : (k : ℕ) → k < 4 → Stepped (signals k) (classOf m k) (classOf h k)
   pub entries : length (h .classes) ≡ 4
-  -- all else stays
+  -- a reading: what the steps do not name stays
   pub enable : h .interrupts .enable ≡ m .interrupts .enable
   pub n : h .n ≡ m .n
   pub receivers : h .receivers ≡ m .receivers

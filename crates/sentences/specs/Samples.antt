@@ -66,25 +66,26 @@ pub record Sampled (g : Handler) (w : Wires) (f : Effects) (h : Handler) : Type 
   pub rearms : (i : ℕ) → i < g .n → positive w i ≡ false → negative w i ≡ true → arming h i ≡ true
   -- "equal wires change no arming"
   pub equal-wires : (i : ℕ) → i < g .n → positive w i ≡ negative w i → arming h i ≡ arming g i
-  -- and an alert that is not re-armed stays so until (0,1)
+  -- a reading: (1,0) on an alert that is not re-armed leaves it so, since only (0,1) re-arms
   pub disarmed : (i : ℕ) → i < g .n → arming g i ≡ false → positive w i ≡ true → negative w i ≡ false → arming h i ≡ false
-  -- "Samples at N and above count for nothing"; "Stored entries at N and above .. no call changes them": four words of 64
+  -- "Samples at N and above count for nothing"; "Stored entries at N and above .. no call changes them"; a reading: nor the
+  -- bits past the 248th entry, since the arming has four words of 64
   pub arming-above : (i : ℕ) → g .n ≤ i → i < 256 → arming h i ≡ arming g i
   pub arming-words : length (h .receivers .armed) ≡ 4
   pub arming-word : (v : ℕ) → v < 4 → getD (h .receivers .armed) v 0 ≤ 18446744073709551615
   -- "An enabled alert's event sets its cause"
   pub cause-sets : (i : ℕ) → Event g w i → AlertEnabled g i → getD (h .alerts .cause) i 0 ≡ 1
-  -- and nothing else in this step changes it, at N and above either
+  -- a reading: nothing else in this step changes it, at N and above either
   pub cause-stays : (i : ℕ) → i < 248 → ¬ (Event g w i × AlertEnabled g i) → getD (h .alerts .cause) i 0 ≡ getD (g .alerts .cause) i 0
   -- request (iii): "A new handler starts with 248 alert entries"
   pub cause-entries : length (h .alerts .cause) ≡ 248
   -- "local 2 occurs and sets its cause", and 5 likewise
   pub local-sets : (j : ℕ) → j < 7 → Occurs g w f j → getD (h .locals .cause) j 0 ≡ 1
-  -- and nothing else in this step changes it. "A disabled local alert never occurs"
+  -- a reading: nothing else in this step changes it. "A disabled local alert never occurs"
   pub local-stays : (j : ℕ) → j < 7 → ¬ Occurs g w f j → getD (h .locals .cause) j 0 ≡ getD (g .locals .cause) j 0
   -- "local alert j is 0 to 6"
   pub local-entries : length (h .locals .cause) ≡ 7
-  -- every other register stays, and N and the stages
+  -- a reading: what a step does not name stays, here N, the stages and every other register
   pub n : h .n ≡ g .n
   pub alert-regwen : h .alerts .regwen ≡ g .alerts .regwen
   pub alert-en : h .alerts .en ≡ g .alerts .en

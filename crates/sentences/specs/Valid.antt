@@ -32,12 +32,12 @@ pub record Valid (h : Handler) : Type 0 where
   -- "any register holding more than its field's bits": INTR_STATE and INTR_ENABLE, 4
   pub intr-state : h .interrupts .state ≤ 15
   pub intr-enable : h .interrupts .enable ≤ 15
-  -- "local REGWEN, EN, CLASS, CAUSE: 1, 1, 2, 1"; "local alert j is 0 to 6"; "an alert or local class over 3"
+  -- "local REGWEN, EN, CLASS, CAUSE" hold "1, 1, 2, 1" bits; "local alert j is 0 to 6"; "an alert or local class over 3"
   pub local-regwen : (j : ℕ) → j < 7 → getD (h .locals .regwen) j 0 ≤ 1
   pub local-en : (j : ℕ) → j < 7 → getD (h .locals .en) j 0 ≤ 1
   pub local-class : (j : ℕ) → j < 7 → getD (h .locals .class) j 0 ≤ 3
   pub local-cause : (j : ℕ) → j < 7 → getD (h .locals .cause) j 0 ≤ 1
-  -- "alert REGWEN, EN, CLASS, CAUSE: 1, 1, 2, 1"; "Stored entries at N and above are no registers: .. refusal 7 does not look at them"
+  -- "alert REGWEN, EN, CLASS, CAUSE" hold "1, 1, 2, 1" bits; "Stored entries at N and above are no registers: .. refusal 7 does not look at them"
   pub alert-regwen : (i : ℕ) → i < h .n → getD (h .alerts .regwen) i 0 ≤ 1
   pub alert-en : (i : ℕ) → i < h .n → getD (h .alerts .en) i 0 ≤ 1
   pub alert-class : (i : ℕ) → i < h .n → getD (h .alerts .class) i 0 ≤ 3
