@@ -5,7 +5,7 @@ use mathlib.Core.Path.{_≡_, ap, _∙_}
 use mathlib.Core.Bool.{Bool, true, false, cond}
 use mathlib.Core.List.{List}
 use lib.Dec.{eqb}
-use lib.ListN.{getD, length}
+use lib.ListN.{getD, length, replicate, length-replicate, getD-replicate}
 use Rattle.bits.proofs.IndexLaws.{length-each}
 use Rattle.class_rules.specs.Class.{noClass}
 use Rattle.class_rules.specs.declared.Class.{Class}
@@ -19,7 +19,7 @@ use Rattle.laws.proofs.StageLaws.{class-put}
 use Rattle.laws.proofs.Step1.{acted-but-stages}
 use Rattle.rules.specs.Access.{fieldStored, store, withSetting, acted, named}
 use Rattle.rules.specs.Stages.{localStages, alertStages, noClassStages, isOpen, classStages, withSettingStage, withStage, dropped}
-use Rattle.rules.specs.State.{put, fieldIndex, local, alert, classAt, localColumn, alertColumn, withStages}
+use Rattle.rules.specs.State.{put, fieldIndex, local, alert, classAt, localColumn, alertColumn, withStages, resetClass, newHandler}
 use Rattle.rules.specs.declared.Access.{Access}
 use Rattle.rules.specs.declared.ClassStages.{ClassStages}
 use Rattle.rules.specs.declared.Field.{Field}
@@ -180,3 +180,27 @@ holds-arrays h x s =
 
     c : Codes (acted h x .stages)
     c = stages-either h x Codes codes (drop-codes (h .stages) (named h x) codes) (λ v. put-codes (h .stages) (v + 1) codes (named h x))
+
+-- ── a new handler has them ──
+
+column : (n v : ℕ) → length (replicate n v) ≡ n
+column n v = length-replicate n v
+
+abbrev blank : ClassStages
+blank = record { lengths = replicate 4 0; timeout = 0; ctrl = 0; thresh = 0 }
+
+pub new-arrays : (n : ℕ) → Sized (newHandler n)
+unfolding newHandler
+new-arrays n =
+    record {
+      alerts = by-field (λ f. length (alertList (newHandler n) f) ≡ 248) (column 248 1) (column 248 0) (column 248 0) (column 248 0);
+      locals = by-field (λ f. length (localList (newHandler n) f) ≡ 7) (column 7 1) (column 7 0) (column 7 0) (column 7 0);
+      classes = length-replicate 4 resetClass;
+      lengths = λ k l. ap (λ (c : Class). length (c .lengths)) (getD-replicate 4 k resetClass noClass l) ∙ column 4 0;
+      alert-en = column 248 0;
+      alert-class = column 248 0;
+      local-en = column 7 0;
+      local-class = column 7 0;
+      stages = length-replicate 4 blank;
+      stage-lengths = λ k l. ap (λ (c : ClassStages). length (c .lengths)) (getD-replicate 4 k blank noClassStages l) ∙ column 4 0;
+    }

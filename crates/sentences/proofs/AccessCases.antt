@@ -15,6 +15,10 @@ use Rattle.rules.specs.declared.Access.the-variants.{Nothing, Read, Write, Malf
 pub both-give : {A P : Type 0} {y z m : A} → (y ≡ m) ↔ P → (z ≡ m) ↔ P → P → y ≡ z
 both-give f g p = f .1 p ∙ sym (g .1 p)
 
+-- where one gives it, both do
+pub both-are : {A P : Type 0} {y z m : A} → (y ≡ m) ↔ P → (z ≡ m) ↔ P → y ≡ m → y ≡ z
+both-are f g e = e ∙ sym (g .1 (f .0 e))
+
 -- lists of n entries with equal entries
 pub same-list : {A : Type 0} (d : A) (n : ℕ) (xs ys : List A) → length xs ≡ n → length ys ≡ n → ((i : ℕ) → i < n → getD xs i d ≡ getD ys i d) → xs ≡ ys
 same-list d n xs ys l m e = ext-getD d xs ys (l ∙ sym m) (λ i h. e i (omega arith))

@@ -5,12 +5,12 @@ use mathlib.Core.Path.{_≡_, refl, sym, ap, _∙_, subst}
 use mathlib.Core.Logic.{_↔_}
 use mathlib.Core.Bool.{Bool, true, false, cond, _&&_}
 use native.Mathlib.Omega.{arith}
-use borrow.Author.Tests.{eqb-true, eq-eqb}
-use lib.Dec.{eqb}
+use borrow.Author.Tests.{eqb-true, eq-eqb, ltb-true}
+use lib.Dec.{eqb, ltb}
 use Rattle.bits.proofs.BitLaws.{bit-none, bitsOf-lt}
 use Rattle.bits.proofs.IndexLaws.{and-true, true-and}
 use Rattle.bits.specs.Bits.{bit}
-use Rattle.laws.proofs.Step1.{clears-if}
+use Rattle.laws.proofs.Step1.{clears-if, cleared-lt}
 use Rattle.rules.specs.Access.{verdict, accepted, settingIsClr, isClrOf, writesClr, accessedBy, accessed, effects, clears}
 use Rattle.rules.specs.Answer.{refusalNumber}
 use Rattle.rules.specs.Map.{decode, isRegister, bits}
@@ -25,7 +25,7 @@ use Rattle.rules.specs.declared.Verdict.{Verdict}
 use Rattle.sentences.specs.Access.{Handed}
 use Rattle.sentences.specs.AccessMap.{Row}
 use Rattle.sentences.specs.AccessRefusals.{Writes, Accepted}
-use Rattle.sentences.proofs.AccessMap.{decode-row}
+use Rattle.sentences.proofs.AccessMap.{found, decode-row}
 use Rattle.sentences.proofs.AccessRefusals.{written-is}
 use Rattle.sentences.proofs.AccessVerdict.{refusalOf, is-12, accepted-is}
 use Rattle.sentences.proofs.AccessWays.{never}
@@ -80,6 +80,13 @@ module _ (h : Handler) (x : Access) (m : h .n ≤ 248) where
       let f = and-is (accepted h x) (writesClr h x k) (accepted-is h x m) (writes-clr k) in
       (λ e. f .0 (sym (clears-if h x k l) ∙ e), λ p. clears-if h x k l ∙ f .1 p)
 
+  pub clears-hold : (k : ℕ) → (clears h x k ≡ true) ↔ (Accepted h x × Writes h x (Block Clr k) 1)
+  unfolding clears
+  clears-hold k = (λ e. clears-is k (cleared-lt h x k e) .0 e, λ p. clears-is k (lt (p .1)) .1 p)
+    where
+      lt : Writes h x (Block Clr k) 1 → k < 4
+      lt w = ltb-true k 4 (and-true (ltb k 4) true (found (h .n) (w .number) (Block Clr k) (w .names .0) (w .names .1) .exists) .0)
+
   clears-width : effects h x .clears < 16
   unfolding effects accessed
   clears-width = go (verdict h x)
@@ -130,7 +137,7 @@ module _ (h : Handler) (x : Access) (m : h .n ≤ 248) where
       record {
         clears = clears-is;
         classes = clears-width;
-        raises = λ j l. let f = raised j l in
+        raises = λ j l. let f = raised j (omega arith) in
             (λ e. (f .0 e .0, is-12 h x m .0 (f .0 e .1)), λ s. f .1 (s .0, is-12 h x m .1 (s .1)));
         locals = raises-width;
       }

@@ -1,7 +1,8 @@
--- No sentence of step 1 is missing: whatever satisfies them gives one answer and one set of effects. Nothing here knows the rules' definitions.
+-- No sentence of step 1 is missing: whatever satisfies them gives one answer, one set of effects and one verdict. Nothing here knows the rules' definitions.
 -- Assumes nothing.
-use mathlib.Core.Path.{_≡_, refl, sym, _∙_}
+use mathlib.Core.Path.{_≡_, refl, sym, ap, _∙_}
 use mathlib.Core.Logic.{inl}
+use mathlib.Core.Bool.{Bool, true, false, false≢true}
 use lib.IntN.{ℤ, ℤ-discrete}
 use Rattle.bits.proofs.BitLaws.{bit-ext}
 use Rattle.bits.specs.Bits.{bit}
@@ -9,11 +10,13 @@ use Rattle.rules.specs.declared.Access.{Access}
 use Rattle.rules.specs.declared.Access.the-variants.{Nothing, Read, Write}
 use Rattle.rules.specs.declared.Effects.{Effects}
 use Rattle.rules.specs.declared.Handler.{Handler}
+use Rattle.rules.specs.declared.Refusal.{Refusal}
 use Rattle.rules.specs.declared.Register.{Register}
-use Rattle.sentences.specs.Access.{Answered, Handed}
+use Rattle.rules.specs.declared.Verdict.{Verdict}
+use Rattle.sentences.specs.Access.{Answered, Handed, Judged}
 use Rattle.sentences.specs.AccessMap.{Names}
 use Rattle.sentences.specs.AccessRefusals.{Reads, Malformed, NoRegister, WrongWay, TooWide, SillyThreshold, Locked, Differs, Accepted}
-use Rattle.sentences.proofs.AccessCases.{both-give, no-read}
+use Rattle.sentences.proofs.AccessCases.{both-give, both-are, no-read}
 use Rattle.sentences.proofs.Cases.{either, same-test}
 
 module _ (h : Handler) (x : Access) (y z : ℤ) (a : Answered h x y) (b : Answered h x z) where
@@ -48,3 +51,57 @@ module _ (h : Handler) (x : Access) (d e : Effects) (a : Handed h x d) (b : Hand
 
       raises : d .raises ≡ e .raises
       raises = bit-ext 7 (d .raises) (e .raises) (a .locals) (b .locals) (λ j l. same-test (bit (d .raises) j) (bit (e .raises) j) (a .raises j l) (b .raises j l))
+
+-- ── the verdict ──
+
+-- one of those that the sentences speak of
+abbrev isSaid : Verdict → Bool
+isSaid Verdict.Accepted = true
+isSaid (Verdict.Refused Refusal.NoRegister) = true
+isSaid (Verdict.Refused Refusal.WrongWay) = true
+isSaid (Verdict.Refused Refusal.Locked) = true
+isSaid (Verdict.Refused Refusal.TooWide) = true
+isSaid (Verdict.Refused Refusal.BadRecord) = true
+isSaid (Verdict.Refused Refusal.BadCount) = false
+isSaid (Verdict.Refused Refusal.BadState) = false
+isSaid (Verdict.Refused Refusal.BadLength) = false
+isSaid (Verdict.Refused Refusal.ShortList) = false
+isSaid (Verdict.Refused Refusal.NoRecord) = false
+isSaid (Verdict.Refused Refusal.ShortBuffer) = false
+isSaid (Verdict.Refused Refusal.Differs) = true
+isSaid (Verdict.Refused Refusal.SillyThreshold) = true
+
+module _ (h : Handler) (x : Access) (t u : Verdict) (a : Judged h x t) (b : Judged h x u) where
+  -- it is one of them
+  said : (s : Verdict) → t ≡ s → isSaid s ≡ false → ⊥
+  said s e n =
+      let i : ¬ Malformed x = λ c. other refl (a .five .1 c) in
+      let j : ¬ NoRegister h x = λ c. other refl (a .one .1 (i, c)) in
+      let k : ¬ WrongWay h x = λ c. other refl (a .two .1 (i, (j, c))) in
+      let l : ¬ TooWide h x = λ c. other refl (a .four .1 (i, (j, (k, c)))) in
+      let m : ¬ SillyThreshold h x = λ c. other refl (a .fourteen .1 (i, (j, (k, (l, c))))) in
+      let o : ¬ Locked h x = λ c. other refl (a .three .1 (i, (j, (k, (l, (m, c)))))) in
+      let p : ¬ Differs h x = λ c. other refl (a .twelve .1 (i, (j, (k, (l, (m, (o, c))))))) in
+      other refl (a .accepted .1 (i, (j, (k, (l, (m, (o, p)))))))
+    where
+      other : {r : Verdict} → isSaid r ≡ true → t ≡ r → ⊥
+      other w d = false≢true (sym n ∙ ap isSaid (sym e ∙ d) ∙ w)
+
+  pub same-verdict : t ≡ u
+  same-verdict = go t refl
+    where
+      go : (s : Verdict) → t ≡ s → t ≡ u
+      go Verdict.Accepted e = both-are (a .accepted) (b .accepted) e
+      go (Verdict.Refused Refusal.NoRegister) e = both-are (a .one) (b .one) e
+      go (Verdict.Refused Refusal.WrongWay) e = both-are (a .two) (b .two) e
+      go (Verdict.Refused Refusal.Locked) e = both-are (a .three) (b .three) e
+      go (Verdict.Refused Refusal.TooWide) e = both-are (a .four) (b .four) e
+      go (Verdict.Refused Refusal.BadRecord) e = both-are (a .five) (b .five) e
+      go (Verdict.Refused Refusal.BadCount) e = absurd (said _ e refl)
+      go (Verdict.Refused Refusal.BadState) e = absurd (said _ e refl)
+      go (Verdict.Refused Refusal.BadLength) e = absurd (said _ e refl)
+      go (Verdict.Refused Refusal.ShortList) e = absurd (said _ e refl)
+      go (Verdict.Refused Refusal.NoRecord) e = absurd (said _ e refl)
+      go (Verdict.Refused Refusal.ShortBuffer) e = absurd (said _ e refl)
+      go (Verdict.Refused Refusal.Differs) e = both-are (a .twelve) (b .twelve) e
+      go (Verdict.Refused Refusal.SillyThreshold) e = both-are (a .fourteen) (b .fourteen) e

@@ -86,7 +86,7 @@ module _ (h : Handler) (x : Access) (m : h .n ≤ 248) where
         intr-test = intr-test h m x;
         intr-width = intr-width h m x;
         stays = stays h m x;
-        above = λ f i l b. sym (list-is (acted h x) f i) ∙ alert-above h f i l b x ∙ list-is h f i;
+        above = λ f i l b. sym (list-is (acted h x) f i) ∙ alert-above h f i (omega arith) (omega arith) x ∙ list-is h f i;
         n = acted-n h x;
         receivers = acted-receivers h x;
         after-5 = λ c. untouched Refusal.BadRecord refl (is-5 h x m .1 c);

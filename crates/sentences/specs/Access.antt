@@ -4,16 +4,18 @@
 use Prim.Native.Nat.{ℕ, _≤_, _<_}
 use mathlib.Core.Path.{_≡_}
 use mathlib.Core.Logic.{_↔_, _≢_}
-use mathlib.Core.Bool.{true}
+use mathlib.Core.Bool.{Bool, true}
 use lib.IntN.{ℤ, pos, negℤ}
 use Rattle.bits.specs.Bits.{bit}
 use Rattle.rules.specs.declared.Access.{Access}
 use Rattle.rules.specs.declared.Access.the-variants.{Read}
 use Rattle.rules.specs.declared.Effects.{Effects}
 use Rattle.rules.specs.declared.Handler.{Handler}
+use Rattle.rules.specs.declared.Refusal.{Refusal}
 use Rattle.rules.specs.declared.Register.{Register}
 use Rattle.rules.specs.declared.Register.the-variants.{Block}
 use Rattle.rules.specs.declared.Setting.the-variants.{Clr}
+use Rattle.rules.specs.declared.Verdict.{Verdict}
 use Rattle.sentences.specs.AccessArrays.{Sized}
 use Rattle.sentences.specs.AccessMap.{held}
 use Rattle.sentences.specs.AccessRefusals.{Reads, Writes, Given5, Given1, Given2, Given4, Given14, Given3, Given12, Accepted}
@@ -67,3 +69,24 @@ pub record Accessed (h : Handler) (x : Access) (g : Handler) (z : ℤ) (fx : Eff
 -- of every state with at most 248 alerts, which refusal 7 leaves, and every access
 abbrev pub AccessStep : (Handler → Access → Handler) → (Handler → Access → ℤ) → (Handler → Access → Effects) → Type 0
 AccessStep state answer effects = (h : Handler) (x : Access) → h .n ≤ 248 → Sized h → Accessed h x (state h x) (answer h x) (effects h x)
+
+-- ── two parts of it by themselves ──
+
+-- the verdict t: each refusal exactly in its case, and accepted exactly in none
+pub record Judged (h : Handler) (x : Access) (t : Verdict) : Type 0 where
+  pub five : (t ≡ Verdict.Refused Refusal.BadRecord) ↔ Given5 h x
+  pub one : (t ≡ Verdict.Refused Refusal.NoRegister) ↔ Given1 h x
+  pub two : (t ≡ Verdict.Refused Refusal.WrongWay) ↔ Given2 h x
+  pub four : (t ≡ Verdict.Refused Refusal.TooWide) ↔ Given4 h x
+  pub fourteen : (t ≡ Verdict.Refused Refusal.SillyThreshold) ↔ Given14 h x
+  pub three : (t ≡ Verdict.Refused Refusal.Locked) ↔ Given3 h x
+  pub twelve : (t ≡ Verdict.Refused Refusal.Differs) ↔ Given12 h x
+  pub accepted : (t ≡ Verdict.Accepted) ↔ Accepted h x
+
+abbrev pub AccessVerdict : (Handler → Access → Verdict) → Type 0
+AccessVerdict verdict = (h : Handler) (x : Access) → h .n ≤ 248 → Judged h x (verdict h x)
+
+-- whether class k has an accepted clear: "A write of 1 to CLR is an accepted clear; a 0 does nothing."
+abbrev pub AcceptedClear : (Handler → Access → ℕ → Bool) → Type 0
+AcceptedClear clears =
+    (h : Handler) (x : Access) (k : ℕ) → h .n ≤ 248 → (clears h x k ≡ true) ↔ (Accepted h x × Writes h x (Block Clr k) 1)
