@@ -1,5 +1,5 @@
 -- No sentence of step 1 is missing: whatever satisfies them leaves one state, gives one answer and hands on one set of effects, on every state of at
--- most 248 alerts, which refusal 7 leaves, and every access. Nothing here knows the rules' definitions.
+-- most 248 alerts, so on every one that refusal 7 does not meet, and every access. Nothing here knows the rules' definitions.
 -- Assumes nothing.
 use Prim.Native.Nat.{ℕ, _≤_}
 use mathlib.Core.Path.{_≡_}

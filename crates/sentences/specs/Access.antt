@@ -26,17 +26,17 @@ use Rattle.sentences.specs.StageWrites.{Staged}
 
 -- "a refusal gives the negated refusal number"; "Each is given exactly in its case."
 pub record Answered (h : Handler) (x : Access) (z : ℤ) : Type 0 where
-  -- "5: trace record malformed"
+  -- 5, "trace record malformed"
   pub five : (z ≡ negℤ (pos 5)) ↔ Given5 h x
-  -- "1: no such register"
+  -- 1, "no such register"
   pub one : (z ≡ negℤ (pos 1)) ↔ Given1 h x
-  -- "2: read of a write-only or write of a read-only register"
+  -- 2, "read of a write-only or write of a read-only register"
   pub two : (z ≡ negℤ (pos 2)) ↔ Given2 h x
-  -- "4: written value has a bit outside the field"
+  -- 4, "written value has a bit outside the field"
   pub four : (z ≡ negℤ (pos 4)) ↔ Given4 h x
   -- request (vii): "is refused with 14"
   pub fourteen : (z ≡ negℤ (pos 14)) ↔ Given14 h x
-  -- "3: register locked"
+  -- 3, "register locked"
   pub three : (z ≡ negℤ (pos 3)) ↔ Given3 h x
   -- request (v): "answers -12"
   pub twelve : (z ≡ negℤ (pos 12)) ↔ Given12 h x
@@ -66,7 +66,7 @@ pub record Accessed (h : Handler) (x : Access) (g : Handler) (z : ℤ) (fx : Eff
   pub arrays : Sized g
   pub handed : Handed h x fx
 
--- of every state with at most 248 alerts, which refusal 7 leaves, and every access
+-- of every state of at most 248 alerts, so of every one that refusal 7 does not meet, and of every access
 abbrev pub AccessStep : (Handler → Access → Handler) → (Handler → Access → ℤ) → (Handler → Access → Effects) → Type 0
 AccessStep state answer effects = (h : Handler) (x : Access) → h .n ≤ 248 → Sized h → Accessed h x (state h x) (answer h x) (effects h x)
 

@@ -1,5 +1,5 @@
--- The arrays of the state have the lengths that their types say: 248 alerts, 7 local alerts, 4 classes, 4 phases. No sentence of document 01, and true
--- of every state that a program holds; a state that is a list of another length is no handler's.
+-- The arrays of the state have the lengths that their types say: 248 alerts, 7 local alerts, 4 classes, 4 phases. This is no sentence of document 01:
+-- a proof sees an array as a list, which could have any length, and the program's arrays have these.
 -- Assumes nothing.
 use Prim.Native.Nat.{ℕ, _<_}
 use mathlib.Core.Path.{_≡_}

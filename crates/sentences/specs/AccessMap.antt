@@ -22,17 +22,17 @@ pub data Row (n : ℕ) : ℕ → Register → ℕ → Type 0 where
   intr-state : Row n 0 IntrState 4
   intr-enable : Row n 1 IntrEnable 4
   intr-test : Row n 2 IntrTest 4
-  -- "16+j, 24+j, 32+j, 40+j: local REGWEN, EN, CLASS, CAUSE: 1, 1, 2, 1"
+  -- "16+j, 24+j, 32+j, 40+j | local REGWEN, EN, CLASS, CAUSE | 1, 1, 2, 1"
   local-regwen : (j : ℕ) → j < 7 → Row n (16 + j) (Local Field.Regwen j) 1
   local-en : (j : ℕ) → j < 7 → Row n (24 + j) (Local Field.En j) 1
   local-class : (j : ℕ) → j < 7 → Row n (32 + j) (Local Field.Class j) 2
   local-cause : (j : ℕ) → j < 7 → Row n (40 + j) (Local Field.Cause j) 1
-  -- "alert REGWEN, EN, CLASS, CAUSE: 1, 1, 2, 1"
+  -- "alert REGWEN, EN, CLASS, CAUSE | 1, 1, 2, 1"
   alert-regwen : (i : ℕ) → i < n → Row n (256 + i) (Alert Field.Regwen i) 1
   alert-en : (i : ℕ) → i < n → Row n (512 + i) (Alert Field.En i) 1
   alert-class : (i : ℕ) → i < n → Row n (768 + i) (Alert Field.Class i) 2
   alert-cause : (i : ℕ) → i < n → Row n (1024 + i) (Alert Field.Cause i) 1
-  -- "320+16k+0: class REGWEN: 1" and on to "+11, +12: ESC_CNT, STATE: 32, 3"
+  -- from "320+16k+0 | class REGWEN | 1" to "+11, +12 | ESC_CNT, STATE, read only | 32, 3"
   regwen : (k : ℕ) → k < 4 → Row n (1280 + 16 * k + 0) (Block Setting.Regwen k) 1
   ctrl : (k : ℕ) → k < 4 → Row n (1280 + 16 * k + 1) (Block Ctrl k) 14
   clr-regwen : (k : ℕ) → k < 4 → Row n (1280 + 16 * k + 2) (Block ClrRegwen k) 1
@@ -40,7 +40,7 @@ pub data Row (n : ℕ) : ℕ → Register → ℕ → Type 0 where
   accum-cnt : (k : ℕ) → k < 4 → Row n (1280 + 16 * k + 4) (Block AccumCnt k) 16
   accum-thresh : (k : ℕ) → k < 4 → Row n (1280 + 16 * k + 5) (Block AccumThresh k) 16
   timeout-cyc : (k : ℕ) → k < 4 → Row n (1280 + 16 * k + 6) (Block TimeoutCyc k) 32
-  -- "+7 to +10: PHASE0_CYC to PHASE3_CYC: 32"
+  -- "+7 to +10 | PHASE0_CYC to PHASE3_CYC | 32"
   phase-cyc : (k p : ℕ) → k < 4 → p < 4 → Row n (1280 + 16 * k + (7 + p)) (Block (PhaseCyc p) k) 32
   esc-cnt : (k : ℕ) → k < 4 → Row n (1280 + 16 * k + 11) (Block EscCnt k) 32
   state : (k : ℕ) → k < 4 → Row n (1280 + 16 * k + 12) (Block Setting.State k) 3
@@ -160,7 +160,7 @@ pub data Shadowed : Register → Type 0 where
   timeout-cyc : (k : ℕ) → Shadowed (Block TimeoutCyc k)
   phase-cyc : (k p : ℕ) → Shadowed (Block (PhaseCyc p) k)
 
--- ── what the state holds of a stage: 0 where none is open, the staged value plus 1 where one is; what is not shadowed has none ──
+-- ── what the state holds of a stage, in one code: 0 where none is open, the staged value plus 1 where one is. What is not shadowed has none ──
 
 -- past the four classes there is none: never read
 abbrev pub noBlockStages : ClassStages

@@ -43,13 +43,14 @@ pub record Written (h : Handler) (x : Access) (g : Handler) : Type 0 where
   -- "INTR_TEST, .. a 1 sets INTR_STATE"
   pub intr-test : (v : ℕ) → Commits h x IntrTest v → (k : ℕ) → k < 4
       → (bit (g .interrupts .state) k ≡ true) ↔ ((bit (h .interrupts .state) k ≡ true) ⊎ (bit v k ≡ true))
-  -- INTR_STATE has 4 bits
+  -- "INTR_STATE, a 1 clears | 4": its bits
   pub intr-width : (v : ℕ) → Commits h x IntrState v ⊎ Commits h x IntrTest v → g .interrupts .state < 16
-  -- every other register stays. A 0 written to CAUSE, and a write to CLR, changes none: "CLR holds no value"
+  -- a reading: every other register stays. So a first write, a 0 to CAUSE, and a write to CLR change none ("CLR holds no value"), nor does a write
+  -- refused with 3 or 12 ("changes nothing")
   pub stays : (r : ℕ) (q : Register) → Names (h .n) r q → ¬ Changes h x q → held g q ≡ held h q
   -- "Stored entries at N and above are no registers: .. no call changes them."
   pub above : (f : Field) (i : ℕ) → h .n ≤ i → i < 248 → getD (alertList g f) i 0 ≡ getD (alertList h f) i 0
-  -- N is no register, and the arming of alerts is step 2's
+  -- a reading: N stays, and so does the arming of the alerts, which is step 2's
   pub n : g .n ≡ h .n
   pub receivers : g .receivers ≡ h .receivers
   -- refusals 5, 1, 2 and 4: "access does nothing"; 14 too: "So 3 and 12 are now the refusals that may change something"

@@ -14,7 +14,7 @@ use Rattle.sentences.specs.AccessWrites.{Commits}
 pub record Staged (h : Handler) (x : Access) (g : Handler) : Type 0 where
   -- "the first is staged"
   pub first : (q : Register) (v : ℕ) → Accepted h x → Writes h x q v → Shadowed q → code h q ≡ 0 → code g q ≡ v + 1
-  -- "the second commits", and the stage is gone
+  -- "the second commits"; a reading: its stage is then gone
   pub second : (q : Register) (v : ℕ) → Shadowed q → Commits h x q v → code g q ≡ 0
   -- "A read of that register drops its stage."
   pub read : (q : Register) → Accepted h x → Reads h x q → code g q ≡ 0
@@ -22,7 +22,7 @@ pub record Staged (h : Handler) (x : Access) (g : Handler) : Type 0 where
   pub locked : (q : Register) (v : ℕ) → Given3 h x → Writes h x q v → code g q ≡ 0
   -- "A differing second write drops the stage"
   pub differs : (q : Register) (v : ℕ) → Given12 h x → Writes h x q v → code g q ≡ 0
-  -- every other stage stays. "A write refused with 1, 2 or 4 touches no stage", nor one refused with 5 or 14: these leave the whole state
+  -- a reading: every other stage stays. "A write refused with 1, 2 or 4 touches no stage", nor one refused with 5 or 14: these leave the whole state
   pub stays : (r : ℕ) (q : Register) → Names (h .n) r q → ¬ Reads h x q → ¬ ((v : ℕ) × Writes h x q v) → code g q ≡ code h q
   -- "Stored entries at N and above are no registers: .. no call changes them."
   pub above-en : (i : ℕ) → h .n ≤ i → i < 248 → getD (g .stages .alerts .en) i 0 ≡ getD (h .stages .alerts .en) i 0
