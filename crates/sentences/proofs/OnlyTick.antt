@@ -118,7 +118,7 @@ module _ (a : Accessed) (w : Wires) (t u : Ticked) (v : Valid (a .handler)) (x :
       }
 
 -- refusal 7
-same-refused : (h : Handler) (t u : Ticked) → Refused7 h t → Refused7 h u → t ≡ u
+pub same-refused : (h : Handler) (t u : Ticked) → Refused7 h t → Refused7 h u → t ≡ u
 same-refused h t u x y = λ i.
     record {
       handler = (x .state ∙ sym (y .state)) i;
