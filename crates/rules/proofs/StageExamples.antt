@@ -1,11 +1,12 @@
 -- Worked examples that pin where each stage stands, by computation.
 -- Assumes nothing.
-use Prim.Native.Nat.{ℕ, _+_, _^_}
+use Prim.Native.Nat.{ℕ, _+_, _-_, _^_}
 use mathlib.Core.Path.{_≡_, refl}
 use mathlib.Core.Bool.{true, false}
 use mathlib.Core.List.{[], _∷_, map}
 use lib.ListN.{set, replicate}
 use Rattle.bits.specs.Index.{each}
+use Rattle.class_rules.specs.declared.Class.{Class}
 use Rattle.rules.specs.Map.{decode}
 use Rattle.rules.specs.Stages.{stageIn, withStage, dropped}
 use Rattle.rules.specs.State.{newHandler, noStages, withStages}
@@ -102,3 +103,39 @@ covers = (refl, refl, refl, refl, refl, refl, refl, refl, refl, refl)
 above : map (λ r. valid (holding r 255)) (517 ∷ 759 ∷ 773 ∷ 1015 ∷ []) ≡ replicate 4 true
 unfolding rules
 above = refl
+
+-- a state that is full: every register and every stage at the largest that its field holds, every lock open or shut
+abbrev fullClass : ℕ → Class
+fullClass regwen =
+    record {
+      lengths = replicate 4 (2 ^ 32 - 1);
+      timeout = 2 ^ 32 - 1;
+      count = 2 ^ 32 - 1;
+      ctrl = 0x3FFF;
+      accum = 65535;
+      thresh = 65535;
+      regwen = regwen;
+      clrwen = regwen;
+      state = 7;
+    }
+
+abbrev full : ℕ → Handler
+full regwen =
+    record {
+      n = 5;
+      receivers = record { armed = replicate 4 0 };
+      classes = replicate 4 (fullClass regwen);
+      alerts = record { regwen = replicate 248 regwen; en = replicate 248 1; class = replicate 248 3; cause = replicate 248 1 };
+      locals = record { regwen = replicate 7 regwen; en = replicate 7 1; class = replicate 7 3; cause = replicate 7 1 };
+      interrupts = record { state = 15; enable = 15 };
+      stages =
+          record {
+            classes = replicate 4 (record { lengths = replicate 4 (2 ^ 32); timeout = 2 ^ 32; ctrl = 2 ^ 14; thresh = 2 ^ 16 });
+            alerts = record { en = replicate 248 2; class = replicate 248 4 };
+            locals = record { en = replicate 7 2; class = replicate 7 4 };
+          };
+    }
+
+fits : (valid (full 0) ≡ true) × (valid (full 1) ≡ true)
+unfolding rules
+fits = (refl, refl)
