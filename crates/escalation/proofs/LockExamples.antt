@@ -1,7 +1,7 @@
 -- Demand 3's locks by document 01's register numbers, for every list of ticks: what never changes once a REGWEN reads 0.
 -- Assumes nothing.
 use Prim.Native.Nat.{ℕ, _+_, _*_, _≤_, _<_}
-use mathlib.Core.Path.{_≡_, refl, sym, ap, _∙_}
+use mathlib.Core.Path.{_≡_, refl, sym, ap, _∙_, subst}
 use mathlib.Core.Logic.{_⊎_, ⊎-elim}
 use mathlib.Core.Bool.{true, false, _&&_}
 use mathlib.Core.List.{List, [], _∷_}
@@ -11,14 +11,16 @@ use borrow.Author.Tests.{lt-ltb, eq-eqb}
 use lib.Dec.{eqb}
 use lib.ListN.{getD, length, take, replicate}
 use Rattle.bits.proofs.IndexLaws.{true-and}
+use Rattle.laws.proofs.Above.{run-above}
 use Rattle.laws.proofs.MapLaws.{decode-number}
 use Rattle.laws.proofs.ValidLaws.{facts}
 use Rattle.laws.specs.InMap.{inMap, settingExists}
 use Rattle.rules.specs.Scenes.{rest, write}
 use Rattle.rules.proofs.Scenes.{rules, settings, zeros, station}
 use Rattle.rules.specs.Access.{value, locked, clears}
-use Rattle.rules.specs.Map.{numberOf, isRegister, guard}
+use Rattle.rules.specs.Map.{decode, numberOf, isRegister, guard}
 use Rattle.rules.specs.Run.{run}
+use Rattle.rules.specs.Stages.{stage, stageIn, noClassStages}
 use Rattle.rules.specs.State.{localCount, classCount}
 use Rattle.rules.specs.Valid.{valid}
 use Rattle.rules.specs.declared.Field.{Field}
@@ -28,6 +30,7 @@ use Rattle.rules.specs.declared.Register.{Register}
 use Rattle.rules.specs.declared.Register.the-variants.{Local, Alert, Block}
 use Rattle.rules.specs.declared.Setting.{Setting}
 use Rattle.rules.specs.declared.Setting.the-variants.{Ctrl, ClrRegwen, Clr, AccumThresh, TimeoutCyc, PhaseCyc}
+use Rattle.rules.specs.declared.Stages.{Stages}
 use Rattle.escalation.specs.Escalation.{Locked, valueOf, stageOf}
 use Rattle.escalation.specs.List.{noInput}
 use Rattle.escalation.proofs.Demand3.{demand3}
@@ -96,6 +99,48 @@ module _ (h : Handler) (v : valid h ≡ true) where
           let e : 1282 + 16 * k ≡ 1280 + 16 * k + 2 = omega arith in
           demand3 h xs v .no-clear 0 t k small (omega arith) m
           (shut (Block ClrRegwen k) (Block Clr k) (has ClrRegwen refl) (has Clr refl) refl refl (rw e at z))
+
+    -- ── request (v), in the raw fields: after t ticks the stage of what they guard is what it was, or none ──
+
+    abbrev Left : (Stages → ℕ) → Type 0
+    Left code = (code (run h (take t xs) .stages) ≡ code (h .stages)) ⊎ (code (run h (take t xs) .stages) ≡ 0)
+
+    left : (g q : Register) → inMap (h .n) g ≡ true → inMap (h .n) q ≡ true → isRegister g ≡ true → guard q ≡ g
+        → valueOf h (numberOf g) ≡ 0 → Left (λ s. stageIn s q)
+    unfolding run
+    left g q a b r e z =
+        let f : Handler = run h (take t xs) in
+        let d : decode (h .n) (numberOf q) ≡ q = decode-number (h .n) q (facts h v .n) b in
+        let c : decode (f .n) (numberOf q) ≡ q = ap (λ (n : ℕ). decode n (numberOf q)) (run-above h (take t xs) .n) ∙ d in
+        subst (λ (p : Register). (stage f p ≡ stage h q) ⊎ (stage f p ≡ 0)) c
+        (subst (λ (p : Register). (stageOf f (numberOf q) ≡ stage h p) ⊎ (stageOf f (numberOf q) ≡ 0)) d
+        (demand3 h xs v .stages 0 t (numberOf q) (omega arith) l (shut g q a b r e z)))
+
+    alerts-left : (i : ℕ) → h .n ≡ 248 → i < 248 → valueOf h (256 + i) ≡ 0
+        → Left (λ s. getD (s .alerts .en) i 0) × Left (λ s. getD (s .alerts .class) i 0)
+    unfolding numberOf guard stageIn
+    alerts-left i n s z =
+        let a : inMap (h .n) (Alert Field.En i) ≡ true = lt-ltb i (h .n) (omega arith) in
+        (left (Alert Field.Regwen i) (Alert Field.En i) a a refl refl z, left (Alert Field.Regwen i) (Alert Field.Class i) a a refl refl z)
+
+    locals-left : (j : ℕ) → j < localCount → valueOf h (16 + j) ≡ 0 → Left (λ s. getD (s .locals .en) j 0) × Left (λ s. getD (s .locals .class) j 0)
+    unfolding numberOf guard stageIn
+    locals-left j s z =
+        let a : inMap (h .n) (Local Field.En j) ≡ true = lt-ltb j localCount s in
+        (left (Local Field.Regwen j) (Local Field.En j) a a refl refl z, left (Local Field.Regwen j) (Local Field.Class j) a a refl refl z)
+
+    class-left : (k : ℕ) → k < classCount → valueOf h (1280 + 16 * k) ≡ 0
+        → Left (λ s. getD (s .classes) k noClassStages .ctrl)
+        × Left (λ s. getD (s .classes) k noClassStages .thresh)
+        × Left (λ s. getD (s .classes) k noClassStages .timeout)
+        × ((p : ℕ) → p < 4 → Left (λ s. getD (getD (s .classes) k noClassStages .lengths) p 0))
+    unfolding numberOf guard stageIn
+    class-left k small z = (kept Ctrl refl refl, kept AccumThresh refl refl, kept TimeoutCyc refl refl, λ p s. kept (PhaseCyc p) (lt-ltb p 4 s) refl)
+      where
+        kept : (s : Setting) → settingExists s ≡ true → guard (Block s k) ≡ Block Setting.Regwen k → Left (λ t. stageIn t (Block s k))
+        kept s e g =
+            left (Block Setting.Regwen k) (Block s k) (true-and (lt-ltb k classCount small) refl) (true-and (lt-ltb k classCount small) e) refl g
+            (rw add-zero z)
 
 -- a scene: class 2 is locked, two alerts; whatever the ticks, its CTRL and its lengths stay
 abbrev scene : Handler
