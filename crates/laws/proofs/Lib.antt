@@ -18,6 +18,7 @@ pub mod KeepsValid
 pub mod Refusal7
 pub mod Frame
 pub mod Above
+pub mod AboveExamples
 pub mod Locks
 pub mod Clears
 pub mod Content
