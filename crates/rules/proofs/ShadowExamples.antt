@@ -21,6 +21,7 @@ use Rattle.rules.specs.declared.Register.{Register}
 use Rattle.rules.specs.declared.Register.the-variants.{IntrState, Local, Block}
 use Rattle.rules.specs.declared.Setting.{Setting}
 use Rattle.rules.specs.declared.Setting.the-variants.{AccumCnt, AccumThresh}
+use Rattle.rules.specs.declared.Stages.{Stages}
 use Rattle.rules.specs.Scenes.{rest, raise, bothHigh, none, refused}
 use Rattle.rules.proofs.Scenes.{rules, acts, answers, settings, zeros, station, ready}
 
@@ -112,11 +113,12 @@ two-writes : (map (once 1) shadowed ≡ replicate 16 0)
     × (map (twice 1) shadowed ≡ replicate 16 1)
     × (once 1 1281 ≡ 0x393C)
     × (twice 1 1281 ≡ 1)
+    × (twice 0 1281 ≡ 0)
     × (twice (2 ^ 32 - 1) 1286 ≡ 2 ^ 32 - 1)
     × (map (once 0) (16 ∷ 256 ∷ 1280 ∷ 1282 ∷ []) ≡ replicate 4 0)
     × (once 9 1 ≡ 9)
 unfolding rules
-two-writes = (refl, refl, refl, refl, refl, refl, refl)
+two-writes = (refl, refl, refl, refl, refl, refl, refl, refl)
 
 -- ── each shadowed register of a handler of two alerts, by number ──
 
@@ -125,6 +127,10 @@ block first = (first + 1) ∷ each 6 (λ o. first + 5 + o)
 
 abbrev all : List ℕ
 all = each 7 (λ j. 24 + j) ++ each 7 (λ j. 32 + j) ++ 512 ∷ 513 ∷ 768 ∷ 769 ∷ block 1280 ++ block 1296 ++ block 1312 ++ block 1328
+
+-- and those that are not shadowed, or not there
+abbrev unshadowed : List ℕ
+unshadowed = 0 ∷ 1 ∷ 2 ∷ 3 ∷ 16 ∷ 22 ∷ 40 ∷ 46 ∷ 256 ∷ 257 ∷ 514 ∷ 1024 ∷ 1280 ∷ 1282 ∷ 1283 ∷ 1284 ∷ 1291 ∷ 1292 ∷ 1328 ∷ 1340 ∷ []
 
 -- after a first write of 1 to it: its stage; the stage after a write of 0, of 2^32 and after a read; what a 0 raises; and what it holds after a 1
 abbrev story : ℕ → List ℕ
@@ -162,6 +168,28 @@ lockedStory r =
 each-locked : (map lockedStory all ≡ replicate 46 (replicate 5 0)) × (map (λ r. answers (shut r) (Write r 1)) all ≡ replicate 46 (refused 3))
 unfolding rules
 each-locked = (refl, refl)
+
+-- with a 1 staged at every register: a read and a differing write drop the stage of their register, an equal write commits, and every other one stays
+abbrev opened : Handler
+opened =
+    withStages
+    (record {
+      classes = replicate 4 (record { lengths = replicate 4 2; timeout = 2; ctrl = 2; thresh = 2 });
+      alerts = record { en = replicate 248 2; class = replicate 248 2 };
+      locals = record { en = replicate 7 2; class = replicate 7 2 };
+    })
+    (newHandler 2)
+
+abbrev without : ℕ → Stages
+without r = withStage (decode 2 r) 0 (opened .stages)
+
+other-stages : (map (λ r. acted opened (Read r) .stages) all ≡ map without all)
+    × (map (λ r. acted opened (Write r 0) .stages) all ≡ map without all)
+    × (map (λ r. acted opened (Write r 1) .stages) all ≡ map without all)
+    × (map (λ r. acted opened (Read r) .stages) unshadowed ≡ map (λ _. opened .stages) unshadowed)
+    × (map (λ r. acted opened (Write r 0) .stages) unshadowed ≡ map (λ _. opened .stages) unshadowed)
+unfolding rules
+other-stages = (refl, refl, refl, refl, refl)
 
 -- one stage for each register: two registers interleaved
 abbrev interleaved : Handler
@@ -204,12 +232,14 @@ quiet : (holds (watched 0) (Write 1285 7 ∷ Write 1285 8 ∷ []) (Local Field.C
 unfolding rules
 quiet = (refl, refl, refl, refl, refl, refl, refl)
 
--- a differing write to local 5's own EN or CLASS: EN and CLASS after step 1 are those before
+-- a differing write to local 5's own EN or CLASS: EN and CLASS after step 1 are those before; what is staged at them acts on nothing
 own-registers : (holds (watched 1) (Write 29 0 ∷ Write 29 1 ∷ []) (Local Field.Cause 5) ≡ 1)
     × (holds (watched 0) (Write 29 0 ∷ Write 29 1 ∷ []) (Local Field.Cause 5) ≡ 0)
     × (holds (watched 1) (Write 37 0 ∷ Write 37 2 ∷ []) IntrState ≡ 2)
+    × (holds (watched 1) (Write 37 2 ∷ Write 1285 7 ∷ Write 1285 8 ∷ []) IntrState ≡ 2)
+    × (holds (watched 0) (Write 29 1 ∷ Write 1285 7 ∷ Write 1285 8 ∷ []) (Local Field.Cause 5) ≡ 0)
 unfolding rules
-own-registers = (refl, refl, refl)
+own-registers = (refl, refl, refl, refl, refl)
 
 -- local 5 with what else happens in its tick: all classes have EN, local 2 is in class 0, local 5 in class k, alert 0 in class 2; every local alert
 -- has this REGWEN and CAUSE; 7 is staged at 1285, and the tick writes 8

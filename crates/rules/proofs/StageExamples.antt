@@ -96,8 +96,9 @@ covers : (map (λ r. valid (holding r 2)) (24 ∷ 30 ∷ 512 ∷ 516 ∷ []) ≡
     × (valid (holding 1333 (2 ^ 16 + 1)) ≡ false)
     × (map (λ o. valid (holding (1328 + o) (2 ^ 32))) (6 ∷ 7 ∷ 8 ∷ 9 ∷ 10 ∷ []) ≡ replicate 5 true)
     × (map (λ o. valid (holding (1328 + o) (2 ^ 32 + 1))) (6 ∷ 7 ∷ 8 ∷ 9 ∷ 10 ∷ []) ≡ replicate 5 false)
+    × (map (λ k. map (λ o. valid (holding (1285 + k + o) (2 ^ 32 + 1))) (0 ∷ 1 ∷ 2 ∷ 3 ∷ 4 ∷ 5 ∷ [])) (0 ∷ 16 ∷ 32 ∷ []) ≡ replicate 3 (replicate 6 false))
 unfolding rules
-covers = (refl, refl, refl, refl, refl, refl, refl, refl, refl, refl)
+covers = (refl, refl, refl, refl, refl, refl, refl, refl, refl, refl, refl)
 
 -- entries at N and above are not looked at
 above : map (λ r. valid (holding r 255)) (517 ∷ 759 ∷ 773 ∷ 1015 ∷ []) ≡ replicate 4 true
