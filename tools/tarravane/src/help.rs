@@ -61,9 +61,9 @@ from standard input where that is -, and goes to the file that -o names, or to s
 A text: `alerts N` first, then a line for each tick: none, read REGISTER or write REGISTER VALUE, and
 after it, where an alert is not at rest, wires I=PQ or I-J=PQ and more of them: alert I, or I to J,
 has its positive wire at P, its negative at Q. Every other alert is at rest, 01. A register has its
-name, as CLASSA_CTRL, that of the public papers, as CLASSA_CTRL_SHADOWED, or its number; a number is
-decimal, or hex after 0x. What follows # is a comment; blank lines are skipped. A line has at most
-4096 bytes before its comment.
+name, as INTR_STATE, LOC_ALERT5_EN, ALERT12_CLASS or CLASSA_CTRL, that of the public papers, as
+CLASSA_CTRL_SHADOWED, or its number; a number is decimal, or hex after 0x. What follows # is a
+comment; blank lines are skipped. A line has at most 4096 bytes before its comment.
 A line is one write: what configures (EN, CLASS, CTRL, ACCUM_THRESH, TIMEOUT_CYC, PHASE0_CYC to
 PHASE3_CYC) takes two equal lines, the first staged and the second committed.
 
