@@ -9,6 +9,7 @@ pub mod StartExamples
 pub mod PhaseExamples
 pub mod LockExamples
 pub mod LineExamples
+pub mod PartExamples
 pub mod Waiting
 pub mod Locking
 pub mod Threshold

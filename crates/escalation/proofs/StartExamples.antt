@@ -1,16 +1,17 @@
 -- Demand 3 is not vacuous: classes that start, in each way that document 01 names, and what the theorem says of those ticks.
 -- Assumes nothing.
 use Prim.Native.Nat.{ℕ, _≤_, _<_}
-use mathlib.Core.Path.{_≡_, refl, sym, _∙_}
-use mathlib.Core.Logic.{inr, ⊎-elim}
+use mathlib.Core.Path.{_≡_, refl, sym, ap, _∙_}
+use mathlib.Core.Logic.{_⊎_, inl, inr, ⊎-elim}
 use mathlib.Core.Bool.{true, false, false≢true}
 use mathlib.Core.List.{List, [], _∷_}
 use native.Mathlib.Omega.{arith}
 use lib.ListN.{replicate}
-use Rattle.class_rules.specs.Class.{lineEnable}
-use Rattle.class_rules.specs.Step.{trigger, starts}
+use Rattle.class_rules.specs.Class.{lineEnable, stateNumber}
+use Rattle.class_rules.specs.Step.{trigger, due, starts}
 use Rattle.class_rules.specs.declared.Class.{Class}
-use Rattle.class_rules.specs.declared.ClassState.the-variants.{Timeout, Phase0}
+use Rattle.class_rules.specs.declared.Signals.{Signals}
+use Rattle.class_rules.specs.declared.ClassState.the-variants.{Idle, Timeout, Phase0}
 use Rattle.rules.specs.Scenes.{rest, raise, none, write}
 use Rattle.rules.proofs.Scenes.{rules, settings, station}
 use Rattle.rules.specs.Access.{clears}
@@ -24,13 +25,13 @@ use Rattle.rules.specs.declared.Register.the-variants.{Block}
 use Rattle.rules.specs.declared.Setting.{Setting}
 use Rattle.rules.specs.declared.Setting.the-variants.{Clr}
 use Rattle.escalation.specs.Escalation.{stateIn, StartIs, Starts}
-use Rattle.escalation.specs.List.{classRead, met}
+use Rattle.escalation.specs.List.{IsTick, before, inputAt, givenAt, classRead, met}
 use Rattle.escalation.proofs.Demand3.{demand3}
 
 -- ── scenes: two alerts, of which the last is enabled, in class k ──
 
 -- a class with REGWEN 0
-abbrev shut : Class → Class
+abbrev pub shut : Class → Class
 shut c =
     record {
       lengths = c .lengths;
@@ -51,7 +52,7 @@ locked thresh timeout lengths = shut (settings 0x393F thresh timeout lengths)
 abbrev pub post : ℕ → Class → Handler
 post k c = station 2 (0 ∷ 1 ∷ replicate 246 0) (0 ∷ k ∷ replicate 246 0) k c
 
-abbrev nines : List ℕ
+abbrev pub nines : List ℕ
 nines = replicate 4 9
 
 -- by a trigger
@@ -63,18 +64,18 @@ unfolding rules
 by-trigger = record { is-class = omega arith; is-start = refl; is-locked = refl; has-en = refl; has-lock = refl }
 
 -- by the timeout: due since the event of the tick before, with a Timeout count at TIMEOUT_CYC, and no trigger
-abbrev waiting : Handler
+abbrev pub waiting : Handler
 waiting = run (post 3 (locked 9 1 nines)) (raise 1 none ∷ [])
 
-by-timeout : Starts waiting (rest none) 3 × (stateIn waiting 3 ≡ Timeout) × (trigger (met waiting (rest none) 3) (classRead waiting (rest none) 3) ≡ false)
+pub by-timeout : Starts waiting (rest none) 3 × (stateIn waiting 3 ≡ Timeout) × (trigger (met waiting (rest none) 3) (classRead waiting (rest none) 3) ≡ false)
 unfolding rules
 by-timeout = (record { is-class = omega arith; is-start = refl; is-locked = refl; has-en = refl; has-lock = refl }, refl, refl)
 
 -- by the timeout, with an accepted clear in the tick of the start: Phase 0 all the same, with ACCUM_CNT 0, and CLR_REGWEN 0 after it
-abbrev clearing : Input
+abbrev pub clearing : Input
 clearing = rest (write (Block Clr 3) 1)
 
-with-clear : Starts waiting clearing 3 × (clears waiting (clearing .access) 3 ≡ true)
+pub with-clear : Starts waiting clearing 3 × (clears waiting (clearing .access) 3 ≡ true)
 unfolding rules
 with-clear = (record { is-class = omega arith; is-start = refl; is-locked = refl; has-en = refl; has-lock = refl }, refl)
 
@@ -87,21 +88,67 @@ unfolding rules
 cleared = (refl, refl, refl, refl, refl)
 
 -- REGWEN written 0 in the tick of the start: "read after step 1"
-abbrev unlocked : Handler
+abbrev pub unlocked : Handler
 unlocked = post 3 (settings 0x393F 0 0 nines)
 
-abbrev locking : Input
+abbrev pub locking : Input
 locking = raise 1 (write (Block Setting.Regwen 3) 0)
 
-just-locked : Starts unlocked locking 3 × (classAt unlocked 3 .regwen ≡ 1)
+pub just-locked : Starts unlocked locking 3 × (classAt unlocked 3 .regwen ≡ 1)
 unfolding rules
 just-locked = (record { is-class = omega arith; is-start = refl; is-locked = refl; has-en = refl; has-lock = refl }, refl)
 
--- ── what the theorem says of these ticks ──
+-- ── what the claim says of a start in any tick t of any list, the ticks numbered from any first number ──
+
+module _ (first k t : ℕ) (h : Handler) (xs : List Input) (v : valid h ≡ true) (small : k < classCount) (tick : IsTick first xs t) where
+  -- the state before the tick, class k as it reads it and what the class meets
+  abbrev g : Handler
+  g = before first h xs t
+
+  abbrev read : Class
+  read = classRead g (inputAt first xs t) k
+
+  abbrev meets : Signals
+  meets = met g (inputAt first xs t) k
+
+  is : StartIs g (inputAt first xs t) k (givenAt first h xs t .handler)
+  is = demand3 h xs v .start first k t small tick
+
+  -- it takes the class from Idle or Timeout to Phase 0
+  from-where : starts meets read ≡ true → (stateIn g k ≡ Idle) ⊎ (stateIn g k ≡ Timeout)
+  from-where e = is .move .0 e .0
+
+  to-where : starts meets read ≡ true → stateIn (givenAt first h xs t .handler) k ≡ Phase0
+  to-where e = is .move .0 e .1
+
+  -- and a tick that does so is a start, from either
+  idle-to-phase : stateIn g k ≡ Idle → stateIn (givenAt first h xs t .handler) k ≡ Phase0 → starts meets read ≡ true
+  idle-to-phase m e = is .move .1 (inl m, e)
+
+  timeout-to-phase : stateIn g k ≡ Timeout → stateIn (givenAt first h xs t .handler) k ≡ Phase0 → starts meets read ≡ true
+  timeout-to-phase m e = is .move .1 (inr m, e)
+
+  -- from Idle it is by a trigger
+  by-a-trigger : starts meets read ≡ true → stateIn g k ≡ Idle → trigger meets read ≡ true
+  by-a-trigger e m = ⊎-elim (λ t. t) (λ r. absurd (other (sym m ∙ r .0))) (is .reason e)
+    where
+      other : Idle ≡ Timeout → ⊥
+      other d = let z : _≡_ {A = ℕ} 0 1 = ap stateNumber d in omega arith
+
+  -- without one, from Timeout, by being due with a count at or above TIMEOUT_CYC
+  by-being-due : starts meets read ≡ true → trigger meets read ≡ false
+      → (stateIn g k ≡ Timeout) × (due meets read ≡ true) × (read .timeout ≤ read .count)
+  by-being-due e n = ⊎-elim (λ t. absurd (false≢true (sym n ∙ t))) (λ r. r) (is .reason e)
+
+  -- and it has an enabled line
+  has-a-line : starts meets read ≡ true → (e : ℕ) × (e < 4) × (lineEnable read e ≡ true)
+  has-a-line e = is .line e
+
+-- ── and of the ticks above ──
 
 start-is : (h : Handler) (x : Input) (k : ℕ) → valid h ≡ true → k < classCount → StartIs h x k (ticked h x .handler)
 unfolding run ticks
-start-is h x k v l = demand3 h (x ∷ []) v .start 0 k 0 l (record { from = omega arith; to = omega arith })
+start-is h x k v l = is 0 k 0 h (x ∷ []) v l (record { from = omega arith; to = omega arith })
 
 -- a class that starts is in Phase 0 after the tick
 reaches : (h : Handler) (x : Input) (k : ℕ) → valid h ≡ true → Starts h x k → stateIn (ticked h x .handler) k ≡ Phase0
@@ -140,7 +187,7 @@ with-line = start-is waiting (rest none) 3 refl (omega arith) .line (by-timeout 
 abbrev lastLine : Handler
 lastLine = post 2 (shut (settings 0x3923 0 0 nines))
 
-by-last-line : Starts lastLine (raise 1 none) 2 × (lineEnable (classRead lastLine (raise 1 none) 2) 0 ≡ false)
+pub by-last-line : Starts lastLine (raise 1 none) 2 × (lineEnable (classRead lastLine (raise 1 none) 2) 0 ≡ false)
 unfolding rules
 by-last-line = (record { is-class = omega arith; is-start = refl; is-locked = refl; has-en = refl; has-lock = refl }, refl)
 
