@@ -13,19 +13,19 @@ use Rattle.rules.specs.Writer.{recordsOf, anyUnrecordable, writeVerdict, writeO
 use Rattle.writer.specs.Lent.{Lent, lent, listOf, writeLent}
 
 -- the words of an entry with no wire high
-abbrev low : List ℕ
+abbrev pub low : List ℕ
 low = 0 ∷ 0 ∷ 0 ∷ 0 ∷ []
 
 -- one entry, with no wire high
-abbrev entry : ℕ → ℕ → ℕ → Lent
+abbrev pub entry : ℕ → ℕ → ℕ → Lent
 entry kind register value = lent (kind ∷ []) (register ∷ []) (value ∷ []) low low
 
 -- a buffer for one record
-abbrev room : List ℕ
+abbrev pub room : List ℕ
 room = replicate 70 9
 
 -- a read of 1293 with alert 0's positive and alert 247's negative wire high; one byte stands behind the record
-read-1293 : writeLent (lent (1 ∷ []) (1293 ∷ []) (0 ∷ []) (0x8000000000000000 ∷ 0 ∷ 0 ∷ 0 ∷ []) (0 ∷ 0 ∷ 0 ∷ 0x100 ∷ [])) (7 ∷ room)
+pub read-1293 : writeLent (lent (1 ∷ []) (1293 ∷ []) (0 ∷ []) (0x8000000000000000 ∷ 0 ∷ 0 ∷ 0 ∷ []) (0 ∷ 0 ∷ 0 ∷ 0x100 ∷ [])) (7 ∷ room)
     ≡ record { answer = pos 70; buffer = 0x68 ∷ 0x68 ∷ replicate 6 0 ++ 0x80 ∷ replicate 60 0 ++ 1 ∷ 9 ∷ [] }
 unfolding writeLent write writeVerdict firstOf writeOf listOf eachFrom recordsOf anyUnrecordable recordable recordOf accessOf pack unpack
 read-1293 = refl
@@ -65,7 +65,7 @@ module _ (l : Lent) (buffer : List ℕ) where
   abbrev RefusedBy11 : Type 0
   RefusedBy11 = writeLent l buffer ≡ record { answer = negsuc 10; buffer = buffer }
 
-kind-3 : RefusedBy10 (entry 3 0 0) room
+pub kind-3 : RefusedBy10 (entry 3 0 0) room
 unfolding writeLent write writeVerdict firstOf writeOf listOf eachFrom anyUnrecordable recordable accessOf number
 kind-3 = refl
 

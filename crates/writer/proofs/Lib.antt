@@ -4,3 +4,4 @@ pub mod EntryLaws
 pub mod Outcomes
 pub mod Back
 pub mod Examples
+pub mod PartExamples
