@@ -5,7 +5,7 @@ use mathlib.Core.Path.{_≡_}
 use mathlib.Core.List.{List, [], _∷_, _++_}
 use lib.IntN.{pos}
 use lib.ListN.{replicate}
-use Rattle.cases.specs.Ticks.{rise, broken, old, configure, answers, holds, heldBy, stagedBy}
+use Rattle.cases.specs.Ticks.{rise, broken, old, configure, answers, holds, heldBy, stagedBy, changes}
 use Rattle.class_rules.specs.declared.Class.{Class}
 use Rattle.rules.specs.Run.{run}
 use Rattle.rules.specs.Scenes.{rest, none, write, gives, refused}
@@ -61,6 +61,10 @@ counted c =
 abbrev pub full : Handler
 full = let h = on 65535 0 in withClasses (put 4 (h .classes) noClass 0 (counted (classAt h 0))) h
 
+-- threshold and ACCUM_CNT 2, by two events; the interrupt bit is cleared
+abbrev pub counted2 : Handler
+counted2 = run (on 2 0) (rise none ∷ rest none ∷ rise none ∷ rest (write IntrState 1) ∷ [])
+
 -- local 2 enabled in class 1, which has EN; alert 0 enabled
 abbrev pub sealed : Handler
 sealed =
@@ -110,18 +114,25 @@ pub record List12 : Type 0 where
   pub P5-state : heldBy (on 2 0) (rise none ∷ rest none ∷ rise none ∷ rest none ∷ rise none ∷ []) state ≡ 0 ∷ 0 ∷ 0 ∷ 0 ∷ 4 ∷ []
   pub P5-accum : heldBy (on 2 0) (rise none ∷ rest none ∷ rise none ∷ rest none ∷ rise none ∷ []) accum ≡ 1 ∷ 1 ∷ 2 ∷ 2 ∷ 3 ∷ []
   -- P6 Threshold and ACCUM_CNT 65535: next event starts it, ACCUM_CNT stays
-  pub P6 : (holds full [] accum ≡ 65535) × (holds full (rise none ∷ []) state ≡ 4) × (holds full (rise none ∷ []) accum ≡ 65535)
-  -- P7 Lengths 0, 10, 10, 5, start in tick 100, no clear: phases start at 100, 101, 111, 121; Terminal at 126: STATE after ticks 100 to 127
-  pub P7 : heldBy (long 0 10 10 5) (rise none ∷ replicate 27 (rest none)) state ≡ 4 ∷ replicate 10 5 ++ replicate 10 6 ++ replicate 5 7 ++ replicate 2 3
+  pub P6-before : (holds full [] state ≡ 0) × (holds full [] (Block AccumThresh 0) ≡ 65535) × (holds full [] accum ≡ 65535)
+  pub P6 : (holds full (rise none ∷ []) state ≡ 4) × (holds full (rise none ∷ []) accum ≡ 65535)
+  -- P7 Lengths 0, 10, 10, 5, start in tick 100, no clear: phases start at 100, 101, 111, 121; Terminal at 126: each change of STATE in ticks 100
+  -- to 127, with its tick
+  pub P7 :
+      changes 100 0 (heldBy (long 0 10 10 5) (rise none ∷ replicate 27 (rest none)) state)
+      ≡ (100, 4) ∷ (101, 5) ∷ (111, 6) ∷ (121, 7) ∷ (126, 3) ∷ []
   -- P8 Timeout 1, first due in tick 7 and still due in 8: Phase 0 in 8. Timeout 0: stays Idle
   pub P8 :
-      (heldBy (on 9 1) (rise none ∷ rest none ∷ []) state ≡ 1 ∷ 4 ∷ []) × (heldBy (on 9 0) (rise none ∷ rest none ∷ []) state ≡ 0 ∷ 0 ∷ [])
+      (changes 7 0 (heldBy (on 9 1) (rise none ∷ rest none ∷ []) state) ≡ (7, 1) ∷ (8, 4) ∷ []) × (heldBy (on 9 0) (rise none ∷ rest none ∷ []) state ≡ 0 ∷ 0 ∷ [])
   -- P9 Idle, accepted clear with an event at the threshold: ACCUM_CNT 0, no start, interrupt set
+  pub P9-before : (holds counted2 [] state ≡ 0) × (holds counted2 [] (Block AccumThresh 0) ≡ 2) × (holds counted2 [] accum ≡ 2) × (holds counted2 [] IntrState ≡ 0)
   pub P9 :
-      (gives (on 0 0) (rise (write (Block Clr 0) 1)) ≡ pos 0)
-      × (holds (on 0 0) (rise (write (Block Clr 0) 1) ∷ []) accum ≡ 0)
-      × (holds (on 0 0) (rise (write (Block Clr 0) 1) ∷ []) state ≡ 0)
-      × (holds (on 0 0) (rise (write (Block Clr 0) 1) ∷ []) IntrState ≡ 1)
+      (gives counted2 (rise (write (Block Clr 0) 1)) ≡ pos 0)
+      × (holds counted2 (rise (write (Block Clr 0) 1) ∷ []) accum ≡ 0)
+      × (holds counted2 (rise (write (Block Clr 0) 1) ∷ []) state ≡ 0)
+      × (holds counted2 (rise (write (Block Clr 0) 1) ∷ []) IntrState ≡ 1)
+  -- without the clear the same event starts it
+  pub P9-start : holds counted2 (rise none ∷ []) state ≡ 4
   -- P10 Clear one tick after a LOCK start: -3
   pub P10 :
       (answers (on 0 0) (rise none ∷ rest (write (Block Clr 0) 1) ∷ []) ≡ pos 0 ∷ refused 3 ∷ [])

@@ -1,7 +1,9 @@
 -- How the cases of document 01, "Ticks to reproduce", are played: inputs, and what is read after them.
 -- Assumes nothing.
-use Prim.Native.Nat.{ℕ}
-use mathlib.Core.List.{List, map}
+use Prim.Native.Nat.{ℕ, suc}
+use mathlib.Core.Bool.{cond}
+use mathlib.Core.List.{List, [], _∷_, map}
+use lib.Dec.{eqb}
 use lib.IntN.{ℤ}
 use Rattle.rules.specs.Answer.{number}
 use Rattle.rules.specs.Access.{value}
@@ -46,3 +48,8 @@ heldBy h xs q = map (λ (t : Ticked). value (t .handler) q) (ticks h xs)
 -- its stage after each of them, 0 for none and the staged value plus 1
 abbrev pub stagedBy : Handler → List Input → Register → List ℕ
 stagedBy h xs q = map (λ (t : Ticked). stage (t .handler) q) (ticks h xs)
+
+-- where a list of values, of ticks numbered from t on, differs from the value before it, old at first: each such tick with its value
+abbrev pub changes : ℕ → ℕ → List ℕ → List (ℕ × ℕ)
+changes t old [] = []
+changes t old (v ∷ vs) = cond (eqb v old) (changes (suc t) v vs) ((t, v) ∷ changes (suc t) v vs)

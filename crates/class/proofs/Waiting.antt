@@ -10,7 +10,7 @@ use Rattle.class_rules.specs.declared.Class.{Class}
 use Rattle.class_rules.specs.declared.ClassState.the-variants.{Timeout}
 use Rattle.class_rules.specs.declared.Signals.{Signals}
 
--- what a false "t, or d and l" with d says of l
+-- where t, or d and l, is false and d is true, l is false
 last : (t d l : Bool) → (t || (d && l)) ≡ false → d ≡ true → l ≡ false
 last true d l n e = cc
 last false true l n e = n

@@ -131,7 +131,7 @@ module _ (c : Class) (s d k : ℕ) (small : k < classCount) (o : Ticked) (g : Go
         line = line;
       }
 
--- "once a locked class with EN and LOCK starts to escalate, its lines follow their mapped phases to the end of any list of ticks"
+-- once a locked class with EN and LOCK starts to escalate, its lines follow their mapped phases to the end of any list of ticks
 pub escalates : (h : Handler) (xs : List Input) → valid h ≡ true → (first k s : ℕ) → IsTick first xs s
     → Starts (before first h xs s) (inputAt first xs s) k → (t : ℕ) → s ≤ t → IsTick first xs t
     → Escalated (classRead (before first h xs s) (inputAt first xs s) k) s t (givenAt first h xs t) k

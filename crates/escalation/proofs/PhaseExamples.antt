@@ -87,7 +87,7 @@ module _ (last : ℕ) (v : valid (station last) ≡ true) (ys : List Input) (t :
   before-terminal : t < 121 + last → after last ys t .state ≢ 3
   before-terminal l e = omega (arith, escalated .in-terminal .0 (ap stateOf e ∙ state-number Terminal))
 
--- "Lengths 0, 10, 10, 5, start in tick 100: phases start at 100, 101, 111, 121; Terminal at 126"
+-- "Lengths 0, 10, 10, 5, start in tick 100, no clear: phases start at 100, 101, 111, 121; Terminal at 126"
 p7 : (ys : List Input) (t : ℕ) → 100 ≤ t → t ≤ 100 + length ys
     → (t < 101 → after 5 ys t .state ≡ 4)
     × (101 ≤ t → t < 111 → after 5 ys t .state ≡ 5)

@@ -109,7 +109,7 @@ pub record Demand3 (h : Handler) (xs : List Input) : Type 0 where
   pub start :
       (first k t : ℕ) → k < classCount → IsTick first xs t
       → StartIs (before first h xs t) (inputAt first xs t) k (givenAt first h xs t .handler)
-  -- "once a locked class with EN and LOCK starts to escalate, its lines follow their mapped phases to the end of any list of ticks"
+  -- once a locked class with EN and LOCK starts to escalate, its lines follow their mapped phases to the end of any list of ticks
   pub escalation :
       (first k s : ℕ) → IsTick first xs s → Starts (before first h xs s) (inputAt first xs s) k
       → (t : ℕ) → s ≤ t → IsTick first xs t
@@ -119,7 +119,7 @@ pub record Demand3 (h : Handler) (xs : List Input) : Type 0 where
   pub locks :
       (i j r : ℕ) → i ≤ j → j ≤ length xs → Locked (run h (take i xs)) r
       → Locked (run h (take j xs)) r × (valueOf (run h (take j xs)) r ≡ valueOf (run h (take i xs)) r)
-  -- request (v), "no stage ever reaches a locked register": its stage is, after every later tick of the list, the one that it had, or none
+  -- request (v), "no stage ever reaching a locked register": its stage is, after every later tick of the list, the one that it had, or none
   pub stages :
       (i j r : ℕ) → i ≤ j → j ≤ length xs → Locked (run h (take i xs)) r
       → (stageOf (run h (take j xs)) r ≡ stageOf (run h (take i xs)) r) ⊎ (stageOf (run h (take j xs)) r ≡ 0)

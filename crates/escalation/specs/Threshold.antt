@@ -27,13 +27,13 @@ eventsIn h xs k i (suc d) =
 abbrev pub StartsAt : Handler → List Input → ℕ → ℕ → Type 0
 StartsAt h xs k j = starts (met (run h (take j xs)) (getD xs j noInput) k) (classRead (run h (take j xs)) (getD xs j noInput) k) ≡ true
 
--- class k is locked and "Idle or in Timeout after a tick": i ticks have run
+-- class k is locked, and Idle or in Timeout after a tick: i ticks have run
 pub record Waiting (h : Handler) (xs : List Input) (k i : ℕ) : Type 0 where
   pub is-class : k < classCount
   pub locked : classAt (run h (take i xs)) k .regwen ≡ 0
   pub unstarted : (stateIn (run h (take i xs)) k ≡ Idle) ⊎ (stateIn (run h (take i xs)) k ≡ Timeout)
 
--- "and no later tick of the list has an accepted clear of it": none of the d that follow
+-- and no later tick of the list has an accepted clear of it: none of the d that follow
 abbrev pub NoClear : Handler → List Input → ℕ → ℕ → ℕ → Type 0
 NoClear h xs k i d = (j : ℕ) → i ≤ j → j < i + d → clears (run h (take j xs)) (getD xs j noInput .access) k ≡ false
 

@@ -185,7 +185,7 @@ module _ (h : Handler) (q : Register) (m : h .n ≤ most) (a : inMap (h .n) q �
   given-left (Access.Write r v) d c = inr (ap (λ (b : Bool). cond b (v + 1) 0) (no-first r v d c))
   given-left Access.Malformed d c = inl refl
 
-  -- "no stage ever reaches a locked register": an access leaves the stage of a locked register or none
+  -- "no stage ever reaching a locked register": an access leaves the stage of a locked register or none
   pub acted-left : (x : Access) → StageLeft (stage h q) (stage (acted h x) q)
   acted-left x =
       subst (StageLeft (stage h q)) (sym (acted-stage h m q (in-most (h .n) q m a) x))

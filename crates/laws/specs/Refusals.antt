@@ -1,4 +1,4 @@
--- "If several cases of one call hold, the first in this order is given", as facts.
+-- "Each is given exactly in its case", in the order of an access, as facts.
 -- Assumes nothing.
 use Prim.Native.Nat.{ℕ, _≤_, _<_}
 use mathlib.Core.Path.{_≡_}

@@ -46,7 +46,7 @@ blockOf k =
     ∷ Unassigned
     ∷ []
 
--- "320+16k+0 class REGWEN, +1 CTRL .. +11, +12 ESC_CNT, STATE", from 1280 on by request (iii)
+-- the rows from class REGWEN at +0 to STATE at +12, of each class, from 1280 on by request (iii)
 blocks : (block 0 ≡ blockOf 0) × (block 1 ≡ blockOf 1) × (block 2 ≡ blockOf 2) × (block 3 ≡ blockOf 3)
 unfolding rules
 blocks = (refl, refl, refl, refl)
@@ -57,8 +57,12 @@ unassigned : (map (λ r. isRegister (decode 248 r)) (3 ∷ 15 ∷ 23 ∷ 31 ∷ 
     × (map (λ r. isRegister (decode 5 r)) (260 ∷ 261 ∷ 516 ∷ 517 ∷ 772 ∷ 773 ∷ 1028 ∷ 1029 ∷ [])
     ≡ true ∷ false ∷ true ∷ false ∷ true ∷ false ∷ true ∷ false ∷ [])
     × (map (λ r. isRegister (decode 0 r)) (256 ∷ 512 ∷ 768 ∷ 1024 ∷ []) ≡ false ∷ false ∷ false ∷ false ∷ [])
+    × (map (λ r. isRegister (decode 1 r)) (256 ∷ 257 ∷ 512 ∷ 513 ∷ 768 ∷ 769 ∷ 1024 ∷ 1025 ∷ [])
+    ≡ true ∷ false ∷ true ∷ false ∷ true ∷ false ∷ true ∷ false ∷ [])
+    × (map (λ r. isRegister (decode 247 r)) (502 ∷ 503 ∷ 758 ∷ 759 ∷ 1014 ∷ 1015 ∷ 1270 ∷ 1271 ∷ [])
+    ≡ true ∷ false ∷ true ∷ false ∷ true ∷ false ∷ true ∷ false ∷ [])
 unfolding rules
-unassigned = (refl, refl, refl)
+unassigned = (refl, refl, refl, refl, refl)
 
 -- a register's number in the table's own form
 numbered : (map numberOf (IntrState ∷ IntrEnable ∷ IntrTest ∷ []) ≡ 0 ∷ 1 ∷ 2 ∷ [])
@@ -68,61 +72,88 @@ numbered : (map numberOf (IntrState ∷ IntrEnable ∷ IntrTest ∷ []) ≡ 0 �
 unfolding rules
 numbered = (refl, refl, refl, refl)
 
+-- ── the columns, of the three single registers, at both ends of each range of local alerts and alerts, and in the block of every class ──
+
+abbrev singles : {A : Type 0} → (Register → A) → List A
+singles f = map f (IntrState ∷ IntrEnable ∷ IntrTest ∷ [])
+
+abbrev ends : {A : Type 0} → (Register → A) → List A
+ends f =
+    map (λ (r : ℕ). f (decode 248 r))
+    (16 ∷ 22 ∷ 24 ∷ 30 ∷ 32 ∷ 38 ∷ 40 ∷ 46 ∷ 256 ∷ 503 ∷ 512 ∷ 759 ∷ 768 ∷ 1015 ∷ 1024 ∷ 1271 ∷ [])
+
+-- REGWEN, EN, CLASS and CAUSE at both ends, of the local alerts and of the alerts
+abbrev byField : {A : Type 0} → A → A → A → A → List A
+byField a b c d = a ∷ a ∷ b ∷ b ∷ c ∷ c ∷ d ∷ d ∷ a ∷ a ∷ b ∷ b ∷ c ∷ c ∷ d ∷ d ∷ []
+
+abbrev inBlocks : {A : Type 0} → (Register → A) → List (List A)
+inBlocks f = map (λ (k : ℕ). map f (blockOf k)) (0 ∷ 1 ∷ 2 ∷ 3 ∷ [])
+
 -- the table's last column
-widths : (map (λ r. bits (decode 248 r)) (0 ∷ 1 ∷ 2 ∷ 16 ∷ 24 ∷ 32 ∷ 40 ∷ 256 ∷ 512 ∷ 768 ∷ 1024 ∷ []) ≡ 4 ∷ 4 ∷ 4 ∷ 1 ∷ 1 ∷ 2 ∷ 1 ∷ 1 ∷ 1 ∷ 2 ∷ 1 ∷ [])
-    × (map bits (blockOf 0) ≡ 1 ∷ 14 ∷ 1 ∷ 1 ∷ 16 ∷ 16 ∷ 32 ∷ 32 ∷ 32 ∷ 32 ∷ 32 ∷ 32 ∷ 3 ∷ 0 ∷ 0 ∷ [])
+widths : (singles bits ≡ 4 ∷ 4 ∷ 4 ∷ [])
+    × (ends bits ≡ byField 1 1 2 1)
+    × (inBlocks bits ≡ replicate 4 (1 ∷ 14 ∷ 1 ∷ 1 ∷ 16 ∷ 16 ∷ 32 ∷ 32 ∷ 32 ∷ 32 ∷ 32 ∷ 32 ∷ 3 ∷ 0 ∷ 0 ∷ []))
 unfolding rules
-widths = (refl, refl)
+widths = (refl, refl, refl)
 
 -- "write only": INTR_TEST, CLR; "read only": ACCUM_CNT, ESC_CNT, STATE
-ways : (map writeOnly (IntrState ∷ IntrEnable ∷ IntrTest ∷ Local Field.Cause 0 ∷ Alert Field.Cause 0 ∷ []) ≡ false ∷ false ∷ true ∷ false ∷ false ∷ [])
-    × (map writeOnly (blockOf 0)
-    ≡ false ∷ false ∷ false ∷ true ∷ false ∷ false ∷ false ∷ false ∷ false ∷ false ∷ false ∷ false ∷ false ∷ false ∷ false ∷ [])
-    × (map readOnly (blockOf 0)
-    ≡ false ∷ false ∷ false ∷ false ∷ true ∷ false ∷ false ∷ false ∷ false ∷ false ∷ false ∷ true ∷ true ∷ false ∷ false ∷ [])
-    × (map readOnly (IntrState ∷ IntrTest ∷ Local Field.Cause 0 ∷ Alert Field.Cause 0 ∷ []) ≡ false ∷ false ∷ false ∷ false ∷ [])
+ways : (singles writeOnly ≡ false ∷ false ∷ true ∷ [])
+    × (singles readOnly ≡ replicate 3 false)
+    × (ends writeOnly ≡ replicate 16 false)
+    × (ends readOnly ≡ replicate 16 false)
+    × (inBlocks writeOnly
+    ≡ replicate 4
+    (false ∷ false ∷ false ∷ true ∷ false ∷ false ∷ false ∷ false ∷ false ∷ false ∷ false ∷ false ∷ false ∷ false ∷ false ∷ []))
+    × (inBlocks readOnly
+    ≡ replicate 4
+    (false ∷ false ∷ false ∷ false ∷ true ∷ false ∷ false ∷ false ∷ false ∷ false ∷ false ∷ true ∷ true ∷ false ∷ false ∷ []))
 unfolding rules
-ways = (refl, refl, refl, refl)
+ways = (refl, refl, refl, refl, refl, refl)
 
 -- "a 1 clears": INTR_STATE, CAUSE
-way-column : (map (λ q. row q .way) (IntrState ∷ IntrEnable ∷ IntrTest ∷ []) ≡ OneClears ∷ Both ∷ WriteOnly ∷ [])
-    × (map (λ r. row (decode 248 r) .way) (18 ∷ 26 ∷ 34 ∷ 42 ∷ 261 ∷ 517 ∷ 773 ∷ 1029 ∷ [])
-    ≡ Both ∷ Both ∷ Both ∷ OneClears ∷ Both ∷ Both ∷ Both ∷ OneClears ∷ [])
-    × (map (λ q. row q .way) (blockOf 0)
-    ≡ Both ∷ Both ∷ Both ∷ WriteOnly ∷ ReadOnly ∷ Both ∷ Both ∷ Both ∷ Both ∷ Both ∷ Both ∷ ReadOnly ∷ ReadOnly ∷ Both ∷ Both ∷ [])
+way-column : (singles (λ q. row q .way) ≡ OneClears ∷ Both ∷ WriteOnly ∷ [])
+    × (ends (λ q. row q .way) ≡ byField Both Both Both OneClears)
+    × (inBlocks (λ q. row q .way)
+    ≡ replicate 4
+    (Both ∷ Both ∷ Both ∷ WriteOnly ∷ ReadOnly ∷ Both ∷ Both ∷ Both ∷ Both ∷ Both ∷ Both ∷ ReadOnly ∷ ReadOnly ∷ Both ∷ Both ∷ []))
 unfolding rules
 way-column = (refl, refl, refl)
 
 -- steps 2 to 4 set causes and interrupt bits, count, move states and lock CLR
-moved : (map (λ q. row q .moves) (IntrState ∷ IntrEnable ∷ IntrTest ∷ []) ≡ true ∷ false ∷ false ∷ [])
-    × (map (λ r. row (decode 248 r) .moves) (18 ∷ 26 ∷ 34 ∷ 42 ∷ 261 ∷ 517 ∷ 773 ∷ 1029 ∷ [])
-    ≡ false ∷ false ∷ false ∷ true ∷ false ∷ false ∷ false ∷ true ∷ [])
-    × (map (λ q. row q .moves) (blockOf 0)
-    ≡ false ∷ false ∷ true ∷ false ∷ true ∷ false ∷ false ∷ false ∷ false ∷ false ∷ false ∷ true ∷ true ∷ false ∷ false ∷ [])
+moved : (singles (λ q. row q .moves) ≡ true ∷ false ∷ false ∷ [])
+    × (ends (λ q. row q .moves) ≡ byField false false false true)
+    × (inBlocks (λ q. row q .moves)
+    ≡ replicate 4
+    (false ∷ false ∷ true ∷ false ∷ true ∷ false ∷ false ∷ false ∷ false ∷ false ∷ false ∷ true ∷ true ∷ false ∷ false ∷ []))
 unfolding rules
 moved = (refl, refl, refl)
 
 -- "Alert and local REGWEN guard their EN and CLASS; class REGWEN guards CTRL, ACCUM_THRESH, TIMEOUT_CYC and the phase lengths; CLR_REGWEN
--- guards CLR", by number: 3 where nothing guards
-guards : (map (λ r. numberOf (guard (decode 248 r))) (261 ∷ 517 ∷ 773 ∷ 1029 ∷ []) ≡ 261 ∷ 261 ∷ 261 ∷ 3 ∷ [])
-    × (map (λ r. numberOf (guard (decode 248 r))) (18 ∷ 26 ∷ 34 ∷ 42 ∷ []) ≡ 18 ∷ 18 ∷ 18 ∷ 3 ∷ [])
-    × (map (λ q. numberOf (guard q)) (blockOf 1) ≡ 1296 ∷ 1296 ∷ 1298 ∷ 1298 ∷ 3 ∷ 1296 ∷ 1296 ∷ 1296 ∷ 1296 ∷ 1296 ∷ 1296 ∷ 3 ∷ 3 ∷ 3 ∷ 3 ∷ [])
-    × (map (λ q. numberOf (guard q)) (IntrState ∷ IntrEnable ∷ IntrTest ∷ []) ≡ 3 ∷ 3 ∷ 3 ∷ [])
+-- guards CLR", by number: 3 where nothing guards; a is the number of the class's REGWEN and b of its CLR_REGWEN
+abbrev guardsBy : ℕ → ℕ → List ℕ
+guardsBy a b = a ∷ a ∷ b ∷ b ∷ 3 ∷ a ∷ a ∷ a ∷ a ∷ a ∷ a ∷ 3 ∷ 3 ∷ 3 ∷ 3 ∷ []
+
+guards : (singles (λ q. numberOf (guard q)) ≡ replicate 3 3)
+    × (ends (λ q. numberOf (guard q)) ≡ 16 ∷ 22 ∷ 16 ∷ 22 ∷ 16 ∷ 22 ∷ 3 ∷ 3 ∷ 256 ∷ 503 ∷ 256 ∷ 503 ∷ 256 ∷ 503 ∷ 3 ∷ 3 ∷ [])
+    × (inBlocks (λ q. numberOf (guard q)) ≡ guardsBy 1280 1282 ∷ guardsBy 1296 1298 ∷ guardsBy 1312 1314 ∷ guardsBy 1328 1330 ∷ [])
 unfolding rules
-guards = (refl, refl, refl, refl)
+guards = (refl, refl, refl)
 
 -- request (v): "EN and CLASS of alerts and local alerts, and CTRL, ACCUM_THRESH, TIMEOUT_CYC and the phase lengths"
-shadowed : (map isShadowed (IntrState ∷ IntrEnable ∷ IntrTest ∷ Unassigned ∷ []) ≡ replicate 4 false)
-    × (map (λ r. isShadowed (decode 248 r)) (18 ∷ 26 ∷ 34 ∷ 42 ∷ 261 ∷ 517 ∷ 773 ∷ 1029 ∷ [])
-    ≡ false ∷ true ∷ true ∷ false ∷ false ∷ true ∷ true ∷ false ∷ [])
-    × (map isShadowed (blockOf 0)
-    ≡ false ∷ true ∷ false ∷ false ∷ false ∷ true ∷ true ∷ true ∷ true ∷ true ∷ true ∷ false ∷ false ∷ false ∷ false ∷ [])
+shadowed : (singles isShadowed ≡ replicate 3 false)
+    × (isShadowed Unassigned ≡ false)
+    × (ends isShadowed ≡ byField false true true false)
+    × (inBlocks isShadowed
+    ≡ replicate 4
+    (false ∷ true ∷ false ∷ false ∷ false ∷ true ∷ true ∷ true ∷ true ∷ true ∷ true ∷ false ∷ false ∷ false ∷ false ∷ []))
 unfolding rules
-shadowed = (refl, refl, refl)
+shadowed = (refl, refl, refl, refl)
 
 -- the REGWEN and CLR_REGWEN
-lock-registers : (map (λ r. isLock (decode 248 r)) (0 ∷ 18 ∷ 26 ∷ 261 ∷ 517 ∷ []) ≡ false ∷ true ∷ false ∷ true ∷ false ∷ [])
-    × (map isLock (blockOf 0)
-    ≡ true ∷ false ∷ true ∷ false ∷ false ∷ false ∷ false ∷ false ∷ false ∷ false ∷ false ∷ false ∷ false ∷ false ∷ false ∷ [])
+lock-registers : (singles isLock ≡ replicate 3 false)
+    × (ends isLock ≡ byField true false false false)
+    × (inBlocks isLock
+    ≡ replicate 4
+    (true ∷ false ∷ true ∷ false ∷ false ∷ false ∷ false ∷ false ∷ false ∷ false ∷ false ∷ false ∷ false ∷ false ∷ false ∷ []))
 unfolding rules
-lock-registers = (refl, refl)
+lock-registers = (refl, refl, refl)

@@ -12,6 +12,7 @@ use Rattle.rules.specs.Record.{inputOf}
 use Rattle.rules.specs.State.{newHandler}
 use Rattle.rules.specs.declared.Access.{Access}
 use Rattle.rules.specs.declared.Answer.{Answer}
+use Rattle.rules.specs.declared.Edition.{Edition}
 use Rattle.rules.specs.declared.Edition.the-variants.{Bytes24, Bytes70}
 use Rattle.rules.specs.declared.Refusal.the-variants.{NoRegister, BadRecord}
 use Rattle.rules.specs.Scenes.{refused}
@@ -165,6 +166,17 @@ refusals70 : (given (batch Bytes70 (newHandler 65) [] []) ≡ pos 0)
     × (batch Bytes70 (newHandler 1) (replicate 70 0) [] ≡ record { handler = newHandler 1; answer = refused 9; out = [] })
 unfolding rules
 refusals70 = (refl, refl, refl, refl, refl, refl, refl, refl)
+
+-- lengths that divide by 2, 4, 8 or 12, or by 7, 10, 14 or 35, and no multiples of the record's, with room in the list
+abbrev uneven : Edition → ℕ → ℤ
+uneven e n = given (batch e (newHandler 1) (replicate n 0) (replicate 9 7))
+
+not-multiples : (map (uneven Bytes24) (1 ∷ 2 ∷ 4 ∷ 8 ∷ 12 ∷ 16 ∷ 20 ∷ 28 ∷ 32 ∷ 36 ∷ 40 ∷ 60 ∷ []) ≡ replicate 12 (refused 8))
+    × (map (uneven Bytes70) (1 ∷ 7 ∷ 10 ∷ 14 ∷ 24 ∷ 35 ∷ 48 ∷ 72 ∷ 105 ∷ 120 ∷ []) ≡ replicate 10 (refused 8))
+    × (map (uneven Bytes24) (0 ∷ 24 ∷ 48 ∷ []) ≡ replicate 3 (pos 0))
+    × (map (uneven Bytes70) (0 ∷ 70 ∷ 140 ∷ []) ≡ replicate 3 (pos 0))
+unfolding rules
+not-multiples = (refl, refl, refl, refl)
 
 -- a batch of new records runs: CTRL of class 0 is read, and a number that the map does not assign is refused with 1
 run-on70 : batch Bytes70 (newHandler 65) (bytes70 0x68080000 0 0 0 ++ bytes70 0x7FF80000 0 0 0) (7 ∷ 8 ∷ 9 ∷ []) .out ≡ 0x393C ∷ 0x0010000000000000 ∷ 9 ∷ []

@@ -6,7 +6,7 @@ use mathlib.Core.Bool.{true, false}
 use lib.ListN.{set, replicate}
 use Rattle.class_rules.specs.declared.Class.{Class}
 use Rattle.rules.specs.State.{newHandler, resetClass, withInterrupts, withLocals, withAlerts, withClasses, withLocalColumn, withAlertColumn}
-use Rattle.rules.specs.Tick.{ticked, noOutput}
+use Rattle.rules.specs.Tick.{ticked}
 use Rattle.rules.specs.Valid.{valid}
 use Rattle.rules.specs.declared.Access.{Access}
 use Rattle.rules.specs.declared.Answer.{Answer}
@@ -79,6 +79,6 @@ places = (refl, refl, refl, refl, refl, refl, refl)
 abbrev broken : Handler
 broken = withInterrupts (record { state = 16; enable = 15 }) (newHandler 5)
 
-refuses : ticked broken (raise 0 (Access.Write 1 3)) ≡ record { handler = broken; answer = Answer.Refused BadState; output = noOutput }
+refuses : ticked broken (raise 0 (Access.Write 1 3)) ≡ record { handler = broken; answer = Answer.Refused BadState; output = record { interrupts = 0; lines = 0 } }
 unfolding rules
 refuses = refl

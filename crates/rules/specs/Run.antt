@@ -1,4 +1,4 @@
--- A list of ticks, one after another ("each tick", "a batch gives what its ticks give one by one").
+-- A list of ticks, one after another ("By demand 2 a batch is the list of its records' ticks").
 -- Assumes nothing.
 use mathlib.Core.List.{List, [], _∷_}
 use Rattle.rules.specs.Tick.{ticked}
