@@ -6,17 +6,18 @@ use mathlib.Core.Logic.{_≢_}
 use mathlib.Core.Bool.{Bool, true, false, false≢true}
 use mathlib.Core.List.{List, [], _∷_, _++_, map}
 use native.Mathlib.Omega.{arith}
-use lib.ListN.{length, take, replicate}
+use lib.ListN.{getD, length, take, replicate}
 use lib.Seq.{take-length}
 use lib.IntN.{negsuc}
 use Rattle.bits.specs.Bits.{bit}
 use Rattle.class_rules.specs.declared.Class.{Class}
 use Rattle.escalation.proofs.StartExamples.{locked, post}
 use Rattle.escalation.specs.Escalation.{Escalated, valueOf}
-use Rattle.escalation.specs.List.{IsTick, givenAt}
+use Rattle.escalation.specs.List.{IsTick, givenAt, noTick}
 use Rattle.laws.proofs.Refusal7.{seven}
 use Rattle.rules.proofs.Scenes.{rules, settings, zeros}
 use Rattle.rules.specs.Batch.{batch}
+use Rattle.rules.specs.Run.{ticks}
 use Rattle.rules.specs.Scenes.{rest, raise, none, write}
 use Rattle.rules.specs.Tick.{ticked}
 use Rattle.rules.specs.Valid.{valid}
@@ -93,6 +94,14 @@ module _ (cs : List Call) where
   claim : AcrossCalls station (starting ∷ cs)
   unfolding rules
   claim = across-calls station (starting ∷ cs) refl
+
+  -- whatever the number of the first tick, line 0 is seen on in it
+  at-any-number : (first : ℕ) → seenAt first station (starting ∷ cs) first 0 ≡ true
+  unfolding rules inputsAll
+  at-any-number first =
+      let n : first - first ≡ 0 = omega arith in
+      claim .line first first 0 (record { from = omega arith; to = omega arith }) (omega arith)
+      ∙ ap (λ (i : ℕ). bit (getD (ticks station (inputsAll station (starting ∷ cs))) i noTick .output .lines) 0) n
 
   module _ (t : ℕ) (from : 100 ≤ t) (to : t ≤ 100 + length (inputsAll (leaves station starting) cs)) where
     of-list : IsTick 100 (inputsAll station (starting ∷ cs)) t
