@@ -1,5 +1,5 @@
 // One class in code: its states, steps 3 and 4 of its tick, and the lines that it drives.
-pub mod state; // state.rt: the states and STATE's numbers
+mod state; // state.rt: the states and STATE's numbers
 pub mod step; // step.rt: steps 3 and 4
 pub mod lines; // lines.rt: step 5
 mod ctrl; // ctrl.rt: the fields of CTRL

@@ -1,4 +1,4 @@
 // "Register map": a register's number, its row, and what the row says of an access.
 pub mod column;
 pub mod number;
-pub mod row;
+mod row;

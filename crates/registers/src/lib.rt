@@ -4,5 +4,5 @@ pub mod read;
 mod restage;
 mod silly;
 mod stage;
-pub mod verdict;
+mod verdict;
 mod write;

@@ -22,7 +22,7 @@ ghost use Rattle.rules.specs.Answer.{firstOf};
 ghost use Rattle.rules.specs.Access.{locked, silly, bars, unlike, inOrder, verdict};
 
 // A register is locked while the REGWEN that guards it is 0.
-pub fn is_locked(h: Handler, q: Register) -> bool
+fn is_locked(h: Handler, q: Register) -> bool
     ensures { λ r. ⌜ r ≡ locked h q ⌝ }
 {
     let g = guard_of(q);
