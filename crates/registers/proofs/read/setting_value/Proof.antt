@@ -80,7 +80,7 @@ returns-8 : tie.Need-returns-8
 returns-8 c = simp (c .length-at .ensures, c .before .before .before .s .given .1)
 
 returns-9 : tie.Need-returns-9
-returns-9 c = search needs
+returns-9 c = simp (c .enum-told8 .given .1)
 
 returns-10 : tie.Need-returns-10
 returns-10 c = search needs
