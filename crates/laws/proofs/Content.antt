@@ -91,7 +91,7 @@ module _ (h : Handler) (r v k : ℕ) where
 
   module _ (s : Setting) (e : decode (h .n) r ≡ Block s k) where
     -- a register of the block is locked by the block
-    block-locked : locked h (Block s k) ≡ settingLocked s (classAt h k)
+    pub block-locked : locked h (Block s k) ≡ settingLocked s (classAt h k)
     unfolding locked guard value
     block-locked =
         by-setting (λ s. locked h (Block s k) ≡ settingLocked s (classAt h k)) refl refl refl refl refl refl refl (λ p. refl) refl refl s

@@ -23,6 +23,9 @@ pub mod Locks
 pub mod Clears
 pub mod Content
 pub mod StageContent
+pub mod BlockAnswers
+pub mod InterruptBits
+pub mod Arming
 pub mod Runs
 pub mod PartLaws
 pub mod BatchLaws

@@ -1,0 +1,3 @@
+pub mod Own
+pub mod Tick
+pub mod Isolated

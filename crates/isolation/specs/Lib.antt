@@ -1,0 +1,2 @@
+pub mod OwnAccess
+pub mod Isolation
