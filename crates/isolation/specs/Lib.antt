@@ -1,2 +1,3 @@
 pub mod OwnAccess
 pub mod Isolation
+pub mod Owner

@@ -109,7 +109,7 @@ module _ (h : Handler) (r v k : ℕ) where
     unfolding isShadowed stageIn
     block-first = ap (isFirst h) e
 
-    -- a write to class k's block, by the block and its stages alone (request (x) will cite this law, those on clears and those on stages)
+    -- a write to class k's block, by the block and its stages alone (request (x) cites this law, those on clears and those on stages)
     pub acted-class-own : classAt (acted h (Write r v)) k ≡ blockWritten s v (classAt h k) (classStages (h .stages) k)
     unfolding blockWritten
     acted-class-own =

@@ -26,6 +26,8 @@ pub mod StageContent
 pub mod BlockAnswers
 pub mod InterruptBits
 pub mod Arming
+pub mod Named
+pub mod Raises
 pub mod Runs
 pub mod PartLaws
 pub mod BatchLaws

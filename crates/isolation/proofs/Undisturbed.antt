@@ -1,0 +1,237 @@
+-- Request (x), for the owner: from one state, and with all else equal, the tenant does not move the owner's class.
+-- Assumes nothing.
+use Prim.Native.Nat.{ℕ, zero, suc, _-_, _≤_, _<_}
+use mathlib.Core.Path.{_≡_, refl, sym, ap, ap₂, _∙_}
+use mathlib.Core.Logic.{_⊎_, inl, inr}
+use mathlib.Core.Bool.{Bool, true, false, cond, _&&_, _||_, xor, and-false}
+use mathlib.Core.List.{List}
+use native.Mathlib.Omega.{arith}
+use borrow.Author.Tests.{lt-ltb, not-true}
+use lib.Dec.{eqb, ltb}
+use lib.ListN.{length}
+use Rattle.bits.specs.Bits.{bit}
+use Rattle.bits.specs.Index.{anyTo}
+use Rattle.bits.proofs.IndexLaws.{any-ext}
+use Rattle.class_rules.specs.Step.{classEvent, starts}
+use Rattle.escalation.proofs.Ticks
+use Rattle.escalation.proofs.Ticks.{input, at-next}
+use Rattle.escalation.specs.List.{IsTick, before, inputAt}
+use Rattle.laws.proofs.Arming.{after-armed}
+use Rattle.laws.proofs.Cases.{by-kind}
+use Rattle.laws.proofs.Frame.{stepped-frame, after-stage, after-n}
+use Rattle.laws.proofs.InterruptBits.{after-enable}
+use Rattle.laws.proofs.Raises.{no-local}
+use Rattle.laws.proofs.RegisterFile.{acted-n}
+use Rattle.laws.proofs.ValidLaws.{facts}
+use Rattle.laws.specs.Block.{ofBlock}
+use Rattle.rules.specs.Access.{value, named, acted, effects}
+use Rattle.rules.specs.Map.{decode, fieldRow}
+use Rattle.rules.specs.Run.{run}
+use Rattle.rules.specs.Samples.{happens, positive, negative, alertEvent, rearmed, assigned, armedAfter}
+use Rattle.rules.specs.State.{most, classCount, alert, armed}
+use Rattle.rules.specs.Tick.{event, after}
+use Rattle.rules.specs.Valid.{valid}
+use Rattle.rules.specs.declared.Access.{Access}
+use Rattle.rules.specs.declared.Access.the-variants.{Nothing, Read, Write, Malformed}
+use Rattle.rules.specs.declared.Field.{Field}
+use Rattle.rules.specs.declared.Handler.{Handler}
+use Rattle.rules.specs.declared.Input.{Input}
+use Rattle.rules.specs.declared.Register.{Register}
+use Rattle.rules.specs.declared.Register.the-variants.{Alert}
+use Rattle.rules.specs.declared.Wires.{Wires}
+use Rattle.isolation.specs.Isolation.{SameTick, Alike, AlikeEnable}
+use Rattle.isolation.specs.OwnAccess.{own}
+use Rattle.isolation.specs.Owner.{mayName, byTenant, ButTenant, OnlyTenant, startsIn, Undisturbed}
+use Rattle.isolation.proofs.Isolated.{isolation, by-index}
+use Rattle.isolation.proofs.Own.{both, same-acted}
+use Rattle.isolation.proofs.Shared.{Shared, f-small}
+use Rattle.isolation.proofs.Tenant.{may-name, shared-acted}
+use Rattle.isolation.proofs.Tick.{Equal, equal-read, equal-met, equal-after}
+
+-- ── step 1: the tenant's access names no register of class k's block ──
+
+other-block : (k : ℕ) (his : ℕ → Bool) (q : Register) → mayName k his q ≡ true → ofBlock k q ≡ false
+other-block k his q =
+    by-kind (λ q. mayName k his q ≡ true → ofBlock k q ≡ false) (λ e. refl) (λ e. refl) (λ e. refl) (λ f j e. refl) (λ f i e. refl)
+    (λ s j. not-true (eqb k j)) (λ e. refl) q
+
+tenant-own : (k : ℕ) (his : ℕ → Bool) (g : Handler) (x : Access) → byTenant k his g x ≡ true → own g x k ≡ Nothing
+tenant-own k his g x e = ap (λ (b : Bool). cond b x Nothing) (other-block k his (named g x) (may-name k his g x e))
+
+-- the same access names the same in both
+same-own : (k : ℕ) (g f : Handler) (x : Access) → g .n ≡ f .n → own g x k ≡ own f x k
+same-own k g f Nothing e = refl
+same-own k g f (Read r) e = ap (λ (n : ℕ). cond (ofBlock k (decode n r)) (Read r) Nothing) e
+same-own k g f (Write r v) e = ap (λ (n : ℕ). cond (ofBlock k (decode n r)) (Write r v) Nothing) e
+same-own k g f Malformed e = refl
+
+-- ── step 2, of the states g and f after step 1 ──
+
+module _ (k : ℕ) (his : ℕ → Bool) (g f : Handler) (w u : Wires) (s : Shared k his g f)
+    (pos : (i : ℕ) → i < g .n → his i ≡ false → positive w i ≡ positive u i) (neg : (i : ℕ) → i < g .n → his i ≡ false → negative w i ≡ negative u i) where
+  -- an alert that is not the tenant's
+  same-alert : (i : ℕ) → his i ≡ false → i < g .n → alertEvent g w i ≡ alertEvent f u i
+  unfolding alertEvent
+  same-alert i e l =
+      ap₂ (λ (n : ℕ) (v : ℕ). ltb i n && (happens (armed g i) (positive w i) (negative w i) && eqb v 1)) (s .n) (s .fields Field.En i e l refl)
+      ∙ ap (λ (a : Bool). ltb i (f .n) && (happens a (positive w i) (negative w i) && eqb (alert f Field.En i) 1)) (s .arms i e l)
+      ∙ ap₂ (λ (p m : Bool). ltb i (f .n) && (happens (armed f i) p m && eqb (alert f Field.En i) 1)) (pos i l e) (neg i l e)
+
+  same-rearmed : (i : ℕ) → his i ≡ false → i < g .n → rearmed g w i ≡ rearmed f u i
+  unfolding rearmed
+  same-rearmed i e l =
+      ap₂ (λ (n : ℕ) (a : Bool). cond (ltb i n) (armedAfter a (positive w i) (negative w i)) a) (s .n) (s .arms i e l)
+      ∙ ap₂ (λ (p m : Bool). cond (ltb i (f .n)) (armedAfter (armed f i) p m) (armed f i)) (pos i l e) (neg i l e)
+
+  -- where none of the tenant's is assigned to class k, the same alerts' events are
+  alerts-same : ((i : ℕ) → i < g .n → his i ≡ true → eqb (alert g Field.Class i) k ≡ false) → ((i : ℕ) → i < f .n → his i ≡ true → eqb (alert f Field.Class i) k ≡ false)
+      → (i : ℕ) → i < g .n → (alertEvent g w i && eqb (alert g Field.Class i) k) ≡ (alertEvent f u i && eqb (alert f Field.Class i) k)
+  alerts-same apart-g apart-f i l = go (his i) refl
+    where
+      go : (b : Bool) → his i ≡ b → (alertEvent g w i && eqb (alert g Field.Class i) k) ≡ (alertEvent f u i && eqb (alert f Field.Class i) k)
+      go true e =
+          ap (λ (t : Bool). alertEvent g w i && t) (apart-g i l e) ∙ and-false (alertEvent g w i)
+          ∙ sym (ap (λ (t : Bool). alertEvent f u i && t) (apart-f i (omega (arith, s .n)) e) ∙ and-false (alertEvent f u i))
+      go false e = ap₂ (λ (t : Bool) (c : ℕ). t && eqb c k) (same-alert i e l) (s .fields Field.Class i e l refl)
+
+-- ── one tick of each run ──
+
+module _ (k : ℕ) (his : ℕ → Bool) (g : Handler) (x : Input) (f : Handler) (y : Input) (l : k < classCount) (s : Shared k his g f) (q : Equal k g f)
+    (t : ButTenant k his g x f y) where
+  abbrev g1 : Handler
+  g1 = acted g (x .access)
+
+  abbrev f1 : Handler
+  f1 = acted f (y .access)
+
+  read : Shared k his g1 f1
+  read = shared-acted k his g f s l (x .access) (y .access) (t .access)
+
+  pos : (i : ℕ) → i < g1 .n → his i ≡ false → positive (x .sample .alerts) i ≡ positive (y .sample .alerts) i
+  pos i m = t .pos i (omega (arith, acted-n g (x .access)))
+
+  neg : (i : ℕ) → i < g1 .n → his i ≡ false → negative (x .sample .alerts) i ≡ negative (y .sample .alerts) i
+  neg i m = t .neg i (omega (arith, acted-n g (x .access)))
+
+  owns : own g (x .access) k ≡ own f (y .access) k
+  owns = go (t .access)
+    where
+      go : (x .access ≡ y .access) ⊎ ((byTenant k his g (x .access) ≡ true) × (byTenant k his f (y .access) ≡ true)) → own g (x .access) k ≡ own f (y .access) k
+      go (inl e) = same-own k g f (x .access) (s .n) ∙ ap (λ (a : Access). own f a k) e
+      go (inr e) = tenant-own k his g (x .access) (e .0) ∙ sym (tenant-own k his f (y .access) (e .1))
+
+  same-assigned : assigned g1 (x .sample .alerts) (effects g (x .access)) k ≡ assigned f1 (y .sample .alerts) (effects f (y .access)) k
+  unfolding assigned
+  same-assigned =
+      ap₂ _||_
+      (any-ext (λ i. alertEvent g1 (x .sample .alerts) i && eqb (alert g1 Field.Class i) k) (λ i. alertEvent f1 (y .sample .alerts) i && eqb (alert f1 Field.Class i) k) (g1 .n)
+      (alerts-same k his g1 f1 (x .sample .alerts) (y .sample .alerts) read pos neg
+      (λ i m. t .apart .0 .alerts i (omega (arith, acted-n g (x .access)))) (λ i m. t .apart .1 .alerts i (omega (arith, acted-n f (y .access)))))
+      ∙ ap (λ (n : ℕ). anyTo (λ i. alertEvent f1 (y .sample .alerts) i && eqb (alert f1 Field.Class i) k) n) (read .n))
+      (no-local g (x .access) g1 (x .sample .alerts) k (t .apart .0 .local-2) (t .apart .0 .local-5)
+      ∙ sym (no-local f (y .access) f1 (y .sample .alerts) k (t .apart .1 .local-2) (t .apart .1 .local-5)))
+
+  -- class k is treated alike
+  pub tick-alike : SameTick k g x f y
+  unfolding event
+  tick-alike =
+      record {
+        same-event = ap₂ classEvent same-assigned
+            (same-acted g f k l (q .class) (q .stages) (x .access) (y .access) (both g f k (f-small k his g f s) (x .access) (y .access) owns));
+        same-access = owns;
+        same-change = ap₂ xor (s .bit-k) (read .bit-k);
+      }
+
+  pub tick-equal : Equal k (after g x) (after f y)
+  tick-equal = equal-after k g x f y l (f-small k his g f s) q tick-alike
+
+  -- its escalation starts in both or in none
+  pub tick-starts : startsIn k g x ≡ startsIn k f y
+  tick-starts = ap₂ starts (equal-met k g x f y l (f-small k his g f s) q tick-alike) (equal-read k g x f y l (f-small k his g f s) q tick-alike .class)
+
+  pub change-enable : xor (bit (g .interrupts .enable) k) (bit (g1 .interrupts .enable) k) ≡ xor (bit (f .interrupts .enable) k) (bit (f1 .interrupts .enable) k)
+  change-enable = ap₂ xor (s .enable-k) (read .enable-k)
+
+  frame : (h : Handler) (z : Input) (d : Field) (i : ℕ) → i < h .n → fieldRow d .moves ≡ false → alert (after h z) d i ≡ alert (acted h (z .access)) d i
+  unfolding after value
+  frame h z d i m e =
+      stepped-frame (acted h (z .access)) (z .sample .alerts) (effects h (z .access)) (Alert d i) (lt-ltb i (acted h (z .access) .n) (omega (arith, acted-n h (z .access)))) e
+
+  pub shared-after : Shared k his (after g x) (after f y)
+  shared-after =
+      record {
+        small = omega (arith, s .small, after-n g x);
+        n = after-n g x ∙ s .n ∙ sym (after-n f y);
+        fields = λ d i e m u. let j : i < g .n = omega (arith, after-n g x) in
+            frame g x d i j u ∙ read .fields d i e (omega (arith, acted-n g (x .access))) u ∙ sym (frame f y d i (omega (arith, s .n)) u);
+        stages = λ d i e m. let j : i < g .n = omega (arith, after-n g x) in
+            after-stage g x (Alert d i) ∙ read .stages d i e (omega (arith, acted-n g (x .access))) ∙ sym (after-stage f y (Alert d i));
+        arms = λ i e m. let j : i < g .n = omega (arith, after-n g x) in
+            after-armed g x i (omega (arith, s .small))
+            ∙ same-rearmed k his g1 f1 (x .sample .alerts) (y .sample .alerts) read pos neg i e (omega (arith, acted-n g (x .access)))
+            ∙ sym (after-armed f y i (omega (arith, s .small)));
+        bit-k = tick-equal .bit-k;
+        enable-k = ap (λ (o : ℕ). bit o k) (after-enable g x) ∙ read .enable-k ∙ sym (ap (λ (o : ℕ). bit o k) (after-enable f y));
+      }
+
+-- ── the two runs ──
+
+module _ (k : ℕ) (his : ℕ → Bool) (first : ℕ) (h : Handler) (xs ys : List Input) (l : k < classCount) (v : valid h ≡ true) (n : length xs ≡ length ys)
+    (t : OnlyTenant k his first h xs ys) where
+  abbrev Both : ℕ → Type 0
+  Both i = Shared k his (Ticks.at h xs i) (Ticks.at h ys i) × Equal k (Ticks.at h xs i) (Ticks.at h ys i)
+
+  but-at : (i : ℕ) → i < length xs → ButTenant k his (Ticks.at h xs i) (input xs i) (Ticks.at h ys i) (input ys i)
+  but-at = by-index first xs (λ i. ButTenant k his (Ticks.at h xs i) (input xs i) (Ticks.at h ys i) (input ys i)) t
+
+  step : (i : ℕ) → i < length xs → Both i
+      → Shared k his (after (Ticks.at h xs i) (input xs i)) (after (Ticks.at h ys i) (input ys i))
+      × Equal k (after (Ticks.at h xs i) (input xs i)) (after (Ticks.at h ys i) (input ys i))
+  step i m p = (
+    shared-after k his (Ticks.at h xs i) (input xs i) (Ticks.at h ys i) (input ys i) l (p .0) (p .1) (but-at i m),
+    tick-equal k his (Ticks.at h xs i) (input xs i) (Ticks.at h ys i) (input ys i) l (p .0) (p .1) (but-at i m),
+  )
+
+  both-at : (i : ℕ) → i ≤ length xs → Both i
+  unfolding run
+  both-at zero m = (
+    record { small = facts h v .n; n = refl; fields = λ d i e j u. refl; stages = λ d i e j. refl; arms = λ i e j. refl; bit-k = refl; enable-k = refl },
+    record { class = refl; stages = refl; bit-k = refl },
+  )
+  both-at (suc i) m = rw (at-next h xs v i m, at-next h ys v i (omega arith)) (step i m (both-at i (omega arith)))
+
+  alike : Alike k first h xs h ys
+  alike =
+      record {
+        same-class = refl;
+        same-stages = refl;
+        same-bit = refl;
+        same-tick = λ j m. let i : ℕ = j - first in let p = both-at i (omega (arith, m .from, m .to)) in
+            tick-alike k his (Ticks.at h xs i) (input xs i) (Ticks.at h ys i) (input ys i) l (p .0) (p .1) (t j m);
+      }
+
+  alike-enable : AlikeEnable k first h xs h ys
+  alike-enable =
+      record {
+        same-enable = refl;
+        same-change = λ j m. let i : ℕ = j - first in let p = both-at i (omega (arith, m .from, m .to)) in
+            change-enable k his (Ticks.at h xs i) (input xs i) (Ticks.at h ys i) (input ys i) l (p .0) (p .1) (t j m);
+      }
+
+  start : (j : ℕ) → IsTick first xs j → startsIn k (before first h xs j) (inputAt first xs j) ≡ startsIn k (before first h ys j) (inputAt first ys j)
+  start j m =
+      let i : ℕ = j - first in let p = both-at i (omega (arith, m .from, m .to)) in
+      tick-starts k his (Ticks.at h xs i) (input xs i) (Ticks.at h ys i) (input ys i) l (p .0) (p .1) (t j m)
+
+-- the claim of specs/Owner.antt, of every accepted state and every two lists of one length
+pub undisturbed : (k : ℕ) (his : ℕ → Bool) (first : ℕ) (h : Handler) (xs ys : List Input)
+    → k < classCount → valid h ≡ true → length xs ≡ length ys → OnlyTenant k his first h xs ys → Undisturbed k first h xs ys
+undisturbed k his first h xs ys l v n t =
+    let c = isolation k first h xs h ys l v v n in
+    let a = alike k his first h xs ys l v n t in
+    record {
+      start = start k his first h xs ys l v n t;
+      class = c .class a;
+      interrupt = c .interrupt a (alike-enable k his first h xs ys l v n t);
+      answer = c .answer a;
+    }

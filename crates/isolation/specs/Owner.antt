@@ -1,0 +1,78 @@
+-- Request (x), for the owner of class k: can another class's tenant slow it? Two runs from one state, which differ in what the tenant does alone.
+-- proofs/Undisturbed.antt proves it.
+-- Assumes nothing.
+use Prim.Native.Nat.{ℕ, _<_}
+use mathlib.Core.Path.{_≡_}
+use mathlib.Core.Logic.{_⊎_}
+use mathlib.Core.Bool.{Bool, true, false, not, _&&_}
+use mathlib.Core.List.{List}
+use lib.Dec.{eqb}
+use Rattle.class_rules.specs.Step.{starts}
+use Rattle.escalation.specs.List.{IsTick, before, inputAt, givenAt, classRead, met}
+use Rattle.laws.specs.Block.{namesBlock}
+use Rattle.rules.specs.Access.{acted, named}
+use Rattle.rules.specs.Samples.{positive, negative}
+use Rattle.rules.specs.State.{local, alert}
+use Rattle.rules.specs.declared.Access.{Access}
+use Rattle.rules.specs.declared.Field.{Field}
+use Rattle.rules.specs.declared.Handler.{Handler}
+use Rattle.rules.specs.declared.Input.{Input}
+use Rattle.rules.specs.declared.Register.{Register}
+use Rattle.rules.specs.declared.Register.the-variants.{IntrState, IntrEnable, IntrTest, Local, Alert, Block, Unassigned}
+use Rattle.isolation.specs.Isolation.{SameClass, SameInterrupt}
+use Rattle.isolation.specs.OwnAccess.{changesState, changesEnable}
+
+-- ── the tenant: `his i` says that alert i is his ──
+
+-- what he may name: the interrupt registers, local alerts, his alerts, the blocks of other classes, and what is no register
+abbrev pub mayName : ℕ → (ℕ → Bool) → Register → Bool
+mayName k his IntrState = true
+mayName k his IntrEnable = true
+mayName k his IntrTest = true
+mayName k his (Local f j) = true
+mayName k his (Alert f i) = his i
+mayName k his (Block s j) = not (eqb k j)
+mayName k his Unassigned = true
+
+-- his access: it names such a register and leaves class k's bits of INTR_STATE and INTR_ENABLE as they are
+abbrev pub byTenant : ℕ → (ℕ → Bool) → Handler → Access → Bool
+byTenant k his g a = mayName k his (named g a) && (not (changesState g a k) && not (changesEnable g a k))
+
+-- local alert j is enabled and assigned to class k
+abbrev pub reaches : ℕ → Handler → ℕ → Bool
+reaches k h j = eqb (local h Field.En j) 1 && eqb (local h Field.Class j) k
+
+-- in the tick of state g and input x, as step 2 reads them: none of his alerts is assigned to class k, and local 2 and local 5 are each disabled or
+-- assigned to another class
+pub record Apart (k : ℕ) (his : ℕ → Bool) (g : Handler) (x : Input) : Type 0 where
+  pub alerts : (i : ℕ) → i < g .n → his i ≡ true → eqb (alert (acted g (x .access)) Field.Class i) k ≡ false
+  pub local-2 : reaches k (acted g (x .access)) 2 ≡ false
+  pub local-5 : reaches k (acted g (x .access)) 5 ≡ false
+
+-- two ticks that are equal but for his accesses and his alerts' wires
+pub record ButTenant (k : ℕ) (his : ℕ → Bool) (g : Handler) (x : Input) (f : Handler) (y : Input) : Type 0 where
+  pub access : (x .access ≡ y .access) ⊎ ((byTenant k his g (x .access) ≡ true) × (byTenant k his f (y .access) ≡ true))
+  pub pos : (i : ℕ) → i < g .n → his i ≡ false → positive (x .sample .alerts) i ≡ positive (y .sample .alerts) i
+  pub neg : (i : ℕ) → i < g .n → his i ≡ false → negative (x .sample .alerts) i ≡ negative (y .sample .alerts) i
+  pub apart : Apart k his g x × Apart k his f y
+
+-- so are all ticks of the runs with inputs xs and ys from the state h
+abbrev pub OnlyTenant : ℕ → (ℕ → Bool) → ℕ → Handler → List Input → List Input → Type 0
+OnlyTenant k his first h xs ys =
+    (t : ℕ) → IsTick first xs t → ButTenant k his (before first h xs t) (inputAt first xs t) (before first h ys t) (inputAt first ys t)
+
+-- ── then the owner's class is the same in every tick of both runs ──
+
+-- its escalation starts in the tick of state g and input x
+abbrev pub startsIn : ℕ → Handler → Input → Bool
+startsIn k g x = starts (met g x k) (classRead g x k)
+
+pub record Undisturbed (k first : ℕ) (h : Handler) (xs ys : List Input) : Type 0 where
+  -- "class A's escalation starts in the same tick"
+  pub start : (t : ℕ) → IsTick first xs t → startsIn k (before first h xs t) (inputAt first xs t) ≡ startsIn k (before first h ys t) (inputAt first ys t)
+  -- "and takes as long": its STATE and ESC_CNT, with all else that is its own, are equal in every tick
+  pub class : (t : ℕ) → IsTick first xs t → SameClass k (givenAt first h xs t) (givenAt first h ys t)
+  pub interrupt : (t : ℕ) → IsTick first xs t → SameInterrupt k (givenAt first h xs t) (givenAt first h ys t)
+  pub answer :
+      (t : ℕ) → IsTick first xs t → namesBlock (before first h xs t) (inputAt first xs t .access) k ≡ true
+      → givenAt first h xs t .answer ≡ givenAt first h ys t .answer

@@ -1,0 +1,76 @@
+-- Which local alerts occur: 2 by equal wires and 5 by a write that differs from its stage, and no other.
+-- Assumes nothing.
+use Prim.Native.Nat.{ℕ, zero, suc, _^_, _<_}
+use mathlib.Core.Path.{_≡_, refl, ap, _∙_}
+use mathlib.Core.Bool.{Bool, true, false, cond, _&&_, _||_}
+use native.Mathlib.Omega.{arith}
+use lib.Dec.{eqb}
+use Rattle.bits.proofs.IndexLaws.{any-none}
+use Rattle.bits.specs.Bits.{bit}
+use Rattle.bits.specs.Index.{anyTo}
+use Rattle.rules.specs.Access.{verdict, raisedBy, accessedBy, accessed, effects}
+use Rattle.rules.specs.Answer.{refusalNumber}
+use Rattle.rules.specs.Samples.{alertBroken, raised, occurs}
+use Rattle.rules.specs.State.{localCount, local}
+use Rattle.rules.specs.declared.Access.{Access}
+use Rattle.rules.specs.declared.Field.{Field}
+use Rattle.rules.specs.declared.Handler.{Handler}
+use Rattle.rules.specs.declared.Verdict.{Verdict}
+use Rattle.rules.specs.declared.Wires.{Wires}
+
+-- an access raises local 5, or none
+pub raises-either : (h : Handler) (x : Access) (j : ℕ) (P : Bool → Type 0) → P (bit 0 j) → P (bit (2 ^ 5) j) → P (bit (effects h x .raises) j)
+unfolding effects accessed
+raises-either h x j P a b = go (verdict h x)
+  where
+    at : (t : Bool) → P (bit (cond t (2 ^ 5) 0) j)
+    at true = b
+    at false = a
+
+    go : (v : Verdict) → P (bit (accessedBy v h x .effects .raises) j)
+    go Verdict.Accepted = a
+    go (Verdict.Refused m) = at (eqb (refusalNumber m) 12)
+
+-- ── class k, by the state g after step 1 and the wires w ──
+
+module _ (h : Handler) (x : Access) (g : Handler) (w : Wires) (k : ℕ) where
+  -- local alert j is disabled or assigned to another class
+  abbrev Elsewhere : ℕ → Type 0
+  Elsewhere j = (eqb (local g Field.En j) 1 && eqb (local g Field.Class j) k) ≡ false
+
+  abbrev none : ℕ → Type 0
+  none j = (occurs g w (effects h x) j && eqb (local g Field.Class j) k) ≡ false
+
+  -- such a one does not occur in class k
+  off : (j : ℕ) → Elsewhere j → none j
+  unfolding occurs
+  off j e = go (raised g w (effects h x) j)
+    where
+      go : (r : Bool) → ((r && eqb (local g Field.En j) 1) && eqb (local g Field.Class j) k) ≡ false
+      go true = e
+      go false = refl
+
+  -- nor does one that is not raised
+  still : (j : ℕ) → raised g w (effects h x) j ≡ false → none j
+  unfolding occurs
+  still j e = ap (λ (r : Bool). (r && eqb (local g Field.En j) 1) && eqb (local g Field.Class j) k) e
+
+  unraised : (j : ℕ) → eqb j 2 ≡ false → bit 0 j ≡ false → bit (2 ^ 5) j ≡ false → none j
+  unfolding raised
+  unraised j d a b =
+      still j (ap (λ (t : Bool). (t && anyTo (alertBroken g w) (g .n)) || bit (effects h x .raises) j) d ∙ raises-either h x j (λ t. t ≡ false) a b)
+
+  -- where local 2 and local 5 are elsewhere, none occurs in class k
+  pub no-local : Elsewhere 2 → Elsewhere 5 → anyTo (λ j. occurs g w (effects h x) j && eqb (local g Field.Class j) k) localCount ≡ false
+  unfolding bit
+  no-local two five = any-none (λ j. occurs g w (effects h x) j && eqb (local g Field.Class j) k) localCount each
+    where
+      each : (j : ℕ) → j < localCount → none j
+      each zero l = unraised 0 refl refl refl
+      each (suc zero) l = unraised 1 refl refl refl
+      each (suc (suc zero)) l = off 2 two
+      each (suc (suc (suc zero))) l = unraised 3 refl refl refl
+      each (suc (suc (suc (suc zero)))) l = unraised 4 refl refl refl
+      each (suc (suc (suc (suc (suc zero))))) l = off 5 five
+      each (suc (suc (suc (suc (suc (suc zero)))))) l = unraised 6 refl refl refl
+      each (suc (suc (suc (suc (suc (suc (suc j))))))) l = absurd (omega arith)
