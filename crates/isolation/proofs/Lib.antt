@@ -6,3 +6,5 @@ pub mod Tenant
 pub mod Undisturbed
 pub mod Traces
 pub mod TwoStations
+pub mod Needed
+pub mod OwnerExamples

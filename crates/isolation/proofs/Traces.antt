@@ -48,7 +48,7 @@ module _ {A : Type 0} (view : Handler → Input → A) where
   length-along h [] = refl
   length-along h (x ∷ xs) = ap suc (length-along (ticked h x .handler) xs)
 
-  along-at : (h : Handler) (xs : List Input) (i : ℕ) (d : A) → i < length xs → getD (along view h xs) i d ≡ view (Ticks.at h xs i) (input xs i)
+  pub along-at : (h : Handler) (xs : List Input) (i : ℕ) (d : A) → i < length xs → getD (along view h xs) i d ≡ view (Ticks.at h xs i) (input xs i)
   unfolding along run
   along-at h [] i d l = absurd (not-suc-le-zero l)
   along-at h (x ∷ xs) zero d l = refl

@@ -28,7 +28,7 @@ use Rattle.rules.specs.declared.Register.the-variants.{IntrState, IntrEnable, A
 use Rattle.rules.specs.declared.Setting.{Setting}
 use Rattle.rules.specs.declared.Setting.the-variants.{Ctrl, Clr, AccumCnt, AccumThresh, TimeoutCyc, PhaseCyc, EscCnt}
 use Rattle.rules.specs.declared.Ticked.{Ticked}
-use Rattle.isolation.specs.Isolation.{Alike, AlikeEnable, SameClass, SameInterrupt, Isolation}
+use Rattle.isolation.specs.Isolation.{Alike, AlikeEnable, SameClass, Isolation}
 use Rattle.isolation.proofs.Isolated.{isolation}
 use Rattle.isolation.proofs.Traces.{Got, along, gets, enables, alike-by, enable-by}
 
@@ -37,9 +37,9 @@ use Rattle.isolation.proofs.Traces.{Got, along, gets, enables, alike-by
 abbrev owner : Class
 owner = settings 0x393F 9 0 zeros
 
--- 248 alerts, of which the last is enabled, in class A
+-- 65 alerts, of which the last is enabled, in class A
 abbrev one : Handler
-one = withStages (withStage (Block AccumThresh 0) 1 noStages) (station 248 (set (replicate 248 0) 247 1) (replicate 248 0) 0 owner)
+one = withStages (withStage (Block AccumThresh 0) 1 noStages) (station 65 (set (replicate 248 0) 64 1) (replicate 248 0) 0 owner)
 
 -- 3 alerts: 0 is enabled in class B, which starts at its first event and has a stage open, and 1 in class A; local 2 and local 5 are enabled in class B
 abbrev other : Handler
@@ -58,7 +58,7 @@ abbrev xs : List Input
 xs =
     rest (write (Block AccumThresh 0) 0)
     ∷ rest (write IntrEnable 1)
-    ∷ raise 247 none
+    ∷ raise 64 none
     ∷ rest (read (Block Setting.State 0))
     ∷ rest (write (Block TimeoutCyc 0) 7)
     ∷ rest (write (Block TimeoutCyc 0) 8)
@@ -186,52 +186,59 @@ answered =
     at : (t : ℕ) → t < 10 → IsTick 0 xs t
     at t l = record { from = omega arith; to = l }
 
--- ── computed beside it ──
+-- ── computed beside it: the start in tick 2, the phases and Terminal, the stages, the interrupt and the answers; class B and the lines differ ──
 
--- the start in tick 2, the phases and Terminal
-abbrev states : ℕ → Handler → List Input → List ℕ
-states k h is = map (λ (o : Ticked). classAt (o .handler) k .state) (ticks h is)
+-- after a tick: class A's STATE, the codes staged for its TIMEOUT_CYC and PHASE2_CYC, its interrupt; the answer; class B's STATE, the lines
+record Row : Type 0 where
+  pub state : ℕ
+  pub timeout : ℕ
+  pub length-2 : ℕ
+  pub interrupt : Bool
+  pub answer : Answer
+  pub state-b : ℕ
+  pub lines : ℕ
 
-abbrev course : List ℕ
-course = 0 ∷ 0 ∷ 4 ∷ 5 ∷ 6 ∷ 7 ∷ 3 ∷ 3 ∷ 3 ∷ 3 ∷ []
+abbrev rows : Handler → List Input → List Row
+rows h is =
+    map (λ (o : Ticked). record {
+      state = classAt (o .handler) 0 .state;
+      timeout = stage (o .handler) (Block TimeoutCyc 0);
+      length-2 = stage (o .handler) (Block (PhaseCyc 2) 0);
+      interrupt = bit (o .output .interrupts) 0;
+      answer = o .answer;
+      state-b = classAt (o .handler) 1 .state;
+      lines = o .output .lines;
+    }) (ticks h is)
 
-computed : (states 0 one xs ≡ course) × (states 0 other ys ≡ course)
+abbrev row : ℕ → ℕ → ℕ → Bool → Answer → ℕ → ℕ → Row
+row s t p i a b l = record { state = s; timeout = t; length-2 = p; interrupt = i; answer = a; state-b = b; lines = l }
+
+computed : rows one xs
+    ≡ row 0 0 0 false Answer.Done 0 0
+    ∷ row 0 0 0 false Answer.Done 0 0
+    ∷ row 4 0 0 true Answer.Done 0 1
+    ∷ row 5 0 0 true (Answer.Value 4) 0 2
+    ∷ row 6 8 0 true Answer.Done 0 4
+    ∷ row 7 0 0 true (Answer.Refused Differs) 0 8
+    ∷ row 3 0 0 false Answer.Done 0 0
+    ∷ row 3 0 0 false (Answer.Refused Locked) 0 0
+    ∷ row 3 0 6 false Answer.Done 0 0
+    ∷ row 3 0 6 false Answer.Done 0 0
+    ∷ []
 unfolding rules
-computed = (refl, refl)
+computed = refl
 
--- the stages: of the threshold, of the timeout and of the length of Phase 2
-abbrev stages : Setting → Handler → List Input → List ℕ
-stages s h is = map (λ (o : Ticked). stage (o .handler) (Block s 0)) (ticks h is)
-
-computed-stages : (stages TimeoutCyc one xs ≡ 0 ∷ 0 ∷ 0 ∷ 0 ∷ 8 ∷ replicate 5 0)
-    × (stages TimeoutCyc other ys ≡ 0 ∷ 0 ∷ 0 ∷ 0 ∷ 8 ∷ replicate 5 0)
-    × (stages (PhaseCyc 2) one xs ≡ 0 ∷ 0 ∷ 0 ∷ 0 ∷ 0 ∷ 0 ∷ 0 ∷ 0 ∷ 6 ∷ 6 ∷ [])
-    × (stages (PhaseCyc 2) other ys ≡ 0 ∷ 0 ∷ 0 ∷ 0 ∷ 0 ∷ 0 ∷ 0 ∷ 0 ∷ 6 ∷ 6 ∷ [])
+computed-other : rows other ys
+    ≡ row 0 0 0 false Answer.Done 4 1
+    ∷ row 0 0 0 false Answer.Done 5 2
+    ∷ row 4 0 0 true Answer.Done 0 1
+    ∷ row 5 0 0 true (Answer.Value 4) 0 2
+    ∷ row 6 8 0 true Answer.Done 4 5
+    ∷ row 7 0 0 true (Answer.Refused Differs) 5 10
+    ∷ row 3 0 0 false Answer.Done 6 4
+    ∷ row 3 0 0 false (Answer.Refused Locked) 7 8
+    ∷ row 3 0 6 false Answer.Done 3 0
+    ∷ row 3 0 6 false (Answer.Value 0x393D) 3 0
+    ∷ []
 unfolding rules
-computed-stages = (refl, refl, refl, refl)
-
-abbrev bits : Handler → List Input → List Bool
-bits h is = map (λ (o : Ticked). bit (o .output .interrupts) 0) (ticks h is)
-
-abbrev raisedBits : List Bool
-raisedBits = false ∷ false ∷ true ∷ true ∷ true ∷ true ∷ replicate 4 false
-
-computed-bits : (bits one xs ≡ raisedBits) × (bits other ys ≡ raisedBits)
-unfolding rules
-computed-bits = (refl, refl)
-
-computed-answers : (givenAt 0 one xs 3 .answer ≡ Answer.Value 4)
-    × (givenAt 0 one xs 4 .answer ≡ Answer.Done)
-    × (givenAt 0 one xs 5 .answer ≡ Answer.Refused Differs)
-    × (givenAt 0 one xs 7 .answer ≡ Answer.Refused Locked)
-unfolding rules
-computed-answers = (refl, refl, refl, refl)
-
--- the runs differ: class B is busy in the second, and lines are on there for it alone
-differ : (states 1 one xs ≡ replicate 10 0) × (states 1 other ys ≡ 4 ∷ 5 ∷ 0 ∷ 0 ∷ 4 ∷ 5 ∷ 6 ∷ 7 ∷ 3 ∷ 3 ∷ [])
-unfolding rules
-differ = (refl, refl)
-
-lines-differ : (givenAt 0 one xs 0 .output .lines ≡ 0) × (givenAt 0 other ys 0 .output .lines ≡ 1)
-unfolding rules
-lines-differ = (refl, refl)
+computed-other = refl

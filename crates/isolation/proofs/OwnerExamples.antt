@@ -1,0 +1,229 @@
+-- Request (x), for the owner: a busy tenant who does not move class A, and what he could do if a condition were missing.
+-- Assumes nothing.
+use Prim.Native.Nat.{ℕ, zero, suc, _+_, _-_, _<_}
+use mathlib.Core.Path.{_≡_, refl, ap, _∙_, sym}
+use mathlib.Core.Logic.{_⊎_, inl, inr}
+use mathlib.Core.Bool.{Bool, true, false, false≢true, true≢false, xor}
+use mathlib.Core.List.{List, [], _∷_, map}
+use native.Mathlib.Omega.{arith}
+use lib.Dec.{eqb}
+use lib.ListN.{getD, length, set, replicate}
+use Rattle.bits.specs.Bits.{bit}
+use Rattle.class_rules.specs.Class.{drives}
+use Rattle.class_rules.specs.declared.Class.{Class}
+use Rattle.escalation.proofs.Ticks
+use Rattle.escalation.proofs.Ticks.{input}
+use Rattle.escalation.specs.List.{IsTick, before, inputAt, givenAt}
+use Rattle.rules.proofs.Scenes.{rules, settings, station, zeros}
+use Rattle.rules.specs.Access.{value, acted}
+use Rattle.rules.specs.Map.{numberOf}
+use Rattle.rules.specs.Run.{ticks}
+use Rattle.rules.specs.Samples.{positive, negative}
+use Rattle.rules.specs.Scenes.{ones, wired, wire, rest, raise, bothHigh, none, write}
+use Rattle.rules.specs.State.{alert, classAt, resetClass, withClasses, withLocals}
+use Rattle.rules.specs.declared.Access.{Access}
+use Rattle.rules.specs.declared.Field.{Field}
+use Rattle.rules.specs.declared.Handler.{Handler}
+use Rattle.rules.specs.declared.Input.{Input}
+use Rattle.rules.specs.declared.Register.the-variants.{IntrState, IntrEnable, IntrTest, Alert, Block}
+use Rattle.rules.specs.declared.Setting.{Setting}
+use Rattle.rules.specs.declared.Setting.the-variants.{Ctrl, Clr, AccumThresh, EscCnt}
+use Rattle.rules.specs.declared.Ticked.{Ticked}
+use Rattle.isolation.specs.Owner.{byTenant, reaches, Apart, ButTenant, OnlyTenant, startsIn, Undisturbed}
+use Rattle.isolation.proofs.Traces.{along, along-at}
+use Rattle.isolation.proofs.Undisturbed.{undisturbed}
+
+-- ── two alerts: 0 is the owner's, in class A, and 1 the tenant's, in class B; both classes start at an event ──
+
+abbrev his : ℕ → Bool
+his zero = false
+his (suc i) = true
+
+-- all local alerts are enabled, in this class
+abbrev house : ℕ → Handler
+house class =
+    withLocals (record { regwen = replicate 7 1; en = replicate 7 1; class = replicate 7 class; cause = replicate 7 0 })
+    (withClasses (settings 0x393F 0 0 zeros ∷ settings 0x393D 0 0 zeros ∷ resetClass ∷ resetClass ∷ [])
+    (station 2 (1 ∷ 1 ∷ replicate 246 0) (0 ∷ 1 ∷ replicate 246 0) 2 resetClass))
+
+-- a quiet tenant: alert 0 starts class A in tick 1, and the owner stages a threshold in tick 2
+abbrev quiet : List Input
+quiet = rest none ∷ raise 0 none ∷ rest (write (Block AccumThresh 0) 3) ∷ rest none ∷ rest none ∷ rest none ∷ rest none ∷ []
+
+-- a busy one: his alert starts class B and has equal wires; he writes his block, differs in the second write, stages another class for his alert,
+-- clears his class and its interrupt and enables it
+abbrev busy : List Input
+busy =
+    raise 1 (write (Block Ctrl 1) 0x3FFD)
+    ∷ wired (wire 0 + wire 1) (ones - wire 0) (write (Alert Field.Class 1) 3)
+    ∷ bothHigh 1 (write (Block AccumThresh 0) 3)
+    ∷ rest (write (Block Ctrl 1) 0x3FFF)
+    ∷ rest (write IntrState 2)
+    ∷ rest (write IntrEnable 2)
+    ∷ rest (write (Block Clr 1) 1)
+    ∷ []
+
+-- ── the runs differ in what the tenant does alone ──
+
+-- what the conditions speak of in a tick, computed of each run by itself
+record Seen : Type 0 where
+  pub alerts : ℕ
+  pub tenant : Bool
+  pub assigned : Bool
+  pub two : Bool
+  pub five : Bool
+
+abbrev seen : Handler → Input → Seen
+seen g x =
+    record {
+      alerts = g .n;
+      tenant = byTenant 0 his g (x .access);
+      assigned = eqb (alert (acted g (x .access)) Field.Class 1) 0;
+      two = reaches 0 (acted g (x .access)) 2;
+      five = reaches 0 (acted g (x .access)) 5;
+    }
+
+-- the conditions hold; the access is, or is not, one that the tenant may do
+abbrev fine : Bool → Seen
+fine b = record { alerts = 2; tenant = b; assigned = false; two = false; five = false }
+
+abbrev course : List Seen
+course = fine true ∷ fine true ∷ fine false ∷ fine true ∷ fine true ∷ fine true ∷ fine true ∷ []
+
+quiet-seen : along seen (house 1) quiet ≡ course
+unfolding rules xor along
+quiet-seen = refl
+
+busy-seen : along seen (house 1) busy ≡ course
+unfolding rules xor along
+busy-seen = refl
+
+-- of one tick
+module _ (g : Handler) (x : Input) (b : Bool) (s : seen g x ≡ fine b) where
+  is-tenant : byTenant 0 his g (x .access) ≡ b
+  is-tenant = ap (λ (o : Seen). o .tenant) s
+
+  apart : Apart 0 his g x
+  apart = record { alerts = one; local-2 = ap (λ (o : Seen). o .two) s; local-5 = ap (λ (o : Seen). o .five) s }
+    where
+      two-alerts : g .n ≡ 2
+      two-alerts = ap (λ (o : Seen). o .alerts) s
+
+      one : (i : ℕ) → i < g .n → his i ≡ true → eqb (alert (acted g (x .access)) Field.Class i) 0 ≡ false
+      one zero l e = absurd (false≢true e)
+      one (suc zero) l e = ap (λ (o : Seen). o .assigned) s
+      one (suc (suc i)) l e = absurd (let n = two-alerts in omega arith)
+
+-- of tick i of both
+module _ (i : ℕ) (l : i < 7) where
+  quiet-at : seen (Ticks.at (house 1) quiet i) (input quiet i) ≡ getD course i (fine true)
+  quiet-at = sym (along-at seen (house 1) quiet i (fine true) l) ∙ ap (λ (o : List Seen). getD o i (fine true)) quiet-seen
+
+  busy-at : seen (Ticks.at (house 1) busy i) (input busy i) ≡ getD course i (fine true)
+  busy-at = sym (along-at seen (house 1) busy i (fine true) l) ∙ ap (λ (o : List Seen). getD o i (fine true)) busy-seen
+
+-- alert 0's wires are the same
+but : (g : Handler) (x : Input) (f : Handler) (y : Input) (b : Bool) → seen g x ≡ fine b → seen f y ≡ fine b
+    → (x .access ≡ y .access) ⊎ ((byTenant 0 his g (x .access) ≡ true) × (byTenant 0 his f (y .access) ≡ true))
+    → positive (x .sample .alerts) 0 ≡ positive (y .sample .alerts) 0 → negative (x .sample .alerts) 0 ≡ negative (y .sample .alerts) 0
+    → ButTenant 0 his g x f y
+but g x f y b s u a p q = record { access = a; pos = pos; neg = neg; apart = (apart g x b s, apart f y b u) }
+  where
+    pos : (i : ℕ) → i < g .n → his i ≡ false → positive (x .sample .alerts) i ≡ positive (y .sample .alerts) i
+    pos zero l e = p
+    pos (suc i) l e = absurd (true≢false e)
+
+    neg : (i : ℕ) → i < g .n → his i ≡ false → negative (x .sample .alerts) i ≡ negative (y .sample .alerts) i
+    neg zero l e = q
+    neg (suc i) l e = absurd (true≢false e)
+
+-- both accesses are the tenant's
+both : (i : ℕ) (l : i < 7) → getD course i (fine true) ≡ fine true
+    → (byTenant 0 his (Ticks.at (house 1) quiet i) (input quiet i .access) ≡ true) × (byTenant 0 his (Ticks.at (house 1) busy i) (input busy i .access) ≡ true)
+both i l e = (
+  is-tenant (Ticks.at (house 1) quiet i) (input quiet i) true (quiet-at i l ∙ e),
+  is-tenant (Ticks.at (house 1) busy i) (input busy i) true (busy-at i l ∙ e),
+)
+
+only-tenant : OnlyTenant 0 his 0 (house 1) quiet busy
+unfolding rules
+only-tenant zero m = but _ _ _ _ true (quiet-at 0 (omega arith)) (busy-at 0 (omega arith)) (inr (both 0 (omega arith) refl)) refl refl
+only-tenant (suc zero) m = but _ _ _ _ true (quiet-at 1 (omega arith)) (busy-at 1 (omega arith)) (inr (both 1 (omega arith) refl)) refl refl
+only-tenant (suc (suc zero)) m = but _ _ _ _ false (quiet-at 2 (omega arith)) (busy-at 2 (omega arith)) (inl refl) refl refl
+only-tenant (suc (suc (suc zero))) m = but _ _ _ _ true (quiet-at 3 (omega arith)) (busy-at 3 (omega arith)) (inr (both 3 (omega arith) refl)) refl refl
+only-tenant (suc (suc (suc (suc zero)))) m = but _ _ _ _ true (quiet-at 4 (omega arith)) (busy-at 4 (omega arith)) (inr (both 4 (omega arith) refl)) refl refl
+only-tenant (suc (suc (suc (suc (suc zero))))) m = but _ _ _ _ true (quiet-at 5 (omega arith)) (busy-at 5 (omega arith)) (inr (both 5 (omega arith) refl)) refl refl
+only-tenant (suc (suc (suc (suc (suc (suc zero)))))) m = but _ _ _ _ true (quiet-at 6 (omega arith)) (busy-at 6 (omega arith)) (inr (both 6 (omega arith) refl)) refl refl
+only-tenant (suc (suc (suc (suc (suc (suc (suc i))))))) m = absurd (omega (arith, m .to))
+
+-- ── so class A starts in the same tick and takes as long ──
+
+same : Undisturbed 0 0 (house 1) quiet busy
+unfolding rules
+same = undisturbed 0 his 0 (house 1) quiet busy (omega arith) refl refl only-tenant
+
+module _ (t : ℕ) (m : IsTick 0 quiet t) where
+  starts-then : startsIn 0 (before 0 (house 1) quiet t) (inputAt 0 quiet t) ≡ startsIn 0 (before 0 (house 1) busy t) (inputAt 0 busy t)
+  starts-then = same .start t m
+
+  takes-as-long : (value (givenAt 0 (house 1) quiet t .handler) (Block Setting.State 0) ≡ value (givenAt 0 (house 1) busy t .handler) (Block Setting.State 0))
+      × (value (givenAt 0 (house 1) quiet t .handler) (Block EscCnt 0) ≡ value (givenAt 0 (house 1) busy t .handler) (Block EscCnt 0))
+      × ((e : ℕ) → drives (classAt (givenAt 0 (house 1) quiet t .handler) 0) e ≡ drives (classAt (givenAt 0 (house 1) busy t .handler) 0) e)
+      × (bit (givenAt 0 (house 1) quiet t .output .interrupts) 0 ≡ bit (givenAt 0 (house 1) busy t .output .interrupts) 0)
+  takes-as-long = let c = same .class t m in (c .registers Setting.State, c .registers EscCnt, c .lines, same .interrupt t m .interrupt)
+
+answered : givenAt 0 (house 1) quiet 2 .answer ≡ givenAt 0 (house 1) busy 2 .answer
+unfolding rules
+answered = same .answer 2 (record { from = omega arith; to = omega arith }) refl
+
+-- computed beside it: class A and class B
+abbrev states : ℕ → Handler → List Input → List ℕ
+states k h is = map (λ (o : Ticked). classAt (o .handler) k .state) (ticks h is)
+
+computed : (states 0 (house 1) quiet ≡ 0 ∷ 4 ∷ 5 ∷ 6 ∷ 7 ∷ 3 ∷ 3 ∷ [])
+    × (states 0 (house 1) busy ≡ 0 ∷ 4 ∷ 5 ∷ 6 ∷ 7 ∷ 3 ∷ 3 ∷ [])
+    × (states 1 (house 1) quiet ≡ replicate 7 0)
+    × (states 1 (house 1) busy ≡ 4 ∷ 5 ∷ 6 ∷ 7 ∷ 3 ∷ 3 ∷ 0 ∷ [])
+unfolding rules
+computed = (refl, refl, refl, refl)
+
+-- ── the conditions are needed ──
+
+-- local 2 in class A: the tenant's equal wires start it
+local-2-needed : (states 0 (house 0) (rest none ∷ []) ≡ 0 ∷ []) × (states 0 (house 0) (bothHigh 1 none ∷ []) ≡ 4 ∷ [])
+unfolding rules
+local-2-needed = (refl, refl)
+
+-- local 5 in class A: the tenant's differing second write starts it; an equal one does not
+local-5-needed : (states 0 (house 0) (map rest (write (Block Ctrl 1) 5 ∷ write (Block Ctrl 1) 5 ∷ [])) ≡ 0 ∷ 0 ∷ [])
+    × (states 0 (house 0) (map rest (write (Block Ctrl 1) 5 ∷ write (Block Ctrl 1) 6 ∷ [])) ≡ 0 ∷ 4 ∷ [])
+unfolding rules
+local-5-needed = (refl, refl)
+
+-- his alert in class A: its event starts it
+abbrev assigned : Handler
+assigned = withClasses (house 1 .classes) (station 2 (1 ∷ 1 ∷ replicate 246 0) (replicate 248 0) 2 resetClass)
+
+alerts-needed : (states 0 assigned (rest none ∷ []) ≡ 0 ∷ []) × (states 0 assigned (raise 1 none ∷ []) ≡ 4 ∷ [])
+unfolding rules
+alerts-needed = (refl, refl)
+
+-- class A's interrupt bit set by him: a timeout starts
+abbrev timed : Handler
+timed = station 2 (1 ∷ 1 ∷ replicate 246 0) (0 ∷ 1 ∷ replicate 246 0) 0 (settings 0x393F 9 1 zeros)
+
+bits-needed : (states 0 timed (rest none ∷ rest none ∷ []) ≡ 0 ∷ 0 ∷ []) × (states 0 timed (rest (write IntrTest 1) ∷ rest none ∷ []) ≡ 1 ∷ 4 ∷ [])
+unfolding rules
+bits-needed = (refl, refl)
+
+-- a read of an alert that is not his drops its stage: the owner's second write is then a first one, his alert stays disabled and does not start class A
+abbrev enabling : Access → List Input
+enabling a = rest (write (Alert Field.En 0) 1) ∷ rest a ∷ rest (write (Alert Field.En 0) 1) ∷ raise 0 none ∷ []
+
+abbrev disabled : Handler
+disabled = withClasses (house 1 .classes) (station 2 (0 ∷ 1 ∷ replicate 246 0) (0 ∷ 1 ∷ replicate 246 0) 2 resetClass)
+
+reads-needed : (states 0 disabled (enabling none) ≡ 0 ∷ 0 ∷ 0 ∷ 4 ∷ [])
+    × (states 0 disabled (enabling (Access.Read (numberOf (Alert Field.En 0)))) ≡ 0 ∷ 0 ∷ 0 ∷ 0 ∷ [])
+unfolding rules
+reads-needed = (refl, refl)
