@@ -10,3 +10,4 @@ pub mod WriterExamples
 pub mod StageExamples
 pub mod ShadowExamples
 pub mod LockExamples
+pub mod ApartExamples
