@@ -2,7 +2,7 @@
 -- Assumes nothing.
 use Prim.Native.Nat.{ℕ}
 use mathlib.Core.Path.{_≡_, refl, sym, ap, _∙_}
-use mathlib.Core.Bool.{Bool, true, false, true≢false, false≢true, xor}
+use mathlib.Core.Bool.{Bool, true, false, true≢false, xor}
 use mathlib.Core.List.{List, [], _∷_}
 use native.Mathlib.Omega.{arith}
 use lib.ListN.{set, replicate}
@@ -21,7 +21,7 @@ use Rattle.rules.specs.declared.Handler.{Handler}
 use Rattle.rules.specs.declared.Input.{Input}
 use Rattle.rules.specs.declared.Register.the-variants.{IntrEnable, IntrTest, Block}
 use Rattle.rules.specs.declared.Setting.the-variants.{AccumThresh}
-use Rattle.isolation.specs.Isolation.{SameClass, SameInterrupt}
+use Rattle.isolation.specs.Isolation.{Alike, SameClass, SameInterrupt}
 use Rattle.isolation.specs.OwnAccess.{changesEnable}
 use Rattle.isolation.proofs.Traces.{Got, along, gets}
 
@@ -97,6 +97,12 @@ no-stage = record { is-valid = refl; class = refl; stages = refl; bit-3 = refl; 
 stages-needed : SameClass 3 (givenAt 0 (at 2 0 0 1 slow) second 0) (givenAt 0 (at 2 0 0 0 slow) second 0) → ⊥
 stages-needed = differs committing no-stage (λ e. omega arith)
 
+-- (the hypothesis is what tells these two apart)
+stages-asked : Alike 3 0 (at 2 0 0 1 slow) second (at 2 0 0 0 slow) second → ⊥
+stages-asked a =
+    let e : _≡_ {A = ℕ} 1 0 = ap (λ (s : ClassStages). s .thresh) (sym (committing .stages) ∙ a .same-stages ∙ no-stage .stages) in
+    omega arith
+
 -- ── without "interrupt bits": Timeout, where `calm` has Idle ──
 
 other-bit : Told (at 2 8 0 0 eager) (rest none ∷ []) 0 true eager (staging 0) true (entry false none false ∷ []) 1
@@ -105,6 +111,9 @@ other-bit = record { is-valid = refl; class = refl; stages = refl; bit-3 = refl;
 
 bit-needed : SameClass 3 (givenAt 0 (at 2 8 0 0 eager) (rest none ∷ []) 0) (givenAt 0 (at 2 0 0 0 eager) (rest none ∷ []) 0) → ⊥
 bit-needed = differs other-bit calm (λ e. omega arith)
+
+bit-asked : Alike 3 0 (at 2 8 0 0 eager) (rest none ∷ []) (at 2 0 0 0 eager) (rest none ∷ []) → ⊥
+bit-asked a = true≢false (sym (other-bit .bit-3) ∙ a .same-bit ∙ calm .bit-3)
 
 -- ── without "the same class events" ──
 

@@ -7,10 +7,9 @@ use mathlib.Core.Bool.{Bool, true, false, false≢true, true≢false, xor}
 use mathlib.Core.List.{List, [], _∷_, map}
 use native.Mathlib.Omega.{arith}
 use lib.Dec.{eqb}
-use lib.ListN.{getD, length, set, replicate}
+use lib.ListN.{getD, set, replicate}
 use Rattle.bits.specs.Bits.{bit}
 use Rattle.class_rules.specs.Class.{drives}
-use Rattle.class_rules.specs.declared.Class.{Class}
 use Rattle.escalation.proofs.Ticks
 use Rattle.escalation.proofs.Ticks.{input}
 use Rattle.escalation.specs.List.{IsTick, before, inputAt, givenAt}
@@ -25,7 +24,8 @@ use Rattle.rules.specs.declared.Access.{Access}
 use Rattle.rules.specs.declared.Field.{Field}
 use Rattle.rules.specs.declared.Handler.{Handler}
 use Rattle.rules.specs.declared.Input.{Input}
-use Rattle.rules.specs.declared.Register.the-variants.{IntrState, IntrEnable, IntrTest, Alert, Block}
+use Rattle.rules.specs.declared.Register.{Register}
+use Rattle.rules.specs.declared.Register.the-variants.{IntrState, IntrEnable, IntrTest, Local, Alert, Block}
 use Rattle.rules.specs.declared.Setting.{Setting}
 use Rattle.rules.specs.declared.Setting.the-variants.{Ctrl, Clr, AccumThresh, EscCnt}
 use Rattle.rules.specs.declared.Ticked.{Ticked}
@@ -39,19 +39,36 @@ abbrev his : ℕ → Bool
 his zero = false
 his (suc i) = true
 
--- all local alerts are enabled, in this class
-abbrev house : ℕ → Handler
-house class =
-    withLocals (record { regwen = replicate 7 1; en = replicate 7 1; class = replicate 7 class; cause = replicate 7 0 })
+-- local alerts are enabled, in class A, but for local 2, of this class, and local 5, enabled or not
+abbrev house : ℕ → ℕ → Handler
+house class-2 en-5 =
+    withLocals
+    (record { regwen = replicate 7 1; en = set (replicate 7 1) 5 en-5; class = set (replicate 7 0) 2 class-2; cause = replicate 7 0 })
     (withClasses (settings 0x393F 0 0 zeros ∷ settings 0x393D 0 0 zeros ∷ resetClass ∷ resetClass ∷ [])
     (station 2 (1 ∷ 1 ∷ replicate 246 0) (0 ∷ 1 ∷ replicate 246 0) 2 resetClass))
 
--- a quiet tenant: alert 0 starts class A in tick 1, and the owner stages a threshold in tick 2
-abbrev quiet : List Input
-quiet = rest none ∷ raise 0 none ∷ rest (write (Block AccumThresh 0) 3) ∷ rest none ∷ rest none ∷ rest none ∷ rest none ∷ []
+-- local 2 is in class B and local 5 is disabled
+abbrev home : Handler
+home = house 1 0
 
--- a busy one: his alert starts class B and has equal wires; he writes his block, differs in the second write, stages another class for his alert,
--- clears his class and its interrupt and enables it
+abbrev read : Register → Access
+read q = Access.Read (numberOf q)
+
+-- a tenant who looks around: alert 0 starts class A in tick 1, the owner stages a threshold in tick 2 and clears his interrupt in tick 6
+abbrev quiet : List Input
+quiet =
+    rest (Access.Read 3)
+    ∷ raise 0 none
+    ∷ rest (write (Block AccumThresh 0) 3)
+    ∷ rest (read (Block Ctrl 1))
+    ∷ rest (write (Local Field.En 0) 0)
+    ∷ rest Access.Malformed
+    ∷ rest (write IntrState 1)
+    ∷ rest (read IntrState)
+    ∷ []
+
+-- a busy one: his alert starts class B and has equal wires; he writes his block, differs in the second write, stages another class for his alert, clears his
+-- interrupt and enables it, and clears his class
 abbrev busy : List Input
 busy =
     raise 1 (write (Block Ctrl 1) 0x3FFD)
@@ -60,6 +77,7 @@ busy =
     ∷ rest (write (Block Ctrl 1) 0x3FFF)
     ∷ rest (write IntrState 2)
     ∷ rest (write IntrEnable 2)
+    ∷ rest (write IntrState 1)
     ∷ rest (write (Block Clr 1) 1)
     ∷ []
 
@@ -88,13 +106,13 @@ abbrev fine : Bool → Seen
 fine b = record { alerts = 2; tenant = b; assigned = false; two = false; five = false }
 
 abbrev course : List Seen
-course = fine true ∷ fine true ∷ fine false ∷ fine true ∷ fine true ∷ fine true ∷ fine true ∷ []
+course = fine true ∷ fine true ∷ fine false ∷ fine true ∷ fine true ∷ fine true ∷ fine false ∷ fine true ∷ []
 
-quiet-seen : along seen (house 1) quiet ≡ course
+quiet-seen : along seen home quiet ≡ course
 unfolding rules xor along
 quiet-seen = refl
 
-busy-seen : along seen (house 1) busy ≡ course
+busy-seen : along seen home busy ≡ course
 unfolding rules xor along
 busy-seen = refl
 
@@ -115,12 +133,12 @@ module _ (g : Handler) (x : Input) (b : Bool) (s : seen g x ≡ fine b) where
       one (suc (suc i)) l e = absurd (let n = two-alerts in omega arith)
 
 -- of tick i of both
-module _ (i : ℕ) (l : i < 7) where
-  quiet-at : seen (Ticks.at (house 1) quiet i) (input quiet i) ≡ getD course i (fine true)
-  quiet-at = sym (along-at seen (house 1) quiet i (fine true) l) ∙ ap (λ (o : List Seen). getD o i (fine true)) quiet-seen
+module _ (i : ℕ) (l : i < 8) where
+  quiet-at : seen (Ticks.at home quiet i) (input quiet i) ≡ getD course i (fine true)
+  quiet-at = sym (along-at seen home quiet i (fine true) l) ∙ ap (λ (o : List Seen). getD o i (fine true)) quiet-seen
 
-  busy-at : seen (Ticks.at (house 1) busy i) (input busy i) ≡ getD course i (fine true)
-  busy-at = sym (along-at seen (house 1) busy i (fine true) l) ∙ ap (λ (o : List Seen). getD o i (fine true)) busy-seen
+  busy-at : seen (Ticks.at home busy i) (input busy i) ≡ getD course i (fine true)
+  busy-at = sym (along-at seen home busy i (fine true) l) ∙ ap (λ (o : List Seen). getD o i (fine true)) busy-seen
 
 -- alert 0's wires are the same
 but : (g : Handler) (x : Input) (f : Handler) (y : Input) (b : Bool) → seen g x ≡ fine b → seen f y ≡ fine b
@@ -138,14 +156,14 @@ but g x f y b s u a p q = record { access = a; pos = pos; neg = neg; apart = (ap
     neg (suc i) l e = absurd (true≢false e)
 
 -- both accesses are the tenant's
-both : (i : ℕ) (l : i < 7) → getD course i (fine true) ≡ fine true
-    → (byTenant 0 his (Ticks.at (house 1) quiet i) (input quiet i .access) ≡ true) × (byTenant 0 his (Ticks.at (house 1) busy i) (input busy i .access) ≡ true)
+both : (i : ℕ) (l : i < 8) → getD course i (fine true) ≡ fine true
+    → (byTenant 0 his (Ticks.at home quiet i) (input quiet i .access) ≡ true) × (byTenant 0 his (Ticks.at home busy i) (input busy i .access) ≡ true)
 both i l e = (
-  is-tenant (Ticks.at (house 1) quiet i) (input quiet i) true (quiet-at i l ∙ e),
-  is-tenant (Ticks.at (house 1) busy i) (input busy i) true (busy-at i l ∙ e),
+  is-tenant (Ticks.at home quiet i) (input quiet i) true (quiet-at i l ∙ e),
+  is-tenant (Ticks.at home busy i) (input busy i) true (busy-at i l ∙ e),
 )
 
-only-tenant : OnlyTenant 0 his 0 (house 1) quiet busy
+only-tenant : OnlyTenant 0 his 0 home quiet busy
 unfolding rules
 only-tenant zero m = but _ _ _ _ true (quiet-at 0 (omega arith)) (busy-at 0 (omega arith)) (inr (both 0 (omega arith) refl)) refl refl
 only-tenant (suc zero) m = but _ _ _ _ true (quiet-at 1 (omega arith)) (busy-at 1 (omega arith)) (inr (both 1 (omega arith) refl)) refl refl
@@ -153,26 +171,27 @@ only-tenant (suc (suc zero)) m = but _ _ _ _ false (quiet-at 2 (omega arith)) (b
 only-tenant (suc (suc (suc zero))) m = but _ _ _ _ true (quiet-at 3 (omega arith)) (busy-at 3 (omega arith)) (inr (both 3 (omega arith) refl)) refl refl
 only-tenant (suc (suc (suc (suc zero)))) m = but _ _ _ _ true (quiet-at 4 (omega arith)) (busy-at 4 (omega arith)) (inr (both 4 (omega arith) refl)) refl refl
 only-tenant (suc (suc (suc (suc (suc zero))))) m = but _ _ _ _ true (quiet-at 5 (omega arith)) (busy-at 5 (omega arith)) (inr (both 5 (omega arith) refl)) refl refl
-only-tenant (suc (suc (suc (suc (suc (suc zero)))))) m = but _ _ _ _ true (quiet-at 6 (omega arith)) (busy-at 6 (omega arith)) (inr (both 6 (omega arith) refl)) refl refl
-only-tenant (suc (suc (suc (suc (suc (suc (suc i))))))) m = absurd (omega (arith, m .to))
+only-tenant (suc (suc (suc (suc (suc (suc zero)))))) m = but _ _ _ _ false (quiet-at 6 (omega arith)) (busy-at 6 (omega arith)) (inl refl) refl refl
+only-tenant (suc (suc (suc (suc (suc (suc (suc zero))))))) m = but _ _ _ _ true (quiet-at 7 (omega arith)) (busy-at 7 (omega arith)) (inr (both 7 (omega arith) refl)) refl refl
+only-tenant (suc (suc (suc (suc (suc (suc (suc (suc i)))))))) m = absurd (omega (arith, m .to))
 
 -- ── so class A starts in the same tick and takes as long ──
 
-same : Undisturbed 0 0 (house 1) quiet busy
+same : Undisturbed 0 0 home quiet busy
 unfolding rules
-same = undisturbed 0 his 0 (house 1) quiet busy (omega arith) refl refl only-tenant
+same = undisturbed 0 his 0 home quiet busy (omega arith) refl refl only-tenant
 
 module _ (t : ℕ) (m : IsTick 0 quiet t) where
-  starts-then : startsIn 0 (before 0 (house 1) quiet t) (inputAt 0 quiet t) ≡ startsIn 0 (before 0 (house 1) busy t) (inputAt 0 busy t)
+  starts-then : startsIn 0 (before 0 home quiet t) (inputAt 0 quiet t) ≡ startsIn 0 (before 0 home busy t) (inputAt 0 busy t)
   starts-then = same .start t m
 
-  takes-as-long : (value (givenAt 0 (house 1) quiet t .handler) (Block Setting.State 0) ≡ value (givenAt 0 (house 1) busy t .handler) (Block Setting.State 0))
-      × (value (givenAt 0 (house 1) quiet t .handler) (Block EscCnt 0) ≡ value (givenAt 0 (house 1) busy t .handler) (Block EscCnt 0))
-      × ((e : ℕ) → drives (classAt (givenAt 0 (house 1) quiet t .handler) 0) e ≡ drives (classAt (givenAt 0 (house 1) busy t .handler) 0) e)
-      × (bit (givenAt 0 (house 1) quiet t .output .interrupts) 0 ≡ bit (givenAt 0 (house 1) busy t .output .interrupts) 0)
+  takes-as-long : (value (givenAt 0 home quiet t .handler) (Block Setting.State 0) ≡ value (givenAt 0 home busy t .handler) (Block Setting.State 0))
+      × (value (givenAt 0 home quiet t .handler) (Block EscCnt 0) ≡ value (givenAt 0 home busy t .handler) (Block EscCnt 0))
+      × ((e : ℕ) → drives (classAt (givenAt 0 home quiet t .handler) 0) e ≡ drives (classAt (givenAt 0 home busy t .handler) 0) e)
+      × (bit (givenAt 0 home quiet t .output .interrupts) 0 ≡ bit (givenAt 0 home busy t .output .interrupts) 0)
   takes-as-long = let c = same .class t m in (c .registers Setting.State, c .registers EscCnt, c .lines, same .interrupt t m .interrupt)
 
-answered : givenAt 0 (house 1) quiet 2 .answer ≡ givenAt 0 (house 1) busy 2 .answer
+answered : givenAt 0 home quiet 2 .answer ≡ givenAt 0 home busy 2 .answer
 unfolding rules
 answered = same .answer 2 (record { from = omega arith; to = omega arith }) refl
 
@@ -180,29 +199,29 @@ answered = same .answer 2 (record { from = omega arith; to = omega arith }) refl
 abbrev states : ℕ → Handler → List Input → List ℕ
 states k h is = map (λ (o : Ticked). classAt (o .handler) k .state) (ticks h is)
 
-computed : (states 0 (house 1) quiet ≡ 0 ∷ 4 ∷ 5 ∷ 6 ∷ 7 ∷ 3 ∷ 3 ∷ [])
-    × (states 0 (house 1) busy ≡ 0 ∷ 4 ∷ 5 ∷ 6 ∷ 7 ∷ 3 ∷ 3 ∷ [])
-    × (states 1 (house 1) quiet ≡ replicate 7 0)
-    × (states 1 (house 1) busy ≡ 4 ∷ 5 ∷ 6 ∷ 7 ∷ 3 ∷ 3 ∷ 0 ∷ [])
+computed : (states 0 home quiet ≡ 0 ∷ 4 ∷ 5 ∷ 6 ∷ 7 ∷ 3 ∷ 3 ∷ 3 ∷ [])
+    × (states 0 home busy ≡ 0 ∷ 4 ∷ 5 ∷ 6 ∷ 7 ∷ 3 ∷ 3 ∷ 3 ∷ [])
+    × (states 1 home quiet ≡ replicate 8 0)
+    × (states 1 home busy ≡ 4 ∷ 5 ∷ 6 ∷ 7 ∷ 3 ∷ 3 ∷ 3 ∷ 0 ∷ [])
 unfolding rules
 computed = (refl, refl, refl, refl)
 
 -- ── the conditions are needed ──
 
 -- local 2 in class A: the tenant's equal wires start it
-local-2-needed : (states 0 (house 0) (rest none ∷ []) ≡ 0 ∷ []) × (states 0 (house 0) (bothHigh 1 none ∷ []) ≡ 4 ∷ [])
+local-2-needed : (states 0 (house 0 0) (rest none ∷ []) ≡ 0 ∷ []) × (states 0 (house 0 0) (bothHigh 1 none ∷ []) ≡ 4 ∷ [])
 unfolding rules
 local-2-needed = (refl, refl)
 
 -- local 5 in class A: the tenant's differing second write starts it; an equal one does not
-local-5-needed : (states 0 (house 0) (map rest (write (Block Ctrl 1) 5 ∷ write (Block Ctrl 1) 5 ∷ [])) ≡ 0 ∷ 0 ∷ [])
-    × (states 0 (house 0) (map rest (write (Block Ctrl 1) 5 ∷ write (Block Ctrl 1) 6 ∷ [])) ≡ 0 ∷ 4 ∷ [])
+local-5-needed : (states 0 (house 1 1) (map rest (write (Block Ctrl 1) 5 ∷ write (Block Ctrl 1) 5 ∷ [])) ≡ 0 ∷ 0 ∷ [])
+    × (states 0 (house 1 1) (map rest (write (Block Ctrl 1) 5 ∷ write (Block Ctrl 1) 6 ∷ [])) ≡ 0 ∷ 4 ∷ [])
 unfolding rules
 local-5-needed = (refl, refl)
 
 -- his alert in class A: its event starts it
 abbrev assigned : Handler
-assigned = withClasses (house 1 .classes) (station 2 (1 ∷ 1 ∷ replicate 246 0) (replicate 248 0) 2 resetClass)
+assigned = withClasses (home .classes) (station 2 (1 ∷ 1 ∷ replicate 246 0) (replicate 248 0) 2 resetClass)
 
 alerts-needed : (states 0 assigned (rest none ∷ []) ≡ 0 ∷ []) × (states 0 assigned (raise 1 none ∷ []) ≡ 4 ∷ [])
 unfolding rules
@@ -221,9 +240,9 @@ abbrev enabling : Access → List Input
 enabling a = rest (write (Alert Field.En 0) 1) ∷ rest a ∷ rest (write (Alert Field.En 0) 1) ∷ raise 0 none ∷ []
 
 abbrev disabled : Handler
-disabled = withClasses (house 1 .classes) (station 2 (0 ∷ 1 ∷ replicate 246 0) (0 ∷ 1 ∷ replicate 246 0) 2 resetClass)
+disabled = withClasses (home .classes) (station 2 (0 ∷ 1 ∷ replicate 246 0) (0 ∷ 1 ∷ replicate 246 0) 2 resetClass)
 
 reads-needed : (states 0 disabled (enabling none) ≡ 0 ∷ 0 ∷ 0 ∷ 4 ∷ [])
-    × (states 0 disabled (enabling (Access.Read (numberOf (Alert Field.En 0)))) ≡ 0 ∷ 0 ∷ 0 ∷ 0 ∷ [])
+    × (states 0 disabled (enabling (read (Alert Field.En 0))) ≡ 0 ∷ 0 ∷ 0 ∷ 0 ∷ [])
 unfolding rules
 reads-needed = (refl, refl)

@@ -16,15 +16,15 @@ use Rattle.rules.specs.Map.{numberOf}
 use Rattle.rules.specs.Run.{ticks}
 use Rattle.rules.specs.Scenes.{rest, raise, bothHigh, none, write}
 use Rattle.rules.specs.Stages.{classStages, stage, withStage}
-use Rattle.rules.specs.State.{classAt, resetClass, noStages, withClasses, withLocals, withStages}
+use Rattle.rules.specs.State.{classAt, resetClass, noStages, withClasses, withInterrupts, withLocals, withStages}
 use Rattle.rules.specs.declared.Access.{Access}
 use Rattle.rules.specs.declared.Answer.{Answer}
 use Rattle.rules.specs.declared.Field.{Field}
 use Rattle.rules.specs.declared.Handler.{Handler}
 use Rattle.rules.specs.declared.Input.{Input}
-use Rattle.rules.specs.declared.Refusal.the-variants.{Locked, Differs}
+use Rattle.rules.specs.declared.Refusal.the-variants.{Locked, BadRecord, Differs}
 use Rattle.rules.specs.declared.Register.{Register}
-use Rattle.rules.specs.declared.Register.the-variants.{IntrState, IntrEnable, Alert, Block}
+use Rattle.rules.specs.declared.Register.the-variants.{IntrState, IntrEnable, Local, Alert, Block}
 use Rattle.rules.specs.declared.Setting.{Setting}
 use Rattle.rules.specs.declared.Setting.the-variants.{Ctrl, Clr, AccumCnt, AccumThresh, TimeoutCyc, PhaseCyc, EscCnt}
 use Rattle.rules.specs.declared.Ticked.{Ticked}
@@ -32,28 +32,37 @@ use Rattle.isolation.specs.Isolation.{Alike, AlikeEnable, SameClass, Iso
 use Rattle.isolation.proofs.Isolated.{isolation}
 use Rattle.isolation.proofs.Traces.{Got, along, gets, enables, alike-by, enable-by}
 
--- ── class A has EN, LOCK, all lines, a threshold of 9, lengths 0, and a staged threshold of 0 ──
+-- ── in both: class A has EN, LOCK, all lines, a threshold of 9, lengths 0, and a staged threshold of 0; class D is locked, in Phase 2 ──
 
 abbrev owner : Class
 owner = settings 0x393F 9 0 zeros
 
+abbrev going : Class
+going =
+    record { lengths = 0 ∷ 0 ∷ 9 ∷ 2 ∷ []; timeout = 0; count = 5; ctrl = 0x393D; accum = 7; thresh = 3; regwen = 0; clrwen = 0; state = 6 }
+
 -- 65 alerts, of which the last is enabled, in class A
 abbrev one : Handler
-one = withStages (withStage (Block AccumThresh 0) 1 noStages) (station 65 (set (replicate 248 0) 64 1) (replicate 248 0) 0 owner)
+one =
+    withStages (withStage (Block AccumThresh 0) 1 noStages)
+    (withClasses (owner ∷ resetClass ∷ resetClass ∷ going ∷ [])
+    (station 65 (set (replicate 248 0) 64 1) (replicate 248 0) 0 owner))
 
--- 3 alerts: 0 is enabled in class B, which starts at its first event and has a stage open, and 1 in class A; local 2 and local 5 are enabled in class B
+-- 3 alerts: 0 is enabled in class B, which starts at its first event and has a stage open, and 1 in class A; local 2 and local 5 are enabled in class B;
+-- the interrupt bits of other classes are set
 abbrev other : Handler
 other =
     withStages (withStage (Block Ctrl 1) 9 (withStage (Block AccumThresh 0) 1 noStages))
+    (withInterrupts (record { state = 6; enable = 8 })
     (withLocals (record { regwen = replicate 7 1; en = 0 ∷ 0 ∷ 1 ∷ 0 ∷ 0 ∷ 1 ∷ 0 ∷ []; class = replicate 7 1; cause = replicate 7 0 })
-    (withClasses (owner ∷ settings 0x393D 0 0 zeros ∷ resetClass ∷ resetClass ∷ [])
-    (station 3 (1 ∷ 1 ∷ replicate 246 0) (1 ∷ 0 ∷ replicate 246 0) 0 owner)))
+    (withClasses (owner ∷ settings 0x393D 0 0 zeros ∷ resetClass ∷ going ∷ [])
+    (station 3 (1 ∷ 1 ∷ replicate 246 0) (1 ∷ 0 ∷ replicate 246 0) 0 owner))))
 
 abbrev read : Register → Access
 read q = Access.Read (numberOf q)
 
 -- the staged threshold is committed; the interrupt is enabled; an event starts class A; its STATE is read; its timeout is staged and written otherwise; its
--- interrupt is cleared; its CLR, now locked, is written; a length is staged; an alert is enabled
+-- interrupt is cleared; its CLR, now locked, is written; a length is staged; an alert and a local alert are written
 abbrev xs : List Input
 xs =
     rest (write (Block AccumThresh 0) 0)
@@ -66,6 +75,7 @@ xs =
     ∷ rest (write (Block Clr 0) 1)
     ∷ rest (write (Block (PhaseCyc 2) 0) 5)
     ∷ rest (write (Alert Field.En 40) 1)
+    ∷ rest (write (Local Field.En 3) 1)
     ∷ []
 
 -- the same to class A, while class B starts, is cleared, starts again by local 2 and has events by local 5 and its alert
@@ -81,6 +91,7 @@ ys =
     ∷ raise 0 (write (Block Clr 0) 1)
     ∷ rest (write (Block (PhaseCyc 2) 0) 5)
     ∷ rest (read (Block Ctrl 1))
+    ∷ rest Access.Malformed
     ∷ []
 
 -- ── class A is treated alike ──
@@ -101,6 +112,7 @@ common =
     ∷ entry false (write (Block Clr 0) 1) false
     ∷ entry false (write (Block (PhaseCyc 2) 0) 5) false
     ∷ entry false none false
+    ∷ entry false none false
     ∷ []
 
 -- each run is computed by itself: `refl` between the two would compare the two states first
@@ -118,7 +130,7 @@ alike first = alike-by 0 first one xs other ys (one-gets ∙ sym other-gets) ref
 
 -- and so is its bit of INTR_ENABLE: 1 and 3 are written, which change bit 0 alike
 abbrev once : List Bool
-once = false ∷ true ∷ replicate 8 false
+once = false ∷ true ∷ replicate 9 false
 
 one-enables : enables 0 one xs ≡ once
 unfolding rules xor along
@@ -183,12 +195,28 @@ answered =
     let a = isolated 0 .answer (alike 0) in
     (a 3 (at 3 (omega arith)) refl, a 4 (at 4 (omega arith)) refl, a 5 (at 5 (omega arith)) refl, a 7 (at 7 (omega arith)) refl)
   where
-    at : (t : ℕ) → t < 10 → IsTick 0 xs t
+    at : (t : ℕ) → t < 11 → IsTick 0 xs t
     at t l = record { from = omega arith; to = l }
 
--- ── computed beside it: the start in tick 2, the phases and Terminal, the stages, the interrupt and the answers; class B and the lines differ ──
+-- class D too, whose bit of INTR_ENABLE is not the same: it gets nothing in either run
+abbrev nothing : List Got
+nothing = replicate 11 (entry false none false)
 
--- after a tick: class A's STATE, the codes staged for its TIMEOUT_CYC and PHASE2_CYC, its interrupt; the answer; class B's STATE, the lines
+one-leaves : gets 3 one xs ≡ nothing
+unfolding rules xor along
+one-leaves = refl
+
+other-leaves : gets 3 other ys ≡ nothing
+unfolding rules xor along
+other-leaves = refl
+
+isolated-3 : (t : ℕ) → IsTick 7 xs t → SameClass 3 (givenAt 7 one xs t) (givenAt 7 other ys t)
+unfolding rules
+isolated-3 = isolation 3 7 one xs other ys (omega arith) refl refl refl .class (alike-by 3 7 one xs other ys (one-leaves ∙ sym other-leaves) refl refl refl)
+
+-- ── computed beside it: the start in tick 2, the phases and Terminal, the stages, the interrupt and the answers; class B and the lines differ; class D ends its phases ──
+
+-- after a tick: class A's STATE, the codes staged for its TIMEOUT_CYC and PHASE2_CYC, its interrupt; the answer; the STATES of B and D, the lines
 record Row : Type 0 where
   pub state : ℕ
   pub timeout : ℕ
@@ -196,6 +224,7 @@ record Row : Type 0 where
   pub interrupt : Bool
   pub answer : Answer
   pub state-b : ℕ
+  pub state-d : ℕ
   pub lines : ℕ
 
 abbrev rows : Handler → List Input → List Row
@@ -207,38 +236,41 @@ rows h is =
       interrupt = bit (o .output .interrupts) 0;
       answer = o .answer;
       state-b = classAt (o .handler) 1 .state;
+      state-d = classAt (o .handler) 3 .state;
       lines = o .output .lines;
     }) (ticks h is)
 
-abbrev row : ℕ → ℕ → ℕ → Bool → Answer → ℕ → ℕ → Row
-row s t p i a b l = record { state = s; timeout = t; length-2 = p; interrupt = i; answer = a; state-b = b; lines = l }
+abbrev row : ℕ → ℕ → ℕ → Bool → Answer → ℕ → ℕ → ℕ → Row
+row s t p i a b d l = record { state = s; timeout = t; length-2 = p; interrupt = i; answer = a; state-b = b; state-d = d; lines = l }
 
 computed : rows one xs
-    ≡ row 0 0 0 false Answer.Done 0 0
-    ∷ row 0 0 0 false Answer.Done 0 0
-    ∷ row 4 0 0 true Answer.Done 0 1
-    ∷ row 5 0 0 true (Answer.Value 4) 0 2
-    ∷ row 6 8 0 true Answer.Done 0 4
-    ∷ row 7 0 0 true (Answer.Refused Differs) 0 8
-    ∷ row 3 0 0 false Answer.Done 0 0
-    ∷ row 3 0 0 false (Answer.Refused Locked) 0 0
-    ∷ row 3 0 6 false Answer.Done 0 0
-    ∷ row 3 0 6 false Answer.Done 0 0
+    ≡ row 0 0 0 false Answer.Done 0 6 4
+    ∷ row 0 0 0 false Answer.Done 0 6 4
+    ∷ row 4 0 0 true Answer.Done 0 6 5
+    ∷ row 5 0 0 true (Answer.Value 4) 0 6 6
+    ∷ row 6 8 0 true Answer.Done 0 7 12
+    ∷ row 7 0 0 true (Answer.Refused Differs) 0 7 8
+    ∷ row 3 0 0 false Answer.Done 0 3 0
+    ∷ row 3 0 0 false (Answer.Refused Locked) 0 3 0
+    ∷ row 3 0 6 false Answer.Done 0 3 0
+    ∷ row 3 0 6 false Answer.Done 0 3 0
+    ∷ row 3 0 6 false Answer.Done 0 3 0
     ∷ []
 unfolding rules
 computed = refl
 
 computed-other : rows other ys
-    ≡ row 0 0 0 false Answer.Done 4 1
-    ∷ row 0 0 0 false Answer.Done 5 2
-    ∷ row 4 0 0 true Answer.Done 0 1
-    ∷ row 5 0 0 true (Answer.Value 4) 0 2
-    ∷ row 6 8 0 true Answer.Done 4 5
-    ∷ row 7 0 0 true (Answer.Refused Differs) 5 10
-    ∷ row 3 0 0 false Answer.Done 6 4
-    ∷ row 3 0 0 false (Answer.Refused Locked) 7 8
-    ∷ row 3 0 6 false Answer.Done 3 0
-    ∷ row 3 0 6 false (Answer.Value 0x393D) 3 0
+    ≡ row 0 0 0 false Answer.Done 4 6 5
+    ∷ row 0 0 0 false Answer.Done 5 6 6
+    ∷ row 4 0 0 true Answer.Done 0 6 5
+    ∷ row 5 0 0 true (Answer.Value 4) 0 6 6
+    ∷ row 6 8 0 true Answer.Done 4 7 13
+    ∷ row 7 0 0 true (Answer.Refused Differs) 5 7 10
+    ∷ row 3 0 0 false Answer.Done 6 3 4
+    ∷ row 3 0 0 false (Answer.Refused Locked) 7 3 8
+    ∷ row 3 0 6 false Answer.Done 3 3 0
+    ∷ row 3 0 6 false (Answer.Value 0x393D) 3 3 0
+    ∷ row 3 0 6 false (Answer.Refused BadRecord) 3 3 0
     ∷ []
 unfolding rules
 computed-other = refl
