@@ -1,3 +1,4 @@
+pub mod OwnExamples
 pub mod Own
 pub mod Tick
 pub mod Isolated

@@ -19,7 +19,17 @@ use Rattle.rules.specs.declared.ClassStages.{ClassStages}
 use Rattle.rules.specs.declared.Handler.{Handler}
 use Rattle.rules.specs.declared.Register.the-variants.{Block}
 use Rattle.rules.specs.declared.Setting.{Setting}
-use Rattle.isolation.specs.OwnAccess.{own}
+use Rattle.isolation.specs.OwnAccess.{isOwn, own}
+
+-- ── what counts as an access to the block ──
+
+-- one that does not count names no register of it
+not-named : (g : Handler) (a : Access) (k : ℕ) → isOwn g a k ≡ false → namesBlock g a k ≡ false
+not-named g a k e = e
+
+-- and one that counts names one
+is-named : (g : Handler) (a : Access) (k : ℕ) → isOwn g a k ≡ true → namesBlock g a k ≡ true
+is-named g a k e = e
 
 -- ── the accesses of two runs, where those to class k's block are the same ──
 
@@ -38,13 +48,13 @@ module _ (g f : Handler) (k : ℕ) (m : f .n ≤ most) where
 
   -- none names no block
   pub both : (a b : Access) → own g a k ≡ own f b k → Both g f k a b
-  both a b e = go (namesBlock g a k) (namesBlock f b k) refl refl e
+  both a b e = go (isOwn g a k) (isOwn f b k) refl refl e
     where
-      go : (s t : Bool) → namesBlock g a k ≡ s → namesBlock f b k ≡ t → cond s a Nothing ≡ cond t b Nothing → Both g f k a b
-      go true true d c e = subst (Both g f k a) e (one a d)
-      go true false d c e = absurd (false≢true (ap (λ (a : Access). namesBlock g a k) (sym e) ∙ d))
-      go false true d c e = absurd (false≢true (ap (λ (b : Access). namesBlock f b k) e ∙ c))
-      go false false d c e = apart d c
+      go : (s t : Bool) → isOwn g a k ≡ s → isOwn f b k ≡ t → cond s a Nothing ≡ cond t b Nothing → Both g f k a b
+      go true true d c e = subst (Both g f k a) e (one a (is-named g a k d))
+      go true false d c e = absurd (false≢true (ap (λ (a : Access). isOwn g a k) (sym e) ∙ d))
+      go false true d c e = absurd (false≢true (ap (λ (b : Access). isOwn f b k) e ∙ c))
+      go false false d c e = apart (not-named g a k d) (not-named f b k c)
 
 -- an access that names no register of the block does not write it
 not-written : (g : Handler) (a : Access) (k : ℕ) → namesBlock g a k ≡ false → writesBlock g a k ≡ false

@@ -24,7 +24,7 @@ use Rattle.rules.specs.declared.Field.{Field}
 use Rattle.rules.specs.declared.Handler.{Handler}
 use Rattle.rules.specs.declared.Register.{Register}
 use Rattle.rules.specs.declared.Register.the-variants.{IntrState, IntrEnable, Alert}
-use Rattle.isolation.specs.Owner.{mayName, byTenant}
+use Rattle.isolation.specs.Owner.{mayName, leavesBits, byTenant}
 use Rattle.isolation.specs.OwnAccess.{changesState, changesEnable}
 use Rattle.isolation.proofs.Shared.{Shared, f-small, still, same-view, new-bit, new-enable, same-staged}
 use Rattle.isolation.proofs.Tick.{changed}
@@ -32,8 +32,8 @@ use Rattle.isolation.proofs.Tick.{changed}
 -- ── the tenant's access ──
 
 module _ (k : ℕ) (his : ℕ → Bool) (h : Handler) (x : Access) (t : byTenant k his h x ≡ true) where
-  parts : (mayName k his (named h x) ≡ true) × ((not (changesState h x k) && not (changesEnable h x k)) ≡ true)
-  parts = and-true (mayName k his (named h x)) (not (changesState h x k) && not (changesEnable h x k)) t
+  parts : (mayName k his (named h x) ≡ true) × (leavesBits k h x ≡ true)
+  parts = and-true (mayName k his (named h x)) (leavesBits k h x) t
 
   pub may-name : mayName k his (named h x) ≡ true
   may-name = parts .0

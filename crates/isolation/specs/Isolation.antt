@@ -10,7 +10,6 @@ use mathlib.Core.List.{List}
 use Rattle.bits.specs.Bits.{bit}
 use Rattle.class_rules.specs.Class.{drives}
 use Rattle.escalation.specs.List.{IsTick, before, inputAt, givenAt}
-use Rattle.laws.specs.Block.{namesBlock}
 use Rattle.rules.specs.Access.{value}
 use Rattle.rules.specs.Stages.{classStages, stage}
 use Rattle.rules.specs.State.{classAt}
@@ -19,7 +18,7 @@ use Rattle.rules.specs.declared.Input.{Input}
 use Rattle.rules.specs.declared.Register.the-variants.{Block}
 use Rattle.rules.specs.declared.Setting.{Setting}
 use Rattle.rules.specs.declared.Ticked.{Ticked}
-use Rattle.isolation.specs.OwnAccess.{hasEvent, own, changesState, changesEnable}
+use Rattle.isolation.specs.OwnAccess.{hasEvent, isOwn, own, changesState, changesEnable}
 
 -- ── class k is treated alike ──
 
@@ -71,7 +70,7 @@ pub record Isolation (k first : ℕ) (h : Handler) (xs : List Input) (f : Handle
   pub class : Alike k first h xs f ys → (t : ℕ) → IsTick first xs t → SameClass k (givenAt first h xs t) (givenAt first f ys t)
   -- and so are the answers to accesses of its own block
   pub answer :
-      Alike k first h xs f ys → (t : ℕ) → IsTick first xs t → namesBlock (before first h xs t) (inputAt first xs t .access) k ≡ true
+      Alike k first h xs f ys → (t : ℕ) → IsTick first xs t → isOwn (before first h xs t) (inputAt first xs t .access) k ≡ true
       → givenAt first h xs t .answer ≡ givenAt first f ys t .answer
   -- its interrupt, where INTR_ENABLE is treated alike too
   pub interrupt :

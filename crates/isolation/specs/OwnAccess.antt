@@ -14,9 +14,13 @@ use Rattle.rules.specs.declared.Input.{Input}
 abbrev pub hasEvent : Handler → Input → ℕ → Bool
 hasEvent g x k = event (acted g (x .access)) (x .sample .alerts) (effects g (x .access)) k
 
--- the access, if it names a register of class k's block, reads and refused ones too; all others count as none
+-- an access to class k's own block: any that names a register of it, reads and refused ones too
+abbrev pub isOwn : Handler → Access → ℕ → Bool
+isOwn g a k = namesBlock g a k
+
+-- all others count as none
 abbrev pub own : Handler → Access → ℕ → Access
-own g a k = cond (namesBlock g a k) a Access.Nothing
+own g a k = cond (isOwn g a k) a Access.Nothing
 
 -- step 1 changes bit k of INTR_STATE, or of INTR_ENABLE: a write that leaves a bit as it is, is no change
 abbrev pub changesState : Handler → Access → ℕ → Bool

@@ -9,7 +9,6 @@ use mathlib.Core.List.{List}
 use lib.Dec.{eqb}
 use Rattle.class_rules.specs.Step.{starts}
 use Rattle.escalation.specs.List.{IsTick, before, inputAt, givenAt, classRead, met}
-use Rattle.laws.specs.Block.{namesBlock}
 use Rattle.rules.specs.Access.{acted, named}
 use Rattle.rules.specs.Samples.{positive, negative}
 use Rattle.rules.specs.State.{local, alert}
@@ -20,7 +19,7 @@ use Rattle.rules.specs.declared.Input.{Input}
 use Rattle.rules.specs.declared.Register.{Register}
 use Rattle.rules.specs.declared.Register.the-variants.{IntrState, IntrEnable, IntrTest, Local, Alert, Block, Unassigned}
 use Rattle.isolation.specs.Isolation.{SameClass, SameInterrupt}
-use Rattle.isolation.specs.OwnAccess.{changesState, changesEnable}
+use Rattle.isolation.specs.OwnAccess.{isOwn, changesState, changesEnable}
 
 -- ── the tenant: `his i` says that alert i is his ──
 
@@ -34,9 +33,13 @@ mayName k his (Alert f i) = his i
 mayName k his (Block s j) = not (eqb k j)
 mayName k his Unassigned = true
 
--- his access: it names such a register and leaves class k's bits of INTR_STATE and INTR_ENABLE as they are
+-- an access that leaves class k's bits of INTR_STATE and INTR_ENABLE as they are
+abbrev pub leavesBits : ℕ → Handler → Access → Bool
+leavesBits k g a = not (changesState g a k) && not (changesEnable g a k)
+
+-- his access: it names such a register and leaves those bits
 abbrev pub byTenant : ℕ → (ℕ → Bool) → Handler → Access → Bool
-byTenant k his g a = mayName k his (named g a) && (not (changesState g a k) && not (changesEnable g a k))
+byTenant k his g a = mayName k his (named g a) && leavesBits k g a
 
 -- local alert j is enabled and assigned to class k
 abbrev pub reaches : ℕ → Handler → ℕ → Bool
@@ -74,5 +77,5 @@ pub record Undisturbed (k first : ℕ) (h : Handler) (xs ys : List Input) : Type
   pub class : (t : ℕ) → IsTick first xs t → SameClass k (givenAt first h xs t) (givenAt first h ys t)
   pub interrupt : (t : ℕ) → IsTick first xs t → SameInterrupt k (givenAt first h xs t) (givenAt first h ys t)
   pub answer :
-      (t : ℕ) → IsTick first xs t → namesBlock (before first h xs t) (inputAt first xs t .access) k ≡ true
+      (t : ℕ) → IsTick first xs t → isOwn (before first h xs t) (inputAt first xs t .access) k ≡ true
       → givenAt first h xs t .answer ≡ givenAt first h ys t .answer
