@@ -3,12 +3,14 @@
 use Prim.Native.Nat.{ℕ, zero, suc, _+_, _-_, _<_}
 use mathlib.Core.Path.{_≡_, refl, ap, _∙_, sym}
 use mathlib.Core.Logic.{_⊎_, inl, inr}
-use mathlib.Core.Bool.{Bool, true, false, false≢true, true≢false, xor}
+use mathlib.Core.Bool.{Bool, true, false, true≢false, _&&_, xor}
 use mathlib.Core.List.{List, [], _∷_, map}
 use native.Mathlib.Omega.{arith}
 use lib.Dec.{eqb}
-use lib.ListN.{getD, set, replicate}
+use lib.ListN.{getD, length, set, replicate, getD-replicate}
 use Rattle.bits.specs.Bits.{bit}
+use Rattle.bits.specs.Index.{anyTo}
+use Rattle.bits.proofs.IndexLaws.{none-at}
 use Rattle.class_rules.specs.Class.{drives}
 use Rattle.escalation.proofs.Ticks
 use Rattle.escalation.proofs.Ticks.{input}
@@ -83,96 +85,102 @@ busy =
 
 -- ── the runs differ in what the tenant does alone ──
 
--- what the conditions speak of in a tick, computed of each run by itself
+-- what the conditions of class k and the tenant's alerts speak of in a tick, computed of each run by itself
 record Seen : Type 0 where
-  pub alerts : ℕ
   pub tenant : Bool
   pub assigned : Bool
   pub two : Bool
   pub five : Bool
 
-abbrev seen : Handler → Input → Seen
-seen g x =
+abbrev seen : ℕ → (ℕ → Bool) → Handler → Input → Seen
+seen k his g x =
     record {
-      alerts = g .n;
-      tenant = byTenant 0 his g (x .access);
-      assigned = eqb (alert (acted g (x .access)) Field.Class 1) 0;
-      two = reaches 0 (acted g (x .access)) 2;
-      five = reaches 0 (acted g (x .access)) 5;
+      tenant = byTenant k his g (x .access);
+      assigned = anyTo (λ i. his i && eqb (alert (acted g (x .access)) Field.Class i) k) (g .n);
+      two = reaches k (acted g (x .access)) 2;
+      five = reaches k (acted g (x .access)) 5;
     }
 
 -- the conditions hold; the access is, or is not, one that the tenant may do
 abbrev fine : Bool → Seen
-fine b = record { alerts = 2; tenant = b; assigned = false; two = false; five = false }
+fine b = record { tenant = b; assigned = false; two = false; five = false }
 
+-- of one tick
+module _ (k : ℕ) (his : ℕ → Bool) (g : Handler) (x : Input) (b : Bool) (s : seen k his g x ≡ fine b) where
+  is-tenant : byTenant k his g (x .access) ≡ b
+  is-tenant = ap (λ (o : Seen). o .tenant) s
+
+  apart : Apart k his g x
+  apart = record { alerts = one; local-2 = ap (λ (o : Seen). o .two) s; local-5 = ap (λ (o : Seen). o .five) s }
+    where
+      one : (i : ℕ) → i < g .n → his i ≡ true → eqb (alert (acted g (x .access)) Field.Class i) k ≡ false
+      one i l e =
+          ap (λ (t : Bool). t && eqb (alert (acted g (x .access)) Field.Class i) k) (sym e)
+          ∙ none-at (λ i. his i && eqb (alert (acted g (x .access)) Field.Class i) k) (g .n) i (ap (λ (o : Seen). o .assigned) s) l
+
+-- of tick i of a run
+seen-at : (k : ℕ) (his : ℕ → Bool) (xs : List Input) (course : List Seen) → along (seen k his) home xs ≡ course → (i : ℕ) → i < length xs
+    → seen k his (Ticks.at home xs i) (input xs i) ≡ getD course i (fine true)
+seen-at k his xs course e i l = sym (along-at (seen k his) home xs i (fine true) l) ∙ ap (λ (o : List Seen). getD o i (fine true)) e
+
+-- class A: in ticks 2 and 6 the access is the owner's
 abbrev course : List Seen
 course = fine true ∷ fine true ∷ fine false ∷ fine true ∷ fine true ∷ fine true ∷ fine false ∷ fine true ∷ []
 
-quiet-seen : along seen home quiet ≡ course
+quiet-seen : along (seen 0 his) home quiet ≡ course
 unfolding rules xor along
 quiet-seen = refl
 
-busy-seen : along seen home busy ≡ course
+busy-seen : along (seen 0 his) home busy ≡ course
 unfolding rules xor along
 busy-seen = refl
 
--- of one tick
-module _ (g : Handler) (x : Input) (b : Bool) (s : seen g x ≡ fine b) where
-  is-tenant : byTenant 0 his g (x .access) ≡ b
-  is-tenant = ap (λ (o : Seen). o .tenant) s
+module _ (i : ℕ) (l : i < 8) (b : Bool) (e : getD course i (fine true) ≡ fine b) where
+  quiet-at : seen 0 his (Ticks.at home quiet i) (input quiet i) ≡ fine b
+  quiet-at = seen-at 0 his quiet course quiet-seen i l ∙ e
 
-  apart : Apart 0 his g x
-  apart = record { alerts = one; local-2 = ap (λ (o : Seen). o .two) s; local-5 = ap (λ (o : Seen). o .five) s }
+  busy-at : seen 0 his (Ticks.at home busy i) (input busy i) ≡ fine b
+  busy-at = seen-at 0 his busy course busy-seen i l ∙ e
+
+  -- two ticks in which alert 0's wires are the same
+  but : (input quiet i .access ≡ input busy i .access) ⊎ (b ≡ true) → positive (input quiet i .sample .alerts) 0 ≡ positive (input busy i .sample .alerts) 0
+      → negative (input quiet i .sample .alerts) 0 ≡ negative (input busy i .sample .alerts) 0
+      → ButTenant 0 his (Ticks.at home quiet i) (input quiet i) (Ticks.at home busy i) (input busy i)
+  but a p q =
+      record {
+        access = way a;
+        pos = pos;
+        neg = neg;
+        apart = (apart 0 his (Ticks.at home quiet i) (input quiet i) b quiet-at, apart 0 his (Ticks.at home busy i) (input busy i) b busy-at);
+      }
     where
-      two-alerts : g .n ≡ 2
-      two-alerts = ap (λ (o : Seen). o .alerts) s
+      way : (input quiet i .access ≡ input busy i .access) ⊎ (b ≡ true)
+          → (input quiet i .access ≡ input busy i .access)
+          ⊎ ((byTenant 0 his (Ticks.at home quiet i) (input quiet i .access) ≡ true) × (byTenant 0 his (Ticks.at home busy i) (input busy i .access) ≡ true))
+      way (inl c) = inl c
+      way (inr c) = inr (
+        is-tenant 0 his (Ticks.at home quiet i) (input quiet i) b quiet-at ∙ c,
+        is-tenant 0 his (Ticks.at home busy i) (input busy i) b busy-at ∙ c,
+      )
 
-      one : (i : ℕ) → i < g .n → his i ≡ true → eqb (alert (acted g (x .access)) Field.Class i) 0 ≡ false
-      one zero l e = absurd (false≢true e)
-      one (suc zero) l e = ap (λ (o : Seen). o .assigned) s
-      one (suc (suc i)) l e = absurd (let n = two-alerts in omega arith)
+      pos : (j : ℕ) → j < Ticks.at home quiet i .n → his j ≡ false → positive (input quiet i .sample .alerts) j ≡ positive (input busy i .sample .alerts) j
+      pos zero l e = p
+      pos (suc j) l e = absurd (true≢false e)
 
--- of tick i of both
-module _ (i : ℕ) (l : i < 8) where
-  quiet-at : seen (Ticks.at home quiet i) (input quiet i) ≡ getD course i (fine true)
-  quiet-at = sym (along-at seen home quiet i (fine true) l) ∙ ap (λ (o : List Seen). getD o i (fine true)) quiet-seen
-
-  busy-at : seen (Ticks.at home busy i) (input busy i) ≡ getD course i (fine true)
-  busy-at = sym (along-at seen home busy i (fine true) l) ∙ ap (λ (o : List Seen). getD o i (fine true)) busy-seen
-
--- alert 0's wires are the same
-but : (g : Handler) (x : Input) (f : Handler) (y : Input) (b : Bool) → seen g x ≡ fine b → seen f y ≡ fine b
-    → (x .access ≡ y .access) ⊎ ((byTenant 0 his g (x .access) ≡ true) × (byTenant 0 his f (y .access) ≡ true))
-    → positive (x .sample .alerts) 0 ≡ positive (y .sample .alerts) 0 → negative (x .sample .alerts) 0 ≡ negative (y .sample .alerts) 0
-    → ButTenant 0 his g x f y
-but g x f y b s u a p q = record { access = a; pos = pos; neg = neg; apart = (apart g x b s, apart f y b u) }
-  where
-    pos : (i : ℕ) → i < g .n → his i ≡ false → positive (x .sample .alerts) i ≡ positive (y .sample .alerts) i
-    pos zero l e = p
-    pos (suc i) l e = absurd (true≢false e)
-
-    neg : (i : ℕ) → i < g .n → his i ≡ false → negative (x .sample .alerts) i ≡ negative (y .sample .alerts) i
-    neg zero l e = q
-    neg (suc i) l e = absurd (true≢false e)
-
--- both accesses are the tenant's
-both : (i : ℕ) (l : i < 8) → getD course i (fine true) ≡ fine true
-    → (byTenant 0 his (Ticks.at home quiet i) (input quiet i .access) ≡ true) × (byTenant 0 his (Ticks.at home busy i) (input busy i .access) ≡ true)
-both i l e = (
-  is-tenant (Ticks.at home quiet i) (input quiet i) true (quiet-at i l ∙ e),
-  is-tenant (Ticks.at home busy i) (input busy i) true (busy-at i l ∙ e),
-)
+      neg : (j : ℕ) → j < Ticks.at home quiet i .n → his j ≡ false → negative (input quiet i .sample .alerts) j ≡ negative (input busy i .sample .alerts) j
+      neg zero l e = q
+      neg (suc j) l e = absurd (true≢false e)
 
 only-tenant : OnlyTenant 0 his 0 home quiet busy
 unfolding rules
-only-tenant zero m = but _ _ _ _ true (quiet-at 0 (omega arith)) (busy-at 0 (omega arith)) (inr (both 0 (omega arith) refl)) refl refl
-only-tenant (suc zero) m = but _ _ _ _ true (quiet-at 1 (omega arith)) (busy-at 1 (omega arith)) (inr (both 1 (omega arith) refl)) refl refl
-only-tenant (suc (suc zero)) m = but _ _ _ _ false (quiet-at 2 (omega arith)) (busy-at 2 (omega arith)) (inl refl) refl refl
-only-tenant (suc (suc (suc zero))) m = but _ _ _ _ true (quiet-at 3 (omega arith)) (busy-at 3 (omega arith)) (inr (both 3 (omega arith) refl)) refl refl
-only-tenant (suc (suc (suc (suc zero)))) m = but _ _ _ _ true (quiet-at 4 (omega arith)) (busy-at 4 (omega arith)) (inr (both 4 (omega arith) refl)) refl refl
-only-tenant (suc (suc (suc (suc (suc zero))))) m = but _ _ _ _ true (quiet-at 5 (omega arith)) (busy-at 5 (omega arith)) (inr (both 5 (omega arith) refl)) refl refl
-only-tenant (suc (suc (suc (suc (suc (suc zero)))))) m = but _ _ _ _ false (quiet-at 6 (omega arith)) (busy-at 6 (omega arith)) (inl refl) refl refl
-only-tenant (suc (suc (suc (suc (suc (suc (suc zero))))))) m = but _ _ _ _ true (quiet-at 7 (omega arith)) (busy-at 7 (omega arith)) (inr (both 7 (omega arith) refl)) refl refl
+only-tenant zero m = but 0 (omega arith) true refl (inr refl) refl refl
+only-tenant (suc zero) m = but 1 (omega arith) true refl (inr refl) refl refl
+only-tenant (suc (suc zero)) m = but 2 (omega arith) false refl (inl refl) refl refl
+only-tenant (suc (suc (suc zero))) m = but 3 (omega arith) true refl (inr refl) refl refl
+only-tenant (suc (suc (suc (suc zero)))) m = but 4 (omega arith) true refl (inr refl) refl refl
+only-tenant (suc (suc (suc (suc (suc zero))))) m = but 5 (omega arith) true refl (inr refl) refl refl
+only-tenant (suc (suc (suc (suc (suc (suc zero)))))) m = but 6 (omega arith) false refl (inl refl) refl refl
+only-tenant (suc (suc (suc (suc (suc (suc (suc zero))))))) m = but 7 (omega arith) true refl (inr refl) refl refl
 only-tenant (suc (suc (suc (suc (suc (suc (suc (suc i)))))))) m = absurd (omega (arith, m .to))
 
 -- ── so class A starts in the same tick and takes as long ──
@@ -194,6 +202,35 @@ module _ (t : ℕ) (m : IsTick 0 quiet t) where
 answered : givenAt 0 home quiet 2 .answer ≡ givenAt 0 home busy 2 .answer
 unfolding rules
 answered = same .answer 2 (record { from = omega arith; to = omega arith }) refl
+
+-- class D, to whom all of this is the tenant's: every alert is his
+abbrev all : ℕ → Bool
+all i = true
+
+quiet-seen-3 : along (seen 3 all) home quiet ≡ replicate 8 (fine true)
+unfolding rules xor along
+quiet-seen-3 = refl
+
+busy-seen-3 : along (seen 3 all) home busy ≡ replicate 8 (fine true)
+unfolding rules xor along
+busy-seen-3 = refl
+
+only-tenant-3 : OnlyTenant 3 all 100 home quiet busy
+only-tenant-3 t m =
+    let i : ℕ = t - 100 in
+    let l : i < 8 = omega (arith, m .from, m .to) in
+    let q = seen-at 3 all quiet (replicate 8 (fine true)) quiet-seen-3 i l ∙ getD-replicate 8 i (fine true) (fine true) l in
+    let b = seen-at 3 all busy (replicate 8 (fine true)) busy-seen-3 i l ∙ getD-replicate 8 i (fine true) (fine true) l in
+    record {
+      access = inr (is-tenant 3 all (Ticks.at home quiet i) (input quiet i) true q, is-tenant 3 all (Ticks.at home busy i) (input busy i) true b);
+      pos = λ j n e. absurd (true≢false e);
+      neg = λ j n e. absurd (true≢false e);
+      apart = (apart 3 all (Ticks.at home quiet i) (input quiet i) true q, apart 3 all (Ticks.at home busy i) (input busy i) true b);
+    }
+
+same-3 : Undisturbed 3 100 home quiet busy
+unfolding rules
+same-3 = undisturbed 3 all 100 home quiet busy (omega arith) refl refl only-tenant-3
 
 -- computed beside it: class A and class B
 abbrev states : ℕ → Handler → List Input → List ℕ
