@@ -66,21 +66,21 @@ quiet =
     ∷ rest (write (Local Field.En 0) 0)
     ∷ rest Access.Malformed
     ∷ rest (write IntrState 1)
-    ∷ rest (read IntrState)
+    ∷ rest (write IntrTest 2)
     ∷ []
 
 -- a busy one: his alert starts class B and has equal wires; he writes his block, differs in the second write, stages another class for his alert, clears his
--- interrupt and enables it, and clears his class
+-- class, enables his interrupt and clears it, with a 1 for class A's bit too, which is 0 by then
 abbrev busy : List Input
 busy =
     raise 1 (write (Block Ctrl 1) 0x3FFD)
     ∷ wired (wire 0 + wire 1) (ones - wire 0) (write (Alert Field.Class 1) 3)
     ∷ bothHigh 1 (write (Block AccumThresh 0) 3)
     ∷ rest (write (Block Ctrl 1) 0x3FFF)
-    ∷ rest (write IntrState 2)
+    ∷ rest (write (Block Clr 1) 1)
     ∷ rest (write IntrEnable 2)
     ∷ rest (write IntrState 1)
-    ∷ rest (write (Block Clr 1) 1)
+    ∷ rest (write IntrState 3)
     ∷ []
 
 -- ── the runs differ in what the tenant does alone ──
@@ -239,7 +239,7 @@ states k h is = map (λ (o : Ticked). classAt (o .handler) k .state) (ticks h is
 computed : (states 0 home quiet ≡ 0 ∷ 4 ∷ 5 ∷ 6 ∷ 7 ∷ 3 ∷ 3 ∷ 3 ∷ [])
     × (states 0 home busy ≡ 0 ∷ 4 ∷ 5 ∷ 6 ∷ 7 ∷ 3 ∷ 3 ∷ 3 ∷ [])
     × (states 1 home quiet ≡ replicate 8 0)
-    × (states 1 home busy ≡ 4 ∷ 5 ∷ 6 ∷ 7 ∷ 3 ∷ 3 ∷ 3 ∷ 0 ∷ [])
+    × (states 1 home busy ≡ 4 ∷ 5 ∷ 6 ∷ 7 ∷ 0 ∷ 0 ∷ 0 ∷ 0 ∷ [])
 unfolding rules
 computed = (refl, refl, refl, refl)
 
@@ -256,9 +256,9 @@ local-5-needed : (states 0 (house 1 1) (map rest (write (Block Ctrl 1) 5 ∷ wri
 unfolding rules
 local-5-needed = (refl, refl)
 
--- his alert in class A: its event starts it
+-- his alert in class A, and no other: its event starts it
 abbrev assigned : Handler
-assigned = withClasses (home .classes) (station 2 (1 ∷ 1 ∷ replicate 246 0) (replicate 248 0) 2 resetClass)
+assigned = withClasses (home .classes) (station 2 (1 ∷ 1 ∷ replicate 246 0) (1 ∷ 0 ∷ replicate 246 0) 2 resetClass)
 
 alerts-needed : (states 0 assigned (rest none ∷ []) ≡ 0 ∷ []) × (states 0 assigned (raise 1 none ∷ []) ≡ 4 ∷ [])
 unfolding rules

@@ -1,5 +1,5 @@
 -- One tick of each of two runs: a class that is equal before and treated alike is equal after.
--- It rests on laws of the tick (Content, StageContent, BlockAnswers, Frame, InterruptBits of crate laws) and does not open it.
+-- It rests on what crate laws says of one class in a tick: Content, StageContent and BlockAnswers, with Frame and InterruptBits.
 -- Assumes nothing.
 use Prim.Native.Nat.{ℕ, _≤_, _<_}
 use mathlib.Core.Path.{_≡_, refl, sym, ap, ap₂, _∙_}
