@@ -25,7 +25,6 @@ use Rattle.rules.specs.Tick.{outputOf, after, tick}
 use Rattle.rules.specs.Valid.{valid}
 use Rattle.rules.specs.declared.Handler.{Handler}
 use Rattle.rules.specs.declared.Input.{Input}
-use Rattle.rules.specs.declared.Ticked.{Ticked}
 use Rattle.isolation.specs.Isolation.{SameTick, Alike, AlikeEnable, SameClass, SameInterrupt, Isolation}
 use Rattle.isolation.specs.OwnAccess.{changesEnable}
 use Rattle.isolation.proofs.Tick.{Equal, equal-after, equal-answer, enable-same}

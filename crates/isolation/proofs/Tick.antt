@@ -6,7 +6,7 @@ use mathlib.Core.Path.{_≡_, refl, sym, ap, ap₂, _∙_}
 use mathlib.Core.Bool.{Bool, true, false, false≢true, _||_, xor}
 use Rattle.bits.specs.Bits.{bit}
 use Rattle.class_rules.specs.Step.{classStep}
-use Rattle.escalation.specs.List.{met, classRead}
+use Rattle.escalation.specs.List.{met}
 use Rattle.laws.proofs.Content.{after-class, after-bit}
 use Rattle.laws.proofs.Frame.{stepped-stages}
 use Rattle.laws.proofs.InterruptBits.{after-enable}

@@ -28,7 +28,7 @@ use Rattle.rules.specs.Access.{value, named, acted, effects}
 use Rattle.rules.specs.Map.{decode, fieldRow}
 use Rattle.rules.specs.Run.{run}
 use Rattle.rules.specs.Samples.{happens, positive, negative, alertEvent, rearmed, assigned, armedAfter}
-use Rattle.rules.specs.State.{most, classCount, alert, armed}
+use Rattle.rules.specs.State.{classCount, alert, armed}
 use Rattle.rules.specs.Tick.{event, after}
 use Rattle.rules.specs.Valid.{valid}
 use Rattle.rules.specs.declared.Access.{Access}

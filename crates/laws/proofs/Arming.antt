@@ -1,7 +1,7 @@
 -- The arming of an alert: an access leaves it, and a tick moves it by the alert's wires alone.
 -- Assumes nothing.
 use Prim.Native.Nat.{ℕ, _*_, _<_}
-use mathlib.Core.Path.{_≡_, refl, ap, _∙_}
+use mathlib.Core.Path.{_≡_, refl, ap}
 use Rattle.bits.specs.Index.{placeIn}
 use Rattle.rules.specs.Access.{store, acted, effects}
 use Rattle.rules.specs.Map.{decode}

@@ -12,7 +12,6 @@ use Rattle.rules.specs.Answer.{firstOf}
 use Rattle.rules.specs.Map.{decode, numberOf, isRegister, settingBits, settingRow, bits, onlyWritten, onlyRead, writeOnly, readOnly, isLock}
 use Rattle.rules.specs.Stages.{settingStage, classStages, stageIn}
 use Rattle.rules.specs.State.{most, classAt}
-use Rattle.rules.specs.declared.Access.{Access}
 use Rattle.rules.specs.declared.Access.the-variants.{Read, Write}
 use Rattle.rules.specs.declared.Answer.{Answer}
 use Rattle.rules.specs.declared.ClassStages.{ClassStages}

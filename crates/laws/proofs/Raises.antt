@@ -8,7 +8,7 @@ use lib.Dec.{eqb}
 use Rattle.bits.proofs.IndexLaws.{any-none}
 use Rattle.bits.specs.Bits.{bit}
 use Rattle.bits.specs.Index.{anyTo}
-use Rattle.rules.specs.Access.{verdict, raisedBy, accessedBy, accessed, effects}
+use Rattle.rules.specs.Access.{verdict, accessedBy, accessed, effects}
 use Rattle.rules.specs.Answer.{refusalNumber}
 use Rattle.rules.specs.Samples.{alertBroken, raised, occurs}
 use Rattle.rules.specs.State.{localCount, local}
