@@ -8,4 +8,6 @@ pub mod Undisturbed
 pub mod Traces
 pub mod TwoStations
 pub mod Needed
+pub mod Whole
+pub mod WholeOwner
 pub mod OwnerExamples

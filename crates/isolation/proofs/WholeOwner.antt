@@ -1,0 +1,125 @@
+-- The owner's corollary once more, taken from the theorem over every class, tenant, state and list: what the tenant leaves alone, in raw registers and
+-- bits, and what is then equal. A corollary that says less, or asks the tenant or the station for more, does not give it.
+-- Assumes nothing.
+use Prim.Native.Nat.{ℕ, _<_}
+use mathlib.Core.Path.{_≡_, refl, sym, ap, ap₂, _∙_}
+use mathlib.Core.Logic.{_⊎_, inl, inr}
+use mathlib.Core.Bool.{Bool, true, false, not, _&&_, xor}
+use mathlib.Core.List.{List}
+use borrow.Author.Tests.{eqb-true, ne-eqb}
+use lib.Dec.{eqb}
+use lib.ListN.{length}
+use Rattle.bits.specs.Bits.{bit}
+use Rattle.class_rules.specs.Step.{starts}
+use Rattle.escalation.specs.List.{IsTick, before, inputAt, givenAt, met, classRead}
+use Rattle.laws.proofs.Cases.{by-kind}
+use Rattle.laws.specs.Block.{ofBlock}
+use Rattle.rules.specs.Access.{named, acted}
+use Rattle.rules.specs.Samples.{positive, negative}
+use Rattle.rules.specs.State.{local, alert}
+use Rattle.rules.specs.Valid.{valid}
+use Rattle.rules.specs.declared.Access.{Access}
+use Rattle.rules.specs.declared.Field.{Field}
+use Rattle.rules.specs.declared.Handler.{Handler}
+use Rattle.rules.specs.declared.Input.{Input}
+use Rattle.rules.specs.declared.Register.{Register}
+use Rattle.rules.specs.declared.Register.the-variants.{Alert, Block}
+use Rattle.rules.specs.declared.Setting.{Setting}
+use Rattle.isolation.specs.Owner.{mayName, byTenant, reaches, Apart, ButTenant, OnlyTenant, Undisturbed}
+use Rattle.isolation.proofs.Undisturbed.{undisturbed}
+use Rattle.isolation.proofs.Whole.{shown, shown-same}
+
+-- ── the tenant's access a to the state g: it names no register of block k, of alerts only his own, and leaves class k's interrupt bits ──
+
+record Tenant (k : ℕ) (his : ℕ → Bool) (g : Handler) (a : Access) : Type 0 where
+  pub block : (s : Setting) → named g a ≡ Block s k → ⊥
+  pub alerts : (d : Field) (i : ℕ) → named g a ≡ Alert d i → his i ≡ true
+  pub state : bit (g .interrupts .state) k ≡ bit (acted g a .interrupts .state) k
+  pub enable : bit (g .interrupts .enable) k ≡ bit (acted g a .interrupts .enable) k
+
+may : (k : ℕ) (his : ℕ → Bool) (q : Register) → ((s : Setting) → q ≡ Block s k → ⊥) → ((d : Field) (i : ℕ) → q ≡ Alert d i → his i ≡ true)
+    → mayName k his q ≡ true
+may k his q =
+    by-kind (λ q. ((s : Setting) → q ≡ Block s k → ⊥) → ((d : Field) (i : ℕ) → q ≡ Alert d i → his i ≡ true) → mayName k his q ≡ true) (λ b a. refl) (λ b a. refl)
+    (λ b a. refl) (λ d j b a. refl) (λ d i b a. a d i refl)
+    (λ s j b a. ap not (ne-eqb k j (λ e. b s (ap (Block s) (sym e))))) (λ b a. refl) q
+
+same-bit : (p q : Bool) → p ≡ q → not (xor p q) ≡ true
+unfolding xor
+same-bit true true e = refl
+same-bit true false e = sym e
+same-bit false true e = e
+same-bit false false e = refl
+
+by-tenant : (k : ℕ) (his : ℕ → Bool) (g : Handler) (a : Access) → Tenant k his g a → byTenant k his g a ≡ true
+by-tenant k his g a t =
+    ap₂ _&&_ (may k his (named g a) (t .block) (t .alerts)) (ap₂ _&&_ (same-bit _ _ (t .state)) (same-bit _ _ (t .enable)))
+
+-- ── the station, as step 2 of a tick reads it: his alerts are not in class k; local 2 and local 5, where enabled, are not either ──
+
+record Station (k : ℕ) (his : ℕ → Bool) (g : Handler) (x : Input) : Type 0 where
+  pub alerts : (i : ℕ) → i < g .n → his i ≡ true → alert (acted g (x .access)) Field.Class i ≡ k → ⊥
+  pub local-2 : local (acted g (x .access)) Field.En 2 ≡ 1 → local (acted g (x .access)) Field.Class 2 ≡ k → ⊥
+  pub local-5 : local (acted g (x .access)) Field.En 5 ≡ 1 → local (acted g (x .access)) Field.Class 5 ≡ k → ⊥
+
+not-reached : (k : ℕ) (h : Handler) (j : ℕ) → (local h Field.En j ≡ 1 → local h Field.Class j ≡ k → ⊥) → reaches k h j ≡ false
+not-reached k h j e = go (eqb (local h Field.En j) 1) refl
+  where
+    go : (b : Bool) → eqb (local h Field.En j) 1 ≡ b → (b && eqb (local h Field.Class j) k) ≡ false
+    go true c = ne-eqb (local h Field.Class j) k (e (eqb-true (local h Field.En j) 1 c))
+    go false c = refl
+
+apart : (k : ℕ) (his : ℕ → Bool) (g : Handler) (x : Input) → Station k his g x → Apart k his g x
+apart k his g x s =
+    record {
+      alerts = λ i l e. ne-eqb (alert (acted g (x .access)) Field.Class i) k (s .alerts i l e);
+      local-2 = not-reached k (acted g (x .access)) 2 (s .local-2);
+      local-5 = not-reached k (acted g (x .access)) 5 (s .local-5);
+    }
+
+-- ── two ticks that are equal but for what the tenant does ──
+
+record Differ (k : ℕ) (his : ℕ → Bool) (g : Handler) (x : Input) (f : Handler) (y : Input) : Type 0 where
+  pub access : (x .access ≡ y .access) ⊎ (Tenant k his g (x .access) × Tenant k his f (y .access))
+  pub pos : (i : ℕ) → i < g .n → his i ≡ false → positive (x .sample .alerts) i ≡ positive (y .sample .alerts) i
+  pub neg : (i : ℕ) → i < g .n → his i ≡ false → negative (x .sample .alerts) i ≡ negative (y .sample .alerts) i
+  pub stations : Station k his g x × Station k his f y
+
+but-tenant : (k : ℕ) (his : ℕ → Bool) (g : Handler) (x : Input) (f : Handler) (y : Input) → Differ k his g x f y → ButTenant k his g x f y
+but-tenant k his g x f y d =
+    record {
+      access = go (d .access);
+      pos = d .pos;
+      neg = d .neg;
+      apart = (apart k his g x (d .stations .0), apart k his f y (d .stations .1));
+    }
+  where
+    go : (x .access ≡ y .access) ⊎ (Tenant k his g (x .access) × Tenant k his f (y .access))
+        → (x .access ≡ y .access) ⊎ ((byTenant k his g (x .access) ≡ true) × (byTenant k his f (y .access) ≡ true))
+    go (inl e) = inl e
+    go (inr t) = inr (by-tenant k his g (x .access) (t .0), by-tenant k his f (y .access) (t .1))
+
+-- ── then the owner's class starts in the same ticks, and shows and answers the same in each ──
+
+module _ (k : ℕ) (his : ℕ → Bool) (first : ℕ) (h : Handler) (xs ys : List Input) (l : k < 4) (v : valid h ≡ true) (n : length xs ≡ length ys)
+    (d : (t : ℕ) → IsTick first xs t → Differ k his (before first h xs t) (inputAt first xs t) (before first h ys t) (inputAt first ys t)) where
+  only : OnlyTenant k his first h xs ys
+  only t m = but-tenant k his (before first h xs t) (inputAt first xs t) (before first h ys t) (inputAt first ys t) (d t m)
+
+  claim : Undisturbed k first h xs ys
+  claim = undisturbed k his first h xs ys l v n only
+
+  module _ (t : ℕ) (m : IsTick first xs t) where
+    starts-alike : starts (met (before first h xs t) (inputAt first xs t) k) (classRead (before first h xs t) (inputAt first xs t) k)
+        ≡ starts (met (before first h ys t) (inputAt first ys t) k) (classRead (before first h ys t) (inputAt first ys t) k)
+    starts-alike = claim .start t m
+
+    shows-alike : shown k (givenAt first h xs t) ≡ shown k (givenAt first h ys t)
+    shows-alike = shown-same k (givenAt first h xs t) (givenAt first h ys t) (claim .class t m)
+
+    interrupts-alike : bit (givenAt first h xs t .output .interrupts) k ≡ bit (givenAt first h ys t .output .interrupts) k
+    interrupts-alike = claim .interrupt t m .interrupt
+
+    answers-alike : ofBlock k (named (before first h xs t) (inputAt first xs t .access)) ≡ true
+        → givenAt first h xs t .answer ≡ givenAt first h ys t .answer
+    answers-alike = claim .answer t m
