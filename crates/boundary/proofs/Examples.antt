@@ -13,12 +13,13 @@ use Rattle.class_rules.specs.declared.Class.{Class}
 use Rattle.handler.specs.Answered.{answered}
 use Rattle.handler.specs.declared.tick.Answered.{Answered}
 use Rattle.rules.proofs.Scenes.{rules, settings, zeros, station}
-use Rattle.rules.specs.State.{newHandler, alert, classAt, resetClass, withInterrupts, withClasses}
+use Rattle.rules.specs.State.{newHandler, made, alert, classAt, resetClass, withInterrupts, withClasses}
 use Rattle.rules.specs.Tick.{ticked}
 use Rattle.rules.specs.declared.Access.{Access}
 use Rattle.rules.specs.declared.Edition.{Edition}
 use Rattle.rules.specs.declared.Field.{Field}
 use Rattle.rules.specs.declared.Handler.{Handler}
+use Rattle.rules.specs.declared.Made.{Made}
 use Rattle.rules.specs.declared.Wires.{Wires}
 
 -- ── kinds: 0 none, 1 read, 2 write, any other a malformed record; what the kind does not use is not looked at ──
@@ -27,6 +28,17 @@ kinds : (map (λ (k : ℕ). accessBy k 1281 7) (0 ∷ 1 ∷ 2 ∷ 3 ∷ 4 ∷ 25
     ≡ Access.Nothing ∷ Access.Read 1281 ∷ Access.Write 1281 7 ∷ Access.Malformed ∷ Access.Malformed ∷ Access.Malformed ∷ [])
 unfolding rules
 kinds = refl
+
+-- ── making: r is what the call gives back ──
+
+makes : (r : Made) → r ≡ made 248 → (r .answer ≡ pos 0) × (r .handler .n ≡ 248)
+unfolding rules
+makes r e = (ap (λ (x : Made). x .answer) e, ap (λ (x : Made). x .handler .n) e)
+
+-- refusal 6 leaves a handler of no alerts
+too-many : (r : Made) → r ≡ made 249 → (r .answer ≡ negsuc 5) × (r .handler ≡ newHandler 0)
+unfolding rules
+too-many r e = (ap (λ (x : Made). x .answer) e, ap (λ (x : Made). x .handler) e)
 
 -- ── a tick: r is what the call gives back ──
 
