@@ -10,4 +10,5 @@ pub mod TwoStations
 pub mod Needed
 pub mod Whole
 pub mod WholeOwner
+pub mod TenantBits
 pub mod OwnerExamples

@@ -44,7 +44,7 @@ may k his q =
     (λ b a. refl) (λ d j b a. refl) (λ d i b a. a d i refl)
     (λ s j b a. ap not (ne-eqb k j (λ e. b s (ap (Block s) (sym e))))) (λ b a. refl) q
 
-same-bit : (p q : Bool) → p ≡ q → not (xor p q) ≡ true
+pub same-bit : (p q : Bool) → p ≡ q → not (xor p q) ≡ true
 unfolding xor
 same-bit true true e = refl
 same-bit true false e = sym e
