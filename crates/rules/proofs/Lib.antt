@@ -11,3 +11,4 @@ pub mod StageExamples
 pub mod ShadowExamples
 pub mod LockExamples
 pub mod ApartExamples
+pub mod OwnBitsExamples
