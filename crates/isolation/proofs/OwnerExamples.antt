@@ -4,7 +4,7 @@ use Prim.Native.Nat.{ℕ, zero, suc, _+_, _-_, _<_}
 use mathlib.Core.Path.{_≡_, refl, ap, _∙_, sym}
 use mathlib.Core.Logic.{_⊎_, inl, inr}
 use mathlib.Core.Bool.{Bool, true, false, true≢false, _&&_, xor}
-use mathlib.Core.List.{List, [], _∷_, map}
+use mathlib.Core.List.{List, [], _∷_, _++_, map}
 use native.Mathlib.Omega.{arith}
 use lib.Dec.{eqb}
 use lib.ListN.{getD, length, set, replicate, getD-replicate}
@@ -20,7 +20,7 @@ use Rattle.rules.specs.Access.{value, acted}
 use Rattle.rules.specs.Map.{numberOf}
 use Rattle.rules.specs.Run.{ticks}
 use Rattle.rules.specs.Samples.{positive, negative}
-use Rattle.rules.specs.Scenes.{ones, wired, wire, rest, raise, bothHigh, none, write}
+use Rattle.rules.specs.Scenes.{ones, wired, wire, rest, raise, bothHigh, none, write, configure}
 use Rattle.rules.specs.State.{alert, classAt, resetClass, withClasses, withLocals}
 use Rattle.rules.specs.declared.Access.{Access}
 use Rattle.rules.specs.declared.Field.{Field}
@@ -31,7 +31,7 @@ use Rattle.rules.specs.declared.Register.the-variants.{IntrState, IntrEnable, I
 use Rattle.rules.specs.declared.Setting.{Setting}
 use Rattle.rules.specs.declared.Setting.the-variants.{Ctrl, Clr, AccumThresh, EscCnt}
 use Rattle.rules.specs.declared.Ticked.{Ticked}
-use Rattle.isolation.specs.Owner.{byTenant, reaches, Apart, ButTenant, OnlyTenant, startsIn, Undisturbed}
+use Rattle.isolation.specs.Owner.{byTenant, reaches, alertReaches, Apart, ButTenant, OnlyTenant, startsIn, Undisturbed}
 use Rattle.isolation.proofs.Traces.{along, along-at}
 use Rattle.isolation.proofs.Undisturbed.{undisturbed}
 
@@ -96,7 +96,7 @@ abbrev seen : ℕ → (ℕ → Bool) → Handler → Input → Seen
 seen k his g x =
     record {
       tenant = byTenant k his g (x .access);
-      assigned = anyTo (λ i. his i && eqb (alert (acted g (x .access)) Field.Class i) k) (g .n);
+      assigned = anyTo (λ i. his i && alertReaches k (acted g (x .access)) i) (g .n);
       two = reaches k (acted g (x .access)) 2;
       five = reaches k (acted g (x .access)) 5;
     }
@@ -113,10 +113,10 @@ module _ (k : ℕ) (his : ℕ → Bool) (g : Handler) (x : Input) (b : Bool) (s 
   apart : Apart k his g x
   apart = record { alerts = one; local-2 = ap (λ (o : Seen). o .two) s; local-5 = ap (λ (o : Seen). o .five) s }
     where
-      one : (i : ℕ) → i < g .n → his i ≡ true → eqb (alert (acted g (x .access)) Field.Class i) k ≡ false
+      one : (i : ℕ) → i < g .n → his i ≡ true → alertReaches k (acted g (x .access)) i ≡ false
       one i l e =
-          ap (λ (t : Bool). t && eqb (alert (acted g (x .access)) Field.Class i) k) (sym e)
-          ∙ none-at (λ i. his i && eqb (alert (acted g (x .access)) Field.Class i) k) (g .n) i (ap (λ (o : Seen). o .assigned) s) l
+          ap (λ (t : Bool). t && alertReaches k (acted g (x .access)) i) (sym e)
+          ∙ none-at (λ i. his i && alertReaches k (acted g (x .access)) i) (g .n) i (ap (λ (o : Seen). o .assigned) s) l
 
 -- of tick i of a run
 seen-at : (k : ℕ) (his : ℕ → Bool) (xs : List Input) (course : List Seen) → along (seen k his) home xs ≡ course → (i : ℕ) → i < length xs
@@ -283,3 +283,18 @@ reads-needed : (states 0 disabled (enabling none) ≡ 0 ∷ 0 ∷ 0 ∷ 4 ∷ []
     × (states 0 disabled (enabling (read (Alert Field.En 0))) ≡ 0 ∷ 0 ∷ 0 ∷ 0 ∷ [])
 unfolding rules
 reads-needed = (refl, refl)
+
+-- ── a tenant who sets up his alert: CLASS is 0, class A, until he writes it, and the alert is disabled until then, so it never reaches class A ──
+
+abbrev unset : Handler
+unset = withClasses (home .classes) (station 2 (1 ∷ replicate 247 0) (replicate 248 0) 2 resetClass)
+
+abbrev setUp : List Input
+setUp = map rest (configure (Alert Field.Class 1) 1 ++ configure (Alert Field.En 1) 1) ++ (raise 1 none ∷ [])
+
+set-up : (along (λ g x. alert (acted g (x .access)) Field.Class 1) unset setUp ≡ 0 ∷ 1 ∷ 1 ∷ 1 ∷ 1 ∷ [])
+    × (along (λ g x. alertReaches 0 (acted g (x .access)) 1) unset setUp ≡ replicate 5 false)
+    × (states 0 unset setUp ≡ replicate 5 0)
+    × (states 1 unset setUp ≡ 0 ∷ 0 ∷ 0 ∷ 0 ∷ 4 ∷ [])
+unfolding rules along
+set-up = (refl, refl, refl, refl)

@@ -41,7 +41,7 @@ use Rattle.rules.specs.declared.Register.the-variants.{Alert}
 use Rattle.rules.specs.declared.Wires.{Wires}
 use Rattle.isolation.specs.Isolation.{SameTick, Alike, AlikeEnable}
 use Rattle.isolation.specs.OwnAccess.{own}
-use Rattle.isolation.specs.Owner.{mayName, byTenant, ButTenant, OnlyTenant, startsIn, Undisturbed}
+use Rattle.isolation.specs.Owner.{mayName, byTenant, alertReaches, ButTenant, OnlyTenant, startsIn, Undisturbed}
 use Rattle.isolation.proofs.Isolated.{isolation, by-index}
 use Rattle.isolation.proofs.Own.{both, same-acted}
 use Rattle.isolation.proofs.Shared.{Shared, f-small}
@@ -67,6 +67,16 @@ same-own k g f Malformed e = refl
 
 -- ── step 2, of the states g and f after step 1 ──
 
+-- an alert that is disabled or assigned to another class gives class k no event
+no-event : (k : ℕ) (g : Handler) (w : Wires) (i : ℕ) → alertReaches k g i ≡ false → (alertEvent g w i && eqb (alert g Field.Class i) k) ≡ false
+unfolding alertEvent
+no-event k g w i e = go (ltb i (g .n)) (happens (armed g i) (positive w i) (negative w i)) (eqb (alert g Field.En i) 1) (eqb (alert g Field.Class i) k) e
+  where
+    go : (a b c d : Bool) → (c && d) ≡ false → ((a && (b && c)) && d) ≡ false
+    go true true c d e = e
+    go true false c d e = refl
+    go false b c d e = refl
+
 module _ (k : ℕ) (his : ℕ → Bool) (g f : Handler) (w u : Wires) (s : Shared k his g f)
     (pos : (i : ℕ) → i < g .n → his i ≡ false → positive w i ≡ positive u i) (neg : (i : ℕ) → i < g .n → his i ≡ false → negative w i ≡ negative u i) where
   -- an alert that is not the tenant's
@@ -84,14 +94,13 @@ module _ (k : ℕ) (his : ℕ → Bool) (g f : Handler) (w u : Wires) (s : Share
       ∙ ap₂ (λ (p m : Bool). cond (ltb i (f .n)) (armedAfter (armed f i) p m) (armed f i)) (pos i l e) (neg i l e)
 
   -- where none of the tenant's is assigned to class k, the same alerts' events are
-  alerts-same : ((i : ℕ) → i < g .n → his i ≡ true → eqb (alert g Field.Class i) k ≡ false) → ((i : ℕ) → i < f .n → his i ≡ true → eqb (alert f Field.Class i) k ≡ false)
+  alerts-same : ((i : ℕ) → i < g .n → his i ≡ true → alertReaches k g i ≡ false) → ((i : ℕ) → i < f .n → his i ≡ true → alertReaches k f i ≡ false)
       → (i : ℕ) → i < g .n → (alertEvent g w i && eqb (alert g Field.Class i) k) ≡ (alertEvent f u i && eqb (alert f Field.Class i) k)
   alerts-same apart-g apart-f i l = go (his i) refl
     where
       go : (b : Bool) → his i ≡ b → (alertEvent g w i && eqb (alert g Field.Class i) k) ≡ (alertEvent f u i && eqb (alert f Field.Class i) k)
       go true e =
-          ap (λ (t : Bool). alertEvent g w i && t) (apart-g i l e) ∙ and-false (alertEvent g w i)
-          ∙ sym (ap (λ (t : Bool). alertEvent f u i && t) (apart-f i (omega (arith, s .n)) e) ∙ and-false (alertEvent f u i))
+          no-event k g w i (apart-g i l e) ∙ sym (no-event k f u i (apart-f i (omega (arith, s .n)) e))
       go false e = ap₂ (λ (t : Bool) (c : ℕ). t && eqb c k) (same-alert i e l) (s .fields Field.Class i e l refl)
 
 -- ── one tick of each run ──

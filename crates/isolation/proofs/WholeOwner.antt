@@ -25,7 +25,7 @@ use Rattle.rules.specs.declared.Input.{Input}
 use Rattle.rules.specs.declared.Register.{Register}
 use Rattle.rules.specs.declared.Register.the-variants.{Alert, Block}
 use Rattle.rules.specs.declared.Setting.{Setting}
-use Rattle.isolation.specs.Owner.{mayName, byTenant, reaches, Apart, ButTenant, OnlyTenant, Undisturbed}
+use Rattle.isolation.specs.Owner.{mayName, byTenant, Apart, ButTenant, OnlyTenant, Undisturbed}
 use Rattle.isolation.proofs.Undisturbed.{undisturbed}
 use Rattle.isolation.proofs.Whole.{shown, shown-same}
 
@@ -58,23 +58,23 @@ by-tenant k his g a t =
 -- ── the station, as step 2 of a tick reads it: his alerts are not in class k; local 2 and local 5, where enabled, are not either ──
 
 record Station (k : ℕ) (his : ℕ → Bool) (g : Handler) (x : Input) : Type 0 where
-  pub alerts : (i : ℕ) → i < g .n → his i ≡ true → alert (acted g (x .access)) Field.Class i ≡ k → ⊥
+  pub alerts : (i : ℕ) → i < g .n → his i ≡ true → alert (acted g (x .access)) Field.En i ≡ 1 → alert (acted g (x .access)) Field.Class i ≡ k → ⊥
   pub local-2 : local (acted g (x .access)) Field.En 2 ≡ 1 → local (acted g (x .access)) Field.Class 2 ≡ k → ⊥
   pub local-5 : local (acted g (x .access)) Field.En 5 ≡ 1 → local (acted g (x .access)) Field.Class 5 ≡ k → ⊥
 
-not-reached : (k : ℕ) (h : Handler) (j : ℕ) → (local h Field.En j ≡ 1 → local h Field.Class j ≡ k → ⊥) → reaches k h j ≡ false
-not-reached k h j e = go (eqb (local h Field.En j) 1) refl
+neither : (en class k : ℕ) → (en ≡ 1 → class ≡ k → ⊥) → (eqb en 1 && eqb class k) ≡ false
+neither en class k e = go (eqb en 1) refl
   where
-    go : (b : Bool) → eqb (local h Field.En j) 1 ≡ b → (b && eqb (local h Field.Class j) k) ≡ false
-    go true c = ne-eqb (local h Field.Class j) k (e (eqb-true (local h Field.En j) 1 c))
+    go : (b : Bool) → eqb en 1 ≡ b → (b && eqb class k) ≡ false
+    go true c = ne-eqb class k (e (eqb-true en 1 c))
     go false c = refl
 
 apart : (k : ℕ) (his : ℕ → Bool) (g : Handler) (x : Input) → Station k his g x → Apart k his g x
 apart k his g x s =
     record {
-      alerts = λ i l e. ne-eqb (alert (acted g (x .access)) Field.Class i) k (s .alerts i l e);
-      local-2 = not-reached k (acted g (x .access)) 2 (s .local-2);
-      local-5 = not-reached k (acted g (x .access)) 5 (s .local-5);
+      alerts = λ i l e. neither (alert (acted g (x .access)) Field.En i) (alert (acted g (x .access)) Field.Class i) k (s .alerts i l e);
+      local-2 = neither (local (acted g (x .access)) Field.En 2) (local (acted g (x .access)) Field.Class 2) k (s .local-2);
+      local-5 = neither (local (acted g (x .access)) Field.En 5) (local (acted g (x .access)) Field.Class 5) k (s .local-5);
     }
 
 -- ── two ticks that are equal but for what the tenant does ──

@@ -45,10 +45,13 @@ byTenant k his g a = mayName k his (named g a) && leavesBits k g a
 abbrev pub reaches : ℕ → Handler → ℕ → Bool
 reaches k h j = eqb (local h Field.En j) 1 && eqb (local h Field.Class j) k
 
--- in the tick of state g and input x, as step 2 reads them: none of his alerts is assigned to class k, and local 2 and local 5 are each disabled or
--- assigned to another class
+-- and so is alert i
+abbrev pub alertReaches : ℕ → Handler → ℕ → Bool
+alertReaches k h i = eqb (alert h Field.En i) 1 && eqb (alert h Field.Class i) k
+
+-- in the tick of state g and input x, as step 2 reads them: each of his alerts, local 2 and local 5 are disabled or assigned to another class
 pub record Apart (k : ℕ) (his : ℕ → Bool) (g : Handler) (x : Input) : Type 0 where
-  pub alerts : (i : ℕ) → i < g .n → his i ≡ true → eqb (alert (acted g (x .access)) Field.Class i) k ≡ false
+  pub alerts : (i : ℕ) → i < g .n → his i ≡ true → alertReaches k (acted g (x .access)) i ≡ false
   pub local-2 : reaches k (acted g (x .access)) 2 ≡ false
   pub local-5 : reaches k (acted g (x .access)) 5 ≡ false
 
