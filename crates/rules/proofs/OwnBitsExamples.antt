@@ -16,7 +16,7 @@ use Rattle.rules.specs.declared.Access.{Access}
 use Rattle.rules.specs.declared.Handler.{Handler}
 use Rattle.rules.specs.declared.Register.the-variants.{IntrState, IntrTest, Block}
 use Rattle.rules.specs.declared.Setting.{Setting}
-use Rattle.rules.specs.declared.Setting.the-variants.{ClrRegwen, AccumCnt, AccumThresh}
+use Rattle.rules.specs.declared.Setting.the-variants.{ClrRegwen, Clr, AccumCnt, AccumThresh}
 use Rattle.rules.specs.Scenes.{ones, wired, wire, rest, raise, bothHigh, none, write}
 use Rattle.rules.proofs.Scenes.{rules, settings, station}
 
@@ -127,3 +127,10 @@ enabled j = withClasses (map (λ k. settings (cond (eqb k j) 0x393D 0x393C) 0 0 
 ctrls-own : map (λ j. seen AccumCnt (run (enabled j) (wired (wire 0 + wire 1 + wire 2 + wire 3) (ones - wire 0 - wire 1 - wire 2 - wire 3) none ∷ []))) (0 ∷ 1 ∷ 2 ∷ 3 ∷ []) ≡ only
 unfolding rules
 ctrls-own = refl
+
+-- ── a clear is of its own class, tried for all four: ACCUM_CNT is 0 there and 1 in the others ──
+
+clears-each : map (λ k. seen AccumCnt (run (paced (λ j. 0) (λ j. 99)) (wired (wire 0 + wire 1 + wire 2 + wire 3) (ones - wire 0 - wire 1 - wire 2 - wire 3) none ∷ rest (write (Block Clr k) 1) ∷ []))) (0 ∷ 1 ∷ 2 ∷ 3 ∷ [])
+    ≡ butOne
+unfolding rules
+clears-each = refl
