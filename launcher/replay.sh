@@ -7,6 +7,14 @@ run_program() { { "$program" 2>&4 3>&- 4>&- 5>&-; } 2>/dev/null; echo "program: 
 copy_words() { { LC_ALL=C tee --output-error=exit /dev/fd/5 >&3 2>&4; } 2>/dev/null; echo "copy: $?" >&4; }
 keep_end() { last=$(tail -n 1) && echo "end: $last" >&4; }
 
+# is_text FILE: whether comments and blank lines, then `alerts` or `edition`, begin it, as explain and record tell a text. The first
+# record of a trace, where it is well-formed, has bytes that are 0 and so is no such line.
+is_text() {
+  first=$(head -c 4096 <"$1" | LC_ALL=C tr '\0\t' '\1 ' | LC_ALL=C tr -d '\357\273\277' |
+    LC_ALL=C sed -n 's/\r$//; /^ *\(#[^[:cntrl:]]*\)*$/d; /[[:cntrl:]]/q; s/^ *//p; q')
+  case $first in alerts | alerts[\ \#]* | edition | edition[\ \#]*) ;; *) return 1 ;; esac
+}
+
 # said NAME: what a process of that name has said.
 said() { printf '%s\n' "$report" | sed -n "s/^$1: //p"; }
 
