@@ -86,7 +86,7 @@ unfolding run
 run-valid h [] e = e
 run-valid h (x ∷ xs) e = run-valid (ticked h x .handler) xs (ticked-valid h x e)
 
--- a batch, refused or not
+-- a batch, refused or not; request (iii): a batch of old records answers 7 to a state of more than 64 alerts all the same, by what its edition admits
 pub batch-valid : (e : Edition) (h : Handler) (bytes out : List ℕ) → valid h ≡ true → valid (batch e h bytes out .handler) ≡ true
 unfolding batch batchOf
 batch-valid e h bytes out v = run-valid h (batchInputs e (batchVerdict e h bytes out) bytes) v
