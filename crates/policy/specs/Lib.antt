@@ -1,0 +1,4 @@
+pub mod Install
+pub mod Table
+pub mod Plan
+pub mod Sound
