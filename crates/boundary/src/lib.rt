@@ -1,8 +1,11 @@
-// The handler for callers in C and Rust: making one, one tick, a batch, and the trace writer. Any state may come in, and any bytes are one.
+// The handler for callers in C and Rust: making one, one tick, a batch, the trace writer, and the boot policy. Any state may come in, and any bytes are one.
 use batch::Batched;
 use batch::batch;
 use handler::tick::Answered;
 use handler::tick::tick;
+use installer::boot;
+use installer::lifecycle_of;
+use policy::Installed;
 use rules::Access;
 use rules::Edition;
 use rules::Handler;
@@ -19,6 +22,7 @@ ghost use Rattle.batch.specs.BatchedBy.{BatchedBy};
 ghost use Rattle.boundary.specs.Input.{accessBy, inputBy};
 ghost use Rattle.escalation.specs.Escalation.{Demand3};
 ghost use Rattle.handler.specs.Answered.{answered};
+ghost use Rattle.policy.specs.Plan.{boot, lifecycleOf};
 ghost use Rattle.rules.specs.Batch.{batchVerdict, batchInputs};
 ghost use Rattle.rules.specs.State.{made};
 ghost use Rattle.rules.specs.Tick.{ticked};
@@ -96,4 +100,13 @@ pub extern "C" fn tarravane_record(
     ensures writtenback { λ r. ⌜ WrittenBack (lent (now (kinds .entry)) (now (registers .entry)) (now (values .entry)) (now (positive .entry)) (now (negative .entry))) (now (out .entry)) (now (out .exit)) ⌝ }
 {
     write(kinds, registers, values, positive, negative, out)
+}
+
+// The boot policy of the lifecycle of this number, installed and read back.
+#[no_mangle]
+pub extern "C" fn tarravane_install(h: Handler, lifecycle: u8) -> Installed
+    ensures { λ r. ⌜ r ≡ boot (lifecycleOf lifecycle) h ⌝ }
+{
+    let l = lifecycle_of(lifecycle);
+    boot(h, l)
 }
