@@ -37,3 +37,5 @@ pub mod WellFormedLaws
 pub mod Recordable
 pub mod WriterLaws
 pub mod Inert
+pub mod Written
+pub mod Quiet

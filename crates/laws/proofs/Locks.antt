@@ -44,7 +44,7 @@ guard-guard q =
     (λ s k. by-setting (λ s. guard (guard (Block s k)) ≡ guard (Block s k)) refl refl refl refl refl refl refl (λ p. refl) refl refl s) refl q
 
 -- a handler that has a register has its guard
-guard-in-map : (n : ℕ) (q : Register) → inMap n q ≡ true → isRegister (guard q) ≡ true → inMap n (guard q) ≡ true
+pub guard-in-map : (n : ℕ) (q : Register) → inMap n q ≡ true → isRegister (guard q) ≡ true → inMap n (guard q) ≡ true
 unfolding guard
 guard-in-map n q =
     by-kind P (λ a r. r) (λ a r. r) (λ a r. r)

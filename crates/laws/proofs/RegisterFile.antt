@@ -225,7 +225,7 @@ field-plain =
     (λ e old v. refl) (λ e old v. refl) (λ e old v. refl) (λ e. absurd (false≢true e))
 
 -- a plain register is written itself and takes what is written
-plain-takes : (q : Register) → plain q ≡ true → (target q ≡ q) × ((old v : ℕ) → newValue q old v ≡ v)
+pub plain-takes : (q : Register) → plain q ≡ true → (target q ≡ q) × ((old v : ℕ) → newValue q old v ≡ v)
 plain-takes =
     by-kind (λ q. plain q ≡ true → (target q ≡ q) × ((old v : ℕ) → newValue q old v ≡ v))
     (λ e. absurd (false≢true e)) (λ e. (refl, λ old v. refl)) (λ e. absurd (false≢true e)) (λ f j e. (refl, field-plain f e))

@@ -12,3 +12,4 @@ pub mod Unchecked
 pub mod Batches
 pub mod Wires
 pub mod Columns
+pub mod Quiet
