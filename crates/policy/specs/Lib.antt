@@ -2,3 +2,4 @@ pub mod Install
 pub mod Table
 pub mod Plan
 pub mod Sound
+pub mod Ran
