@@ -3,4 +3,8 @@ pub mod AskLaws
 pub mod EntryLaws
 pub mod InstallLaws
 pub mod Succeeds
+pub mod Unnamed
+pub mod QuietLaws
 pub mod PlanLaws
+pub mod Members
+pub mod Boot

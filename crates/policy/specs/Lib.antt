@@ -3,3 +3,4 @@ pub mod Table
 pub mod Plan
 pub mod Sound
 pub mod Ran
+pub mod Stands

@@ -1,7 +1,7 @@
 -- The test of a list of registers: written one after another and read back, none undoes or hinders another.
 -- Assumes nothing.
-use Prim.Native.Nat.{ℕ}
-use mathlib.Core.Bool.{Bool, true, false, cond, not, _&&_}
+use Prim.Native.Nat.{ℕ, _-_, _%_}
+use mathlib.Core.Bool.{Bool, true, false, cond, not, _&&_, _||_}
 use mathlib.Core.List.{List, [], _∷_}
 use lib.Dec.{eqb}
 use Rattle.bits.specs.Bits.{fits}
@@ -9,7 +9,7 @@ use Rattle.laws.specs.Frame.{movesItself}
 use Rattle.laws.specs.InMap.{inMap}
 use Rattle.laws.specs.RegisterFile.{plain}
 use Rattle.rules.specs.Access.{locked, unlike}
-use Rattle.rules.specs.Map.{numberOf, bits, readOnly, guard}
+use Rattle.rules.specs.Map.{within, numberOf, bits, readOnly, guard}
 use Rattle.rules.specs.declared.Handler.{Handler}
 use Rattle.rules.specs.declared.Register.{Register}
 use Rattle.rules.specs.declared.Register.the-variants.{Block}
@@ -49,3 +49,12 @@ ahead k (e ∷ es) =
 unfoldable pub free : Handler → List Entry → Bool
 free h [] = true
 free h (e ∷ es) = not (locked h (e .register)) && (not (unlike h (e .register) (e .value)) && free h es)
+
+-- an entry's number: REGWEN, EN or CLASS of an alert below 58, or a register of a class's block that is not ACCUM_CNT
+abbrev pub planned : ℕ → Bool
+planned r =
+    within 256 58 r || (within 512 58 r || (within 768 58 r || (within 1280 64 r && not (eqb ((r - 1280) % 16) 4))))
+
+unfoldable pub allPlanned : List Entry → Bool
+allPlanned [] = true
+allPlanned (e ∷ es) = planned (numberOf (e .register)) && allPlanned es

@@ -1,0 +1,142 @@
+-- Accesses that get the answer that is wanted, with wires at rest: no event comes.
+-- Assumes nothing.
+use Prim.Native.Nat.{ℕ, _+_, _-_, _/_, _%_, _^_, _<_}
+use mathlib.Core.Path.{_≡_, refl, sym, ap, _∙_}
+use mathlib.Core.Bool.{Bool, true, false, false≢true, cond, _&&_}
+use native.Mathlib.Omega.{arith}
+use borrow.Author.Tests.{ne-eqb}
+use lib.Dec.{eqb}
+use lib.ListN.{getD, getD-replicate}
+use Rattle.bits.proofs.BitLaws.{bit-none, bit-ones}
+use Rattle.bits.specs.Bits.{bit, place}
+use Rattle.class_rules.specs.Class.{stateOf}
+use Rattle.class_rules.specs.declared.ClassState.the-variants.{Idle}
+use Rattle.laws.proofs.Cases.{by-kind, by-setting}
+use Rattle.laws.proofs.Quiet.{quiet-tick, quiet-waits}
+use Rattle.laws.proofs.Refusal7.{ticked-handler}
+use Rattle.laws.proofs.Step1.{clears-if}
+use Rattle.laws.proofs.Written.{ticked-answer}
+use Rattle.laws.specs.InMap.{inMap}
+use Rattle.laws.specs.Quiet.{AtRest, runs}
+use Rattle.laws.specs.RegisterFile.{commits, plain}
+use Rattle.laws.specs.StageFile.{names}
+use Rattle.rules.specs.Access.{value, verdict, accepts, accepted, isClrOf, writesClr, accessedBy, accessed, answerTo, clears}
+use Rattle.rules.specs.Answer.{number}
+use Rattle.rules.specs.Map.{decode, numberOf}
+use Rattle.rules.specs.Stages.{stage}
+use Rattle.rules.specs.State.{most, words, classCount, classAt}
+use Rattle.rules.specs.Tick.{after}
+use Rattle.rules.specs.Valid.{valid}
+use Rattle.rules.specs.declared.Access.{Access}
+use Rattle.rules.specs.declared.Access.the-variants.{Read, Write}
+use Rattle.rules.specs.declared.Answer.{Answer}
+use Rattle.rules.specs.declared.Handler.{Handler}
+use Rattle.rules.specs.declared.Refusal.{Refusal}
+use Rattle.rules.specs.declared.Register.{Register}
+use Rattle.rules.specs.declared.Register.the-variants.{IntrState, Block}
+use Rattle.rules.specs.declared.Verdict.{Verdict}
+use Rattle.policy.specs.Install.{Ask, rest, is, write, read}
+use Rattle.policy.specs.Ran.{inputOf, wants, reach}
+use Rattle.policy.proofs.AskLaws.{Kept, reach-kept}
+use Rattle.policy.proofs.EntryLaws.{Fit, names-it, spares, other-name, reach-stage}
+use Rattle.policy.proofs.InstallLaws.{Same}
+
+-- all wires at (0,1)
+pub at-rest : (x : Access) → AtRest (rest x .sample .alerts)
+at-rest x =
+    record {
+      low = λ i l. let d : i / 64 < words = omega arith in
+          ap (λ (y : ℕ). place y (i % 64)) (getD-replicate words (i / 64) 0 0 d) ∙ bit-none (63 - i % 64);
+      high = λ i l. let d : i / 64 < words = omega arith in
+          ap (λ (y : ℕ). place y (i % 64)) (getD-replicate words (i / 64) (2 ^ 64 - 1) 0 d) ∙ bit-ones 64 (63 - i % 64) (omega arith);
+    }
+
+-- a refusal is no answer that is wanted
+refused-not : (m : Refusal) (v : ℕ) → is (number (Answer.Refused m)) v ≡ false
+unfolding number
+refused-not Refusal.NoRegister v = refl
+refused-not Refusal.WrongWay v = refl
+refused-not Refusal.Locked v = refl
+refused-not Refusal.TooWide v = refl
+refused-not Refusal.BadRecord v = refl
+refused-not Refusal.BadCount v = refl
+refused-not Refusal.BadState v = refl
+refused-not Refusal.BadLength v = refl
+refused-not Refusal.ShortList v = refl
+refused-not Refusal.NoRecord v = refl
+refused-not Refusal.ShortBuffer v = refl
+refused-not Refusal.Differs v = refl
+refused-not Refusal.SillyThreshold v = refl
+
+pub wants-accepted : (h : Handler) (a : Ask) → valid h ≡ true → wants h a ≡ true → accepted h (a .access) ≡ true
+unfolding answerTo accessed
+wants-accepted h a t w = go (verdict h (a .access)) (ap (λ (x : Answer). is (number x) (a .wanted)) (sym (ticked-answer h (inputOf a) t)) ∙ w)
+  where
+    go : (v : Verdict) → is (number (accessedBy v h (a .access) .answer)) (a .wanted) ≡ true → accepts v ≡ true
+    go Verdict.Accepted x = refl
+    go (Verdict.Refused m) x = absurd (false≢true (sym (refused-not m (a .wanted)) ∙ x))
+
+-- a plain register is no CLR
+plain-clr : (k : ℕ) (q : Register) → plain q ≡ true → isClrOf k q ≡ false
+plain-clr k =
+    by-kind P (λ p. refl) (λ p. refl) (λ p. refl) (λ f j p. refl) (λ f i p. refl)
+    (λ s j. by-setting (λ s. P (Block s j)) (λ p. refl) (λ p. refl) (λ p. refl) (λ p. absurd (false≢true p)) (λ p. refl) (λ p. refl) (λ p. refl)
+    (λ i p. rw (ne-eqb (7 + i) 3 (λ (d : 7 + i ≡ 3). omega arith))) (λ p. refl) (λ p. refl) s) (λ p. refl)
+  where
+    P : Register → Type 0
+    P q = plain q ≡ true → isClrOf k q ≡ false
+
+-- ── one tick that names q and gets the answer that is wanted ──
+
+module _ (h f : Handler) (w : Kept h f) (q : Register) (v : ℕ) (k : Fit (h .n) q v) where
+  in-f : inMap (f .n) q ≡ true
+  in-f = ap (λ (n : ℕ). inMap n q) (w .n) ∙ k .exists
+
+  -- it clears nothing
+  no-clear : (x : Access) → ((j : ℕ) → writesClr f x j ≡ false) → (j : ℕ) → j < classCount → clears f x j ≡ false
+  no-clear x c j l = clears-if f x j l ∙ ap (λ (b : Bool). accepted f x && b) (c j) ∙ and-no (accepted f x)
+    where
+      and-no : (b : Bool) → (b && false) ≡ false
+      and-no true = refl
+      and-no false = refl
+
+  write-clr : (j : ℕ) → writesClr f (Write (numberOf q) v) j ≡ false
+  write-clr j =
+      ap (λ (p : Register). isClrOf j p && eqb v 1) (names-it f (w .good) q v in-f (k .takes)) ∙ ap (λ (b : Bool). b && eqb v 1) (plain-clr j q (k .takes))
+
+  -- it leaves every other register but STATE, ESC_CNT and CLR_REGWEN, and every other stage
+  module _ (o : Register) (a : inMap (h .n) o ≡ true) (r : runs o ≡ false) (d : numberOf q ≡ numberOf o → ⊥) where
+    in-o : inMap (f .n) o ≡ true
+    in-o = ap (λ (n : ℕ). inMap n o) (w .n) ∙ a
+
+    same-by : (x : Ask) → Same o h f → wants f x ≡ true → ((j : ℕ) → writesClr f (x .access) j ≡ false) → commits f (x .access) o ≡ false
+        → names f (x .access) o ≡ false → Same o h (reach f x)
+    same-by x s g c m y =
+        record {
+          kept = reach-kept h f x w;
+          holds = ap (λ (e : Handler). value e o) (ticked-handler f (inputOf x) (w .good))
+              ∙ quiet-tick f (inputOf x) (w .good) (at-rest (x .access)) (wants-accepted f x (w .good) g) (no-clear (x .access) c) o in-o r m ∙ s .holds;
+          staged = reach-stage f (w .good) o in-o x y ∙ s .staged;
+        }
+
+    pub quiet-write : Same o h f → wants f (write (numberOf q) v) ≡ true → Same o h (reach f (write (numberOf q) v))
+    quiet-write s g =
+        same-by (write (numberOf q) v) s g write-clr (spares f (w .good) q v in-f (k .takes) o d) (other-name f (w .good) q v in-f (k .takes) o d)
+
+    pub quiet-read : Same o h f → wants f (read (numberOf q) v) ≡ true → Same o h (reach f (read (numberOf q) v))
+    quiet-read s g = same-by (read (numberOf q) v) s g (λ j. refl) refl (other-name f (w .good) q v in-f (k .takes) o d)
+
+  -- an Idle class whose interrupt bit is 0 stays Idle
+  idle-by : (x : Ask) (j : ℕ) → j < classCount → wants f x ≡ true → ((i : ℕ) → writesClr f (x .access) i ≡ false) → commits f (x .access) IntrState ≡ false
+      → bit (f .interrupts .state) j ≡ false → stateOf (classAt f j .state) ≡ Idle → stateOf (classAt (reach f x) j .state) ≡ Idle
+  idle-by x j l g c m b s =
+      ap (λ (e : Handler). stateOf (classAt e j .state)) (ticked-handler f (inputOf x) (w .good))
+      ∙ quiet-waits f (inputOf x) (w .good) (at-rest (x .access)) (wants-accepted f x (w .good) g) (no-clear (x .access) c) j l m b s
+
+  pub idle-write : (j : ℕ) → j < classCount → wants f (write (numberOf q) v) ≡ true → (numberOf q ≡ numberOf IntrState → ⊥)
+      → bit (f .interrupts .state) j ≡ false → stateOf (classAt f j .state) ≡ Idle → stateOf (classAt (reach f (write (numberOf q) v)) j .state) ≡ Idle
+  idle-write j l g d = idle-by (write (numberOf q) v) j l g write-clr (spares f (w .good) q v in-f (k .takes) IntrState d)
+
+  pub idle-read : (j : ℕ) → j < classCount → wants f (read (numberOf q) v) ≡ true → bit (f .interrupts .state) j ≡ false
+      → stateOf (classAt f j .state) ≡ Idle → stateOf (classAt (reach f (read (numberOf q) v)) j .state) ≡ Idle
+  idle-read j l g = idle-by (read (numberOf q) v) j l g (λ i. refl) refl
