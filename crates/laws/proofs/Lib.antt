@@ -39,3 +39,4 @@ pub mod WriterLaws
 pub mod Inert
 pub mod Written
 pub mod Quiet
+pub mod AlertStarts

@@ -111,7 +111,7 @@ new-succeeds l n a b = boot-succeeds l (newHandler n) (new-valid n (omega arith)
 -- ── what a success says ──
 
 -- no entry's number is 0
-not-zero : (n : ℕ) (q : Register) (v : ℕ) → n ≤ most → Fit n q v → numberOf q ≡ 0 → ⊥
+pub not-zero : (n : ℕ) (q : Register) (v : ℕ) → n ≤ most → Fit n q v → numberOf q ≡ 0 → ⊥
 unfolding numberOf
 not-zero n q v m f e = false≢true (ap plain (sym (number-eq n q IntrState m (f .exists) refl e)) ∙ f .takes)
 

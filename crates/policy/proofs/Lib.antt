@@ -8,3 +8,4 @@ pub mod QuietLaws
 pub mod PlanLaws
 pub mod Members
 pub mod Boot
+pub mod FromBoot

@@ -4,3 +4,4 @@ pub mod Plan
 pub mod Sound
 pub mod Ran
 pub mod Stands
+pub mod FromBoot
