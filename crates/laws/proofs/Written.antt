@@ -8,18 +8,22 @@ use borrow.Author.Tests.{eq-eqb, ne-eqb, lt-ltb, le-ltb, ltb-true}
 use lib.Dec.{eqb, ltb}
 use lib.ListN.{getD-replicate}
 use Rattle.bits.proofs.IndexLaws.{and-true}
+use Rattle.bits.specs.Bits.{fits}
 use Rattle.class_rules.specs.Class.{noClass}
 use Rattle.class_rules.specs.declared.Class.{Class}
-use Rattle.rules.specs.Access.{value, locked, silly, verdict, accepts, accepted, isFirst, acted, answerTo, effects}
-use Rattle.rules.specs.Map.{decode, numberOf, isRegister, guard, isShadowed}
+use Rattle.rules.specs.Access.{value, locked, silly, bars, verdict, accepts, accepted, isFirst, unlike, inOrder, accessedBy, accessed, acted, answerTo, effects}
+use Rattle.rules.specs.Answer.{firstOf}
+use Rattle.rules.specs.Map.{decode, numberOf, isRegister, bits, readOnly, guard, isShadowed}
 use Rattle.rules.specs.Stages.{stage}
 use Rattle.rules.specs.State.{most, localCount, classCount, local, alert, classAt, resetClass, newHandler, badCount, made}
 use Rattle.rules.specs.Tick.{after, tick, ticked}
 use Rattle.rules.specs.Valid.{valid}
-use Rattle.rules.specs.declared.Access.the-variants.{Write}
+use Rattle.rules.specs.declared.Access.the-variants.{Read, Write}
+use Rattle.rules.specs.declared.Answer.{Answer}
 use Rattle.rules.specs.declared.Field.{Field}
 use Rattle.rules.specs.declared.Handler.{Handler}
 use Rattle.rules.specs.declared.Input.{Input}
+use Rattle.rules.specs.declared.Refusal.{Refusal}
 use Rattle.rules.specs.declared.Register.{Register}
 use Rattle.rules.specs.declared.Register.the-variants.{Local, Alert, Block}
 use Rattle.rules.specs.declared.Sample.{Sample}
@@ -77,6 +81,41 @@ module _ (h : Handler) (s : Sample) (r v : ℕ) (q : Register) (m : h .n ≤ mos
       own =
           acted-stage h m w (in-most (h .n) w m (accepted-in-map h r v e)) (Write r v)
           ∙ go (verdict h (Write r v)) e (eqb (numberOf w) (numberOf w)) (eq-eqb (numberOf w) (numberOf w) refl)
+
+-- ── the tick that reads ──
+
+-- it drops the stage of the register
+pub after-read : (h : Handler) (s : Sample) (r : ℕ) (q : Register) → h .n ≤ most → decode (h .n) r ≡ q → inMap (h .n) q ≡ true
+    → accepted h (Read r) ≡ true → stage (after h (record { access = Read r; sample = s })) q ≡ 0
+after-read h s r q m d a e =
+    after-stage h (record { access = Read r; sample = s }) q
+    ∙ acted-stage h m q (in-most (h .n) q m a) (Read r)
+    ∙ go (verdict h (Read r)) e (eqb (numberOf (decode (h .n) r)) (numberOf q)) (eq-eqb (numberOf (decode (h .n) r)) (numberOf q) (ap numberOf d))
+  where
+    go : (t : Verdict) → accepts t ≡ true → (b : Bool) → b ≡ true → cond b (stageBy t h (Read r) (stage h q)) (stage h q) ≡ 0
+    go Verdict.Accepted x true y = refl
+    go (Verdict.Refused n) x b y = absurd (false≢true x)
+    go Verdict.Accepted x false y = absurd (false≢true y)
+
+-- ── the write that is refused ──
+
+-- by 3, where none of 1, 2, 4 and 14 is
+pub write-locked : (h : Handler) (r v : ℕ) → isRegister (decode (h .n) r) ≡ true → readOnly (decode (h .n) r) ≡ false
+    → fits (bits (decode (h .n) r)) v ≡ true → silly h (decode (h .n) r) v ≡ false → bars h (decode (h .n) r) v ≡ true
+    → answerTo h (Write r v) ≡ Answer.Refused Refusal.Locked
+unfolding answerTo accessed verdict firstOf
+write-locked h r v a b c d e =
+    ap (λ (t : Verdict). accessedBy t h (Write r v) .answer)
+    (ap (λ (x : Bool). by (not x) (readOnly q) (not (fits (bits q) v)) (silly h q v) (bars h q v) (unlike h q v)) a
+    ∙ ap (λ (x : Bool). by false x (not (fits (bits q) v)) (silly h q v) (bars h q v) (unlike h q v)) b
+    ∙ ap (λ (x : Bool). by false false (not x) (silly h q v) (bars h q v) (unlike h q v)) c
+    ∙ ap (λ (x : Bool). by false false false x (bars h q v) (unlike h q v)) d ∙ ap (λ (x : Bool). by false false false false x (unlike h q v)) e)
+  where
+    q : Register
+    q = decode (h .n) r
+
+    by : Bool → Bool → Bool → Bool → Bool → Bool → Verdict
+    by none wrong wide late shut other = firstOf (inOrder false none wrong wide late shut other)
 
 -- ── the map ──
 

@@ -48,7 +48,7 @@ use Rattle.policy.specs.declared.Installed.{Installed}
 use Rattle.policy.specs.declared.Lifecycle.{Lifecycle}
 use Rattle.policy.specs.declared.Progress.{Progress}
 use Rattle.policy.proofs.AskLaws.{install-keeps, install-goes, Kept, reach-kept, install-kept, install-run, install-stops}
-use Rattle.policy.proofs.EntryLaws.{Fit, other-name, reach-stage}
+use Rattle.policy.proofs.EntryLaws.{Fit, Settled, other-name, reach-stage}
 use Rattle.policy.proofs.InstallLaws.{sound-fit, unnamed-at, all-asks, Same, same-start, install-holds}
 use Rattle.policy.proofs.Members.{has-length, alert-part, class-part, lock-part, last-part}
 use Rattle.policy.proofs.PlanLaws.{plan-sound, plan-ahead, plan-planned}
@@ -173,8 +173,11 @@ module _ (l : Lifecycle) (h : Handler) (w : Went l h) where
   fits-it : sound (h .n) (planOf l) ≡ true
   fits-it = plan-fits l (h .n) (w .large)
 
+  settled : (e : Entry) → Among e (planOf l) → Settled (e .register) (e .value) g
+  settled = install-holds h (planOf l) (w .good) fits-it (w .going)
+
   holds : (e : Entry) → Among e (planOf l) → value g (e .register) ≡ e .value
-  holds = install-holds h (planOf l) (w .good) fits-it (w .going)
+  holds e m = settled e m .0
 
   -- class A has EN and LOCK where it is locked
   ctrl-bits : locks l ≡ true → classAt g 0 .ctrl ≡ ctrlOf l 0 → (en (classAt g 0) ≡ true) × (lock (classAt g 0) ≡ true)
@@ -195,6 +198,7 @@ module _ (l : Lifecycle) (h : Handler) (w : Went l h) where
         lengths = λ k p b c. holds _ (class-part l _ k b (has-length l k p c));
         ctrl = ctrl-is;
         classLocks = λ c. let d = ctrl-bits c (ctrl-is 0 (omega arith)) in (holds _ (last-part l c), d .0, d .1);
+        unstaged = λ e m. settled e m .1;
       }
     where
       ctrl-is : (k : ℕ) → k < classCount → value g (Block Ctrl k) ≡ ctrlOf l k

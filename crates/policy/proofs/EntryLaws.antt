@@ -15,12 +15,12 @@ use Rattle.laws.proofs.Frame.{after-frame, after-stage-other}
 use Rattle.laws.proofs.Locks.{guard-in-map}
 use Rattle.laws.proofs.MapLaws.{decode-number}
 use Rattle.laws.proofs.Refusal7.{ticked-handler}
-use Rattle.laws.proofs.Refusals.{accepted-write}
+use Rattle.laws.proofs.Refusals.{is-accepted, accepted-write}
 use Rattle.laws.proofs.RegisterFile.{read-answer, plain-takes}
 use Rattle.laws.proofs.StageFile.{in-most}
 use Rattle.laws.proofs.Step1.{answer-accepted}
 use Rattle.laws.proofs.ValidLaws.{facts}
-use Rattle.laws.proofs.Written.{ticked-answer, after-written, after-staged, shadowed-apart, shadowed-wise, guard-still, locked-same}
+use Rattle.laws.proofs.Written.{ticked-answer, after-read, after-written, after-staged, shadowed-apart, shadowed-wise, guard-still, locked-same}
 use Rattle.laws.specs.Frame.{movesItself}
 use Rattle.laws.specs.InMap.{inMap}
 use Rattle.laws.specs.RegisterFile.{target, asWritten, stores, commits, plain}
@@ -101,6 +101,21 @@ module _ (h : Handler) (t : valid h ≡ true) (q : Register) (v : ℕ) (a : inMa
       ∙ read-answer h (numberOf q) (ap isRegister names-it ∙ k .0) (ap writeOnly names-it ∙ as-read (row q .way) (k .1))
       ∙ ap (λ (x : Register). Answer.Value (value h x)) names-it)
 
+  read-accepted : accepted h (Read (numberOf q)) ≡ true
+  unfolding writeOnly
+  read-accepted =
+      let k = and-true (isRegister q) (asWritten (row q .way)) p in
+      is-accepted h (Read (numberOf q))
+      (record {
+        formed = refl;
+        exists = ap not (ap isRegister names-it ∙ k .0);
+        way = ap writeOnly names-it ∙ as-read (row q .way) (k .1);
+        width = refl;
+        threshold = refl;
+        free = refl;
+        same = refl;
+      })
+
   -- so it gets the answer that is wanted where the register holds v
   pub read-wants : wants h (read (numberOf q) v) ≡ eqb (value h q) v
   unfolding number
@@ -117,12 +132,16 @@ module _ (h : Handler) (t : valid h ≡ true) (o : Register) (b : inMap (h .n) o
       ap (λ (g : Handler). stage g o) (ticked-handler h (inputOf x) t)
       ∙ after-stage-other h (inputOf x) o (facts h t .n) (in-most (h .n) o (facts h t .n) b) c
 
--- ── after a success the register holds the value ──
+-- ── after a success the register holds the value, and no stage is open ──
+
+-- register q holds v, and has no stage
+abbrev pub Settled : Register → ℕ → Handler → Type 0
+Settled q v g = (value g q ≡ v) × (stage g q ≡ 0)
 
 module _ (h : Handler) (t : valid h ≡ true) (q : Register) (v : ℕ) (k : Fit (h .n) q v) where
   -- whatever came before the read
   last-read : (xs : List Ask) → install (under h) (xs ++ (read (numberOf q) v ∷ [])) .going ≡ true
-      → value (install (under h) (xs ++ (read (numberOf q) v ∷ [])) .reached .handler) q ≡ v
+      → Settled q v (install (under h) (xs ++ (read (numberOf q) v ∷ [])) .reached .handler)
   unfolding install ask
   last-read xs g =
       let r : Ask = read (numberOf q) v in
@@ -134,15 +153,17 @@ module _ (h : Handler) (t : valid h ≡ true) (q : Register) (v : ℕ) (k : Fit 
       let a : inMap (f .n) q ≡ true = ap (λ (n : ℕ). inMap n q) (e .n) ∙ k .exists in
       let j : install (under h) (xs ++ (r ∷ [])) ≡ asked f r = i ∙ ap (λ (p : Progress). ask p r) u in
       let w : wants f r ≡ true = asked-going f r (ap (λ (p : Progress). p .going) (sym j) ∙ g) in
-      ap (λ (p : Progress). value (p .reached .handler) q) (j ∙ asked-wanted f r w)
-      ∙ reach-value f (e .good) q a r (k .still) refl
-      ∙ eqb-true (value f q) v (sym (read-wants f (e .good) q v a (k .takes)) ∙ w)
+      subst (λ (p : Progress). Settled q v (p .reached .handler)) (sym (j ∙ asked-wanted f r w)) (
+        reach-value f (e .good) q a r (k .still) refl ∙ eqb-true (value f q) v (sym (read-wants f (e .good) q v a (k .takes)) ∙ w),
+        ap (λ (g : Handler). stage g q) (ticked-handler f (inputOf r) (e .good))
+            ∙ after-read f _ (numberOf q) q (facts f (e .good) .n) (names-it f (e .good) q v a (k .takes)) a (read-accepted f (e .good) q v a (k .takes)),
+      )
 
   pub put-holds : install (under h) (asksOf (record { register = q; value = v })) .going ≡ true
-      → value (install (under h) (asksOf (record { register = q; value = v })) .reached .handler) q ≡ v
+      → Settled q v (install (under h) (asksOf (record { register = q; value = v })) .reached .handler)
   unfolding asksOf
   put-holds =
-      pick (λ (xs : List Ask). install (under h) xs .going ≡ true → value (install (under h) xs .reached .handler) q ≡ v) (isShadowed q) _ _
+      pick (λ (xs : List Ask). install (under h) xs .going ≡ true → Settled q v (install (under h) xs .reached .handler)) (isShadowed q) _ _
       (λ _. last-read (write (numberOf q) v ∷ write (numberOf q) v ∷ [])) (λ _. last-read (write (numberOf q) v ∷ []))
 
 -- ── a register that is not locked, has no other stage open and locks no silly threshold ──

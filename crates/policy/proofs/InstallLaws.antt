@@ -38,7 +38,7 @@ use Rattle.policy.specs.Sound.{unnamed, unguarded, installable, sound, a
 use Rattle.policy.specs.declared.Progress.{Progress}
 use Rattle.policy.proofs.AskLaws.{was-going, install-keeps, Kept, reach-kept, install-kept, install-run}
 use Rattle.policy.proofs.Asks.{install-append}
-use Rattle.policy.proofs.EntryLaws.{Fit, fit, spares, other-name, reach-value, reach-stage, put-holds, Open, put-goes}
+use Rattle.policy.proofs.EntryLaws.{Fit, fit, spares, other-name, reach-value, reach-stage, Settled, put-holds}
 
 -- ── the tests, taken apart ──
 
@@ -169,9 +169,9 @@ module _ (h : Handler) (e : Entry) (es : List Entry) where
   pub put-kept : valid h ≡ true → Kept h (put .reached .handler)
   put-kept t = install-kept h (under h) (asksOf e) (record { good = t; n = refl })
 
--- after a success, from any valid state, each entry's register holds its value
+-- after a success, from any valid state, each entry's register holds its value and has no stage open
 pub install-holds : (h : Handler) (es : List Entry) → valid h ≡ true → sound (h .n) es ≡ true → install (under h) (asks es) .going ≡ true
-    → (e : Entry) → Among e es → value (install (under h) (asks es) .reached .handler) (e .register) ≡ e .value
+    → (e : Entry) → Among e es → Settled (e .register) (e .value) (install (under h) (asks es) .reached .handler)
 install-holds h [] t k g = λ e m. nowhere e [] m refl
 install-holds h (d ∷ es) t k g = go (install-holds f es (w .good) k' g')
   where
@@ -196,10 +196,10 @@ install-holds h (d ∷ es) t k g = go (install-holds f es (w .good) k' g')
     g' : install (under f) (asks es) .going ≡ true
     g' = ap (λ (p : Progress). p .going) (sym i) ∙ g
 
-    go : ((e : Entry) → Among e es → value (install (under f) (asks es) .reached .handler) (e .register) ≡ e .value)
-        → (e : Entry) → Among e (d ∷ es) → value (install (under h) (asks (d ∷ es)) .reached .handler) (e .register) ≡ e .value
+    go : ((e : Entry) → Among e es → Settled (e .register) (e .value) (install (under f) (asks es) .reached .handler))
+        → (e : Entry) → Among e (d ∷ es) → Settled (e .register) (e .value) (install (under h) (asks (d ∷ es)) .reached .handler)
     go r e here =
-        ap (λ (p : Progress). value (p .reached .handler) (d .register)) i
-        ∙ install-frame f es (d .register) (w .good) k' (ap (λ (n : ℕ). inMap n (d .register)) (w .n) ∙ a .fits .exists) (a .fits .still) (a .names) .holds
-        ∙ put-holds h t (d .register) (d .value) (a .fits) y
-    go r e (there m) = ap (λ (p : Progress). value (p .reached .handler) (e .register)) i ∙ r e m
+        let s = install-frame f es (d .register) (w .good) k' (ap (λ (n : ℕ). inMap n (d .register)) (w .n) ∙ a .fits .exists) (a .fits .still) (a .names) in
+        let p = put-holds h t (d .register) (d .value) (a .fits) y in
+        subst (λ (p : Progress). Settled (d .register) (d .value) (p .reached .handler)) (sym i) (s .holds ∙ p .0, s .staged ∙ p .1)
+    go r e (there m) = subst (λ (p : Progress). Settled (e .register) (e .value) (p .reached .handler)) (sym i) (r e m)

@@ -5,7 +5,10 @@ pub mod InstallLaws
 pub mod Succeeds
 pub mod Unnamed
 pub mod QuietLaws
+pub mod Stops
 pub mod PlanLaws
 pub mod Members
 pub mod Boot
 pub mod FromBoot
+pub mod StopLaws
+pub mod StopExamples

@@ -18,11 +18,11 @@ use Rattle.policy.specs.Ran.Among.{here, there}
 use Rattle.policy.specs.Table.{alertCount, markAt}
 use Rattle.policy.specs.declared.Lifecycle.{Lifecycle}
 
-among-left : {e : Entry} {es : List Entry} (fs : List Entry) → Among e es → Among e (es ++ fs)
+pub among-left : {e : Entry} {es : List Entry} (fs : List Entry) → Among e es → Among e (es ++ fs)
 among-left fs here = here
 among-left fs (there m) = there (among-left fs m)
 
-among-right : {e : Entry} (es : List Entry) {fs : List Entry} → Among e fs → Among e (es ++ fs)
+pub among-right : {e : Entry} (es : List Entry) {fs : List Entry} → Among e fs → Among e (es ++ fs)
 among-right [] m = m
 among-right (x ∷ es) m = there (among-right es m)
 

@@ -147,5 +147,5 @@ install-succeeds h (e ∷ es) t k f w =
     (λ j l. wise-next h g j e es (a .fits .sane)
     (λ z. subst (λ (p : Register). value g p ≡ e .value)
     (number-eq (h .n) q (thresh j) (facts h t .n) (a .fits .exists) (true-and (lt-ltb j classCount l) refl) z)
-    (put-holds h t q (e .value) (a .fits) y))
+    (put-holds h t q (e .value) (a .fits) y .0))
     (λ z. v (thresh j) (true-and (lt-ltb j classCount l) refl) refl z .holds) (w j l))

@@ -17,6 +17,8 @@ use Rattle.rules.specs.declared.Register.the-variants.{IntrState, IntrEnable, L
 use Rattle.rules.specs.declared.Setting.{Setting}
 use Rattle.rules.specs.declared.Setting.the-variants.{Ctrl, AccumCnt, AccumThresh, TimeoutCyc, PhaseCyc}
 use Rattle.policy.specs.Plan.{classOf, enOf, isA, locks, ctrlOf, lengthOf, planOf, boot}
+use Rattle.policy.specs.Install.{Entry}
+use Rattle.policy.specs.Ran.{Among}
 use Rattle.policy.specs.Sound.{unnamed}
 use Rattle.policy.specs.Table.{alertCount, markAt}
 use Rattle.policy.specs.declared.Lifecycle.{Lifecycle}
@@ -37,6 +39,8 @@ pub record Stands (l : Lifecycle) (g : Handler) : Type 0 where
   pub ctrl : (k : ℕ) → k < classCount → value g (Block Ctrl k) ≡ ctrlOf l k
   -- class A is locked with EN and LOCK
   pub classLocks : locks l ≡ true → (value g (Block Setting.Regwen 0) ≡ 0) × (en (classAt g 0) ≡ true) × (lock (classAt g 0) ≡ true)
+  -- and no stage is open at a register that the plan names
+  pub unstaged : (e : Entry) → Among e (planOf l) → stage g (e .register) ≡ 0
 
 -- no event came: what the plan does not name is as before, but for STATE, ESC_CNT and CLR_REGWEN, which are the run's; stages too
 pub record AsBefore (l : Lifecycle) (h g : Handler) : Type 0 where
