@@ -1,14 +1,4 @@
 pub mod Asks
-pub mod AskLaws
-pub mod EntryLaws
-pub mod InstallLaws
-pub mod Succeeds
-pub mod Unnamed
-pub mod QuietLaws
-pub mod Stops
-pub mod PlanLaws
-pub mod Members
-pub mod Boot
-pub mod FromBoot
-pub mod StopLaws
+pub mod PlanExamples
 pub mod StopExamples
+pub mod PlanLaws

@@ -30,15 +30,15 @@ use Rattle.rules.specs.declared.Register.{Register}
 use Rattle.rules.specs.declared.Register.the-variants.{Block}
 use Rattle.rules.specs.declared.Setting.{Setting}
 use Rattle.rules.specs.declared.Setting.the-variants.{AccumThresh}
 use Rattle.policy.specs.Install.{Ask, Entry, under, install, write, read, once, twice, asksOf, asks}
-use Rattle.policy.specs.Ran.{wants, reach, Among, All}
-use Rattle.policy.specs.Ran.All.{none, more}
-use Rattle.policy.specs.Ran.Among.{here, there}
+use Rattle.boot_laws.specs.Ran.{wants, reach, Among, All}
+use Rattle.boot_laws.specs.Ran.All.{none, more}
+use Rattle.boot_laws.specs.Ran.Among.{here, there}
 use Rattle.policy.specs.Sound.{unnamed, unguarded, installable, sound, ahead, free}
 use Rattle.policy.specs.declared.Progress.{Progress}
-use Rattle.policy.proofs.AskLaws.{was-going, install-keeps, Kept, reach-kept, install-kept, install-run}
+use Rattle.boot_laws.proofs.AskLaws.{was-going, install-keeps, Kept, reach-kept, install-kept, install-run}
 use Rattle.policy.proofs.Asks.{install-append}
-use Rattle.policy.proofs.EntryLaws.{Fit, fit, spares, other-name, reach-value, reach-stage, Settled, put-holds}
+use Rattle.boot_laws.proofs.EntryLaws.{Fit, fit, spares, other-name, reach-value, reach-stage, Settled, put-holds}
 
 -- ── the tests, taken apart ──
 

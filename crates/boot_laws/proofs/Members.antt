@@ -11,12 +11,12 @@ use Rattle.rules.specs.declared.Field.{Field}
 use Rattle.rules.specs.declared.Register.the-variants.{Alert, Block}
 use Rattle.rules.specs.declared.Setting.{Setting}
 use Rattle.rules.specs.declared.Setting.the-variants.{PhaseCyc}
 use Rattle.policy.specs.Install.{Entry}
 use Rattle.policy.specs.Plan.{isA, locks, lengthOf, entry, alertEntries, classEntries, lockEntries, classLock, partsTo, planOf}
-use Rattle.policy.specs.Ran.{Among}
-use Rattle.policy.specs.Ran.Among.{here, there}
+use Rattle.boot_laws.specs.Ran.{Among}
+use Rattle.boot_laws.specs.Ran.Among.{here, there}
 use Rattle.policy.specs.Table.{alertCount, markAt}
 use Rattle.policy.specs.declared.Lifecycle.{Lifecycle}
 
 pub among-left : {e : Entry} {es : List Entry} (fs : List Entry) → Among e es → Among e (es ++ fs)
 among-left fs here = here

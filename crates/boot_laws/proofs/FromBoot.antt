@@ -41,21 +41,21 @@ use Rattle.rules.specs.declared.Register.{Register}
 use Rattle.rules.specs.declared.Register.the-variants.{IntrState, Alert, Block}
 use Rattle.rules.specs.declared.Setting.{Setting}
 use Rattle.rules.specs.declared.Setting.the-variants.{Ctrl, AccumThresh}
 use Rattle.policy.specs.Install.{Ask, under, install, write, read, asks}
 use Rattle.policy.specs.Plan.{isA, enOf, classOf, locks, ctrlOf, planOf, boot}
-use Rattle.policy.specs.FromBoot.{FirstEvent, FromBoot}
-use Rattle.policy.specs.Ran.{wants, reach, All}
-use Rattle.policy.specs.Stands.{Stands, Success}
+use Rattle.boot_laws.specs.FromBoot.{FirstEvent, FromBoot}
+use Rattle.boot_laws.specs.Ran.{wants, reach, All}
+use Rattle.boot_laws.specs.Stands.{Stands, Success}
 use Rattle.policy.specs.Table.{alertCount, markAt}
 use Rattle.policy.specs.declared.Installed.{Installed}
 use Rattle.policy.specs.declared.Lifecycle.{Lifecycle}
 use Rattle.policy.specs.declared.Mark.{Mark}
 use Rattle.policy.specs.declared.Mark.the-variants.{A, B, C, D, X}
-use Rattle.policy.proofs.AskLaws.{install-goes, Kept, reach-kept}
-use Rattle.policy.proofs.Boot.{Went, went, begins, plan-fits, new-succeeds, boot-stands, not-zero}
-use Rattle.policy.proofs.EntryLaws.{Fit}
-use Rattle.policy.proofs.InstallLaws.{sound-fit, all-asks, Same}
-use Rattle.policy.proofs.QuietLaws.{quiet-write, quiet-read, idle-write, idle-read}
+use Rattle.boot_laws.proofs.AskLaws.{install-goes, Kept, reach-kept}
+use Rattle.boot_laws.proofs.Boot.{Went, went, begins, plan-fits, new-succeeds, boot-stands, not-zero}
+use Rattle.boot_laws.proofs.EntryLaws.{Fit}
+use Rattle.boot_laws.proofs.InstallLaws.{sound-fit, all-asks, Same}
+use Rattle.boot_laws.proofs.QuietLaws.{quiet-write, quiet-read, idle-write, idle-read}
 
 -- ── a locked register along a list ──
 

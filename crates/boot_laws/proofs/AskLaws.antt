@@ -15,10 +15,10 @@ use Rattle.rules.specs.Run.{run}
 use Rattle.rules.specs.Tick.{ticked}
 use Rattle.rules.specs.Valid.{valid}
 use Rattle.rules.specs.declared.Handler.{Handler}
 use Rattle.policy.specs.Install.{Ask, under, stopped, asked, ask, install}
-use Rattle.policy.specs.Ran.{inputOf, inputs, wants, reach, noAsk, StoppedAt, All}
-use Rattle.policy.specs.Ran.All.{none, more}
+use Rattle.boot_laws.specs.Ran.{inputOf, inputs, wants, reach, noAsk, StoppedAt, All}
+use Rattle.boot_laws.specs.Ran.All.{none, more}
 use Rattle.policy.specs.declared.Progress.{Progress}
 
 -- ── one access ──
 

@@ -27,12 +27,12 @@ use Rattle.rules.specs.declared.Register.{Register}
 use Rattle.rules.specs.declared.Register.the-variants.{Block}
 use Rattle.rules.specs.declared.Setting.{Setting}
 use Rattle.rules.specs.declared.Setting.the-variants.{AccumThresh}
 use Rattle.policy.specs.Install.{Entry, under, install, asksOf, asks}
 use Rattle.policy.specs.Sound.{unnamed, unguarded, sound, ahead, free}
 use Rattle.policy.specs.declared.Progress.{Progress}
-use Rattle.policy.proofs.AskLaws.{Kept}
-use Rattle.policy.proofs.EntryLaws.{Fit, put-holds, Open, put-goes}
-use Rattle.policy.proofs.InstallLaws.{First, first, differ, Same, same-start, put-same, put, then, put-kept}
+use Rattle.boot_laws.proofs.AskLaws.{Kept}
+use Rattle.boot_laws.proofs.EntryLaws.{Fit, put-holds, Open, put-goes}
+use Rattle.boot_laws.proofs.InstallLaws.{First, first, differ, Same, same-start, put-same, put, then, put-kept}
 
 -- ── refusal 14: the threshold of each class that is locked is not 65535 then ──
 

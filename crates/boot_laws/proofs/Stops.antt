@@ -25,15 +25,15 @@ use Rattle.rules.specs.declared.Handler.{Handler}
 use Rattle.rules.specs.declared.Refusal.{Refusal}
 use Rattle.rules.specs.declared.Register.{Register}
 use Rattle.rules.specs.declared.Ticked.{Ticked}
 use Rattle.policy.specs.Install.{Ask, Entry, rest, is, under, stopped, asked, ask, install, write, read, once, twice, asksOf, asks}
-use Rattle.policy.specs.Ran.{inputOf, wants, reach}
+use Rattle.boot_laws.specs.Ran.{inputOf, wants, reach}
 use Rattle.policy.specs.Sound.{unnamed, sound, free}
 use Rattle.policy.specs.declared.Progress.{Progress}
-use Rattle.policy.proofs.AskLaws.{asked-other, stays, Kept, install-kept, install-run}
+use Rattle.boot_laws.proofs.AskLaws.{asked-other, stays, Kept, install-kept, install-run}
 use Rattle.policy.proofs.Asks.{install-append, asks-append}
-use Rattle.policy.proofs.EntryLaws.{Fit, names-it}
-use Rattle.policy.proofs.InstallLaws.{install-frame}
-use Rattle.policy.proofs.Succeeds.{Wise, install-succeeds}
+use Rattle.boot_laws.proofs.EntryLaws.{Fit, names-it}
+use Rattle.boot_laws.proofs.InstallLaws.{install-frame}
+use Rattle.boot_laws.proofs.Succeeds.{Wise, install-succeeds}
 
 -- ── a shadowed register that is locked ──
 

@@ -35,26 +35,26 @@ use Rattle.rules.specs.declared.Register.{Register}
 use Rattle.rules.specs.declared.Register.the-variants.{IntrState, IntrEnable, Local, Alert, Block}
 use Rattle.rules.specs.declared.Setting.{Setting}
 use Rattle.rules.specs.declared.Setting.the-variants.{Ctrl, AccumCnt, AccumThresh, TimeoutCyc, PhaseCyc}
 use Rattle.policy.specs.Install.{Ask, Entry, under, install, write, read, asks}
 use Rattle.policy.specs.Plan.{locks, ctrlOf, alertEntries, classEntries, planOf, barred, boot}
-use Rattle.policy.specs.Ran.{inputs, wants, reach, noAsk, StoppedAt, Among, All}
-use Rattle.policy.specs.Ran.All.{none, more}
-use Rattle.policy.specs.Ran.Among.{here, there}
+use Rattle.boot_laws.specs.Ran.{inputs, wants, reach, noAsk, StoppedAt, Among, All}
+use Rattle.boot_laws.specs.Ran.All.{none, more}
+use Rattle.boot_laws.specs.Ran.Among.{here, there}
 use Rattle.policy.specs.Sound.{unnamed, unguarded, installable, sound, free, planned}
-use Rattle.policy.specs.Stands.{Success, Stands, AsBefore}
+use Rattle.boot_laws.specs.Stands.{Success, Stands, AsBefore}
 use Rattle.policy.specs.Table.{alertCount, markAt}
 use Rattle.policy.specs.declared.Bar.the-variants.{BadState, FewAlerts}
 use Rattle.policy.specs.declared.Installed.{Installed}
 use Rattle.policy.specs.declared.Lifecycle.{Lifecycle}
 use Rattle.policy.specs.declared.Progress.{Progress}
-use Rattle.policy.proofs.AskLaws.{install-keeps, install-goes, Kept, reach-kept, install-kept, install-run, install-stops}
-use Rattle.policy.proofs.EntryLaws.{Fit, Settled, other-name, reach-stage}
-use Rattle.policy.proofs.InstallLaws.{sound-fit, unnamed-at, all-asks, Same, same-start, install-holds}
-use Rattle.policy.proofs.Members.{has-length, alert-part, class-part, lock-part, last-part}
+use Rattle.boot_laws.proofs.AskLaws.{install-keeps, install-goes, Kept, reach-kept, install-kept, install-run, install-stops}
+use Rattle.boot_laws.proofs.EntryLaws.{Fit, Settled, other-name, reach-stage}
+use Rattle.boot_laws.proofs.InstallLaws.{sound-fit, unnamed-at, all-asks, Same, same-start, install-holds}
+use Rattle.boot_laws.proofs.Members.{has-length, alert-part, class-part, lock-part, last-part}
 use Rattle.policy.proofs.PlanLaws.{plan-sound, plan-ahead, plan-planned}
-use Rattle.policy.proofs.QuietLaws.{quiet-write, quiet-read}
-use Rattle.policy.proofs.Succeeds.{install-succeeds}
-use Rattle.policy.proofs.Unnamed.{unplanned, local-out, cause-out, other-out, count-out}
+use Rattle.boot_laws.proofs.QuietLaws.{quiet-write, quiet-read}
+use Rattle.boot_laws.proofs.Succeeds.{install-succeeds}
+use Rattle.boot_laws.proofs.Unnamed.{unplanned, local-out, cause-out, other-out, count-out}
 
 -- ── success ──
 

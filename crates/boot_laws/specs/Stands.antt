@@ -16,12 +16,12 @@ use Rattle.rules.specs.declared.Register.{Register}
 use Rattle.rules.specs.declared.Register.the-variants.{IntrState, IntrEnable, Local, Alert, Block}
 use Rattle.rules.specs.declared.Setting.{Setting}
 use Rattle.rules.specs.declared.Setting.the-variants.{Ctrl, AccumCnt, AccumThresh, TimeoutCyc, PhaseCyc}
 use Rattle.policy.specs.Plan.{classOf, enOf, isA, locks, ctrlOf, lengthOf, planOf, boot}
 use Rattle.policy.specs.Install.{Entry}
-use Rattle.policy.specs.Ran.{Among}
+use Rattle.boot_laws.specs.Ran.{Among}
 use Rattle.policy.specs.Sound.{unnamed}
 use Rattle.policy.specs.Table.{alertCount, markAt}
 use Rattle.policy.specs.declared.Lifecycle.{Lifecycle}
 
 -- "register 0 on success, success answers 0"
 pub record Success (l : Lifecycle) (h : Handler) : Type 0 where

@@ -35,11 +35,11 @@ use Rattle.rules.specs.declared.Refusal.{Refusal}
 use Rattle.rules.specs.declared.Register.{Register}
 use Rattle.rules.specs.declared.Register.the-variants.{IntrState, Block}
 use Rattle.rules.specs.declared.Verdict.{Verdict}
 use Rattle.policy.specs.Install.{Ask, rest, is, write, read}
-use Rattle.policy.specs.Ran.{inputOf, wants, reach}
-use Rattle.policy.proofs.AskLaws.{Kept, reach-kept}
-use Rattle.policy.proofs.EntryLaws.{Fit, names-it, spares, other-name, reach-stage}
-use Rattle.policy.proofs.InstallLaws.{Same}
+use Rattle.boot_laws.specs.Ran.{inputOf, wants, reach}
+use Rattle.boot_laws.proofs.AskLaws.{Kept, reach-kept}
+use Rattle.boot_laws.proofs.EntryLaws.{Fit, names-it, spares, other-name, reach-stage}
+use Rattle.boot_laws.proofs.InstallLaws.{Same}
 
 -- all wires at (0,1)
 pub at-rest : (x : Access) → AtRest (rest x .sample .alerts)

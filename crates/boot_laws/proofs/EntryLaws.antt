@@ -38,12 +38,12 @@ use Rattle.rules.specs.declared.Answer.{Answer}
 use Rattle.rules.specs.declared.Handler.{Handler}
 use Rattle.rules.specs.declared.Register.{Register}
 use Rattle.rules.specs.declared.Way.{Way}
 use Rattle.policy.specs.Install.{Ask, Entry, rest, is, under, asked, ask, install, write, read, once, twice, asksOf}
-use Rattle.policy.specs.Ran.{inputOf, wants, reach}
+use Rattle.boot_laws.specs.Ran.{inputOf, wants, reach}
 use Rattle.policy.specs.Sound.{installable}
 use Rattle.policy.specs.declared.Progress.{Progress}
-use Rattle.policy.proofs.AskLaws.{asked-wanted, asked-going, was-going, Kept, reach-kept, install-kept, install-run}
+use Rattle.boot_laws.proofs.AskLaws.{asked-wanted, asked-going, was-going, Kept, reach-kept, install-kept, install-run}
 use Rattle.policy.proofs.Asks.{install-append}
 
 -- ── what the test of an entry says ──
 

@@ -25,21 +25,21 @@ use Rattle.rules.specs.declared.Register.{Register}
 use Rattle.rules.specs.declared.Register.the-variants.{Alert, Block}
 use Rattle.rules.specs.declared.Setting.{Setting}
 use Rattle.rules.specs.declared.Setting.the-variants.{AccumThresh}
 use Rattle.policy.specs.Install.{Entry, under, install, asks}
 use Rattle.policy.specs.Plan.{isA, locks, entry, alertEntries, classEntries, lockEntries, classLock, partsTo, planOf, boot}
-use Rattle.policy.specs.Ran.{Among}
-use Rattle.policy.specs.Ran.Among.{here, there}
+use Rattle.boot_laws.specs.Ran.{Among}
+use Rattle.boot_laws.specs.Ran.Among.{here, there}
 use Rattle.policy.specs.Sound.{unnamed, unguarded, installable, sound, ahead, free}
-use Rattle.policy.specs.Stands.{Success}
+use Rattle.boot_laws.specs.Stands.{Success}
 use Rattle.policy.specs.Table.{alertCount, markAt}
 use Rattle.policy.specs.declared.Installed.{Installed}
 use Rattle.policy.specs.declared.Lifecycle.{Lifecycle}
-use Rattle.policy.proofs.AskLaws.{Kept, install-kept}
-use Rattle.policy.proofs.Boot.{plan-fits, begins, new-succeeds, Went, went, boot-stands}
-use Rattle.policy.proofs.InstallLaws.{sound-fit, install-frame}
-use Rattle.policy.proofs.Members.{among-left, among-right}
+use Rattle.boot_laws.proofs.AskLaws.{Kept, install-kept}
+use Rattle.boot_laws.proofs.Boot.{plan-fits, begins, new-succeeds, Went, went, boot-stands}
+use Rattle.boot_laws.proofs.InstallLaws.{sound-fit, install-frame}
+use Rattle.boot_laws.proofs.Members.{among-left, among-right}
 use Rattle.policy.proofs.PlanLaws.{plan-ahead}
-use Rattle.policy.proofs.Stops.{stops-locked}
+use Rattle.boot_laws.proofs.Stops.{stops-locked}
 
 -- ── what a test says of a list it says of its beginning ──
 

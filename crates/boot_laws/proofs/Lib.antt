@@ -1,0 +1,12 @@
+pub mod AskLaws
+pub mod EntryLaws
+pub mod InstallLaws
+pub mod Succeeds
+pub mod Unnamed
+pub mod QuietLaws
+pub mod Stops
+pub mod Members
+pub mod Boot
+pub mod FromBoot
+pub mod StopLaws
+pub mod Examples

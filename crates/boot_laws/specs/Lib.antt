@@ -1,0 +1,3 @@
+pub mod Ran
+pub mod Stands
+pub mod FromBoot
