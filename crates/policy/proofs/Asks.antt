@@ -1,6 +1,6 @@
 -- Lists of accesses, joined.
 -- Assumes nothing.
-use mathlib.Core.Path.{_≡_, refl, sym, ap, _∙_}
+use mathlib.Core.Path.{_≡_, refl, ap, _∙_}
 use mathlib.Core.List.{List, [], _∷_, _++_}
 use Rattle.policy.specs.Install.{Ask, Entry, ask, install, asksOf, asks}
 use Rattle.policy.specs.declared.Progress.{Progress}

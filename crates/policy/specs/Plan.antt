@@ -13,7 +13,7 @@ use Rattle.rules.specs.declared.Register.{Register}
 use Rattle.rules.specs.declared.Register.the-variants.{Alert, Block}
 use Rattle.rules.specs.declared.Setting.{Setting}
 use Rattle.rules.specs.declared.Setting.the-variants.{Ctrl, AccumThresh, TimeoutCyc, PhaseCyc}
-use Rattle.policy.specs.Install.{Ask, Entry, under, install, asks}
+use Rattle.policy.specs.Install.{Entry, under, install, asks}
 use Rattle.policy.specs.Table.{alertCount, markAt}
 use Rattle.policy.specs.declared.Bar.{Bar}
 use Rattle.policy.specs.declared.Bar.the-variants.{BadState, FewAlerts}

@@ -1,7 +1,9 @@
 -- `lifecycle_of` meets its contract.
 -- Assumes nothing.
+use mathlib.Core.Path.{_≡_, sym}
 use borrow.Author.Tests.{ne-eqb}
 use Rattle.policy.specs.Plan.{lifecycleOf}
+use Rattle.policy.specs.declared.Lifecycle.{Lifecycle}
 use Rattle.installer.proofs.lifecycle_of.Statement.{statement}
 use Rattle.installer.proofs.lifecycle_of.Tie as tie
 
@@ -33,7 +35,10 @@ returns-7 : tie.Need-returns-7
 unfolding lifecycleOf
 returns-7 c =
     let r = c .match .rest in
-    simp (ne-eqb _ _ (r .1), ne-eqb _ _ (r .0 .1), ne-eqb _ _ (r .0 .0 .1), ne-eqb _ _ (r .0 .0 .0 .1), ne-eqb _ _ (r .0 .0 .0 .0 .1), ne-eqb _ _ (r .0 .0 .0 .0 .0 .1))
+    let e : lifecycleOf (c .before .args .n) ≡ Lifecycle.ProdEnd =
+    simp
+    (ne-eqb _ _ (r .0 .0 .0 .0 .0 .1), ne-eqb _ _ (r .0 .0 .0 .0 .1), ne-eqb _ _ (r .0 .0 .0 .1), ne-eqb _ _ (r .0 .0 .1), ne-eqb _ _ (r .0 .1), ne-eqb _ _ (r .1)) in
+    sym e
 
 pub lifecycle-of-spec : {M : Type 1} → statement M
 lifecycle-of-spec =
