@@ -1,11 +1,11 @@
 -- One register that is written, twice where shadowed, and read back.
 -- Assumes nothing.
-use Prim.Native.Nat.{ℕ, _+_, _≤_}
+use Prim.Native.Nat.{ℕ, _+_}
 use mathlib.Core.Path.{_≡_, refl, sym, ap, ap₂, _∙_, subst}
-use mathlib.Core.Bool.{Bool, true, false, true≢false, false≢true, cond, not, _&&_}
+use mathlib.Core.Bool.{Bool, true, false, cond, not, _&&_}
 use mathlib.Core.List.{List, [], _∷_, _++_}
 use native.Mathlib.Omega.{arith}
-use borrow.Author.Tests.{eqb-true, eq-eqb, ne-eqb, not-true, not-false}
+use borrow.Author.Tests.{eqb-true, eq-eqb, ne-eqb, not-true}
 use lib.Dec.{eqb}
 use lib.IntN.{ℤ}
 use Rattle.bits.specs.Bits.{fits}
@@ -29,16 +29,14 @@ use Rattle.rules.specs.Access.{value, locked, bars, unlike, silly, accepted, is
 use Rattle.rules.specs.Answer.{number}
 use Rattle.rules.specs.Map.{decode, numberOf, isRegister, row, onlyWritten, bits, readOnly, writeOnly, isLock, isShadowed, guard}
 use Rattle.rules.specs.Stages.{stage, isOpen}
-use Rattle.rules.specs.State.{most}
-use Rattle.rules.specs.Tick.{after, ticked}
+use Rattle.rules.specs.Tick.{ticked}
 use Rattle.rules.specs.Valid.{valid}
-use Rattle.rules.specs.declared.Access.{Access}
 use Rattle.rules.specs.declared.Access.the-variants.{Read, Write}
 use Rattle.rules.specs.declared.Answer.{Answer}
 use Rattle.rules.specs.declared.Handler.{Handler}
 use Rattle.rules.specs.declared.Register.{Register}
 use Rattle.rules.specs.declared.Way.{Way}
-use Rattle.policy.specs.Install.{Ask, Entry, rest, is, under, asked, ask, install, write, read, once, twice, asksOf}
+use Rattle.policy.specs.Install.{Ask, Entry, rest, is, under, asked, ask, install, write, read, asksOf}
 use Rattle.boot_laws.specs.Ran.{inputOf, wants, reach}
 use Rattle.policy.specs.Sound.{installable}
 use Rattle.policy.specs.declared.Progress.{Progress}

@@ -1,12 +1,12 @@
 -- Boots that stop at class A's lock or go on, by example: the theorems at work.
 -- Assumes nothing.
-use Prim.Native.Nat.{ℕ, _+_}
+use Prim.Native.Nat.{ℕ}
 use mathlib.Core.Path.{_≡_, refl, ap}
 use native.Mathlib.Omega.{arith}
 use lib.IntN.{negsuc}
 use lib.ListN.{set, replicate}
 use Rattle.rules.specs.Access.{value}
-use Rattle.rules.specs.State.{newHandler, resetClass, noStages, withClasses, withStages}
+use Rattle.rules.specs.State.{newHandler, resetClass, withClasses}
 use Rattle.rules.specs.declared.Handler.{Handler}
 use Rattle.rules.specs.declared.Register.the-variants.{Block}
 use Rattle.rules.specs.declared.Setting.the-variants.{AccumThresh}
@@ -17,7 +17,8 @@ use Rattle.policy.specs.Table.{markAt}
 use Rattle.policy.specs.declared.Installed.{Installed}
 use Rattle.policy.specs.declared.Lifecycle.the-variants.{Prod}
 use Rattle.policy.proofs.StopExamples.{staged}
-use Rattle.boot_laws.proofs.Boot.{booted, boot-succeeds, boot-stands}
+use Rattle.boot_laws.proofs.After.{boot-stands}
+use Rattle.boot_laws.proofs.Boot.{booted, boot-succeeds}
 use Rattle.boot_laws.proofs.StopLaws.{class-locked}
 
 -- names every definition that an example computes with

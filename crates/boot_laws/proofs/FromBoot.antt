@@ -8,11 +8,11 @@ use mathlib.Core.List.{List, [], _∷_}
 use native.Mathlib.Omega.{arith}
 use borrow.Author.Tests.{lt-ltb, eq-eqb}
 use lib.Dec.{eqb, ltb}
-use lib.ListN.{take, getD-replicate}
+use lib.ListN.{take}
 use Rattle.bits.proofs.BitLaws.{bit-none}
 use Rattle.bits.specs.Bits.{bit}
 use Rattle.bits.specs.Index.{anyTo}
-use Rattle.class_rules.specs.Class.{en, lock, enabled, stateOf, noClass}
+use Rattle.class_rules.specs.Class.{en, lock, enabled, stateOf}
 use Rattle.class_rules.specs.declared.Class.{Class}
 use Rattle.class_rules.specs.declared.ClassState.the-variants.{Idle}
 use Rattle.escalation.proofs.Demand3.{demand3}
@@ -24,13 +24,12 @@ use Rattle.laws.proofs.KeepsValid.{ticked-valid, run-valid}
 use Rattle.laws.proofs.Locks.{acted-locked, after-locked}
 use Rattle.laws.proofs.Refusal7.{ticked-handler}
 use Rattle.laws.proofs.ValidLaws.{facts}
-use Rattle.laws.proofs.Written.{new-valid}
 use Rattle.laws.specs.InMap.{inMap}
 use Rattle.rules.specs.Access.{value, locked, acted}
-use Rattle.rules.specs.Map.{numberOf, isRegister, guard}
+use Rattle.rules.specs.Map.{numberOf, guard}
 use Rattle.rules.specs.Run.{run}
 use Rattle.rules.specs.Stages.{stageIn}
-use Rattle.rules.specs.State.{most, classCount, alert, classAt, resetClass, newHandler}
+use Rattle.rules.specs.State.{most, alert, classAt, newHandler}
 use Rattle.rules.specs.Tick.{ticked}
 use Rattle.rules.specs.Valid.{valid}
 use Rattle.rules.specs.declared.Access.{Access}
@@ -41,10 +40,10 @@ use Rattle.rules.specs.declared.Register.{Register}
 use Rattle.rules.specs.declared.Register.the-variants.{IntrState, Alert, Block}
 use Rattle.rules.specs.declared.Setting.{Setting}
 use Rattle.rules.specs.declared.Setting.the-variants.{Ctrl, AccumThresh}
-use Rattle.policy.specs.Install.{Ask, under, install, write, read, asks}
+use Rattle.policy.specs.Install.{under, install, write, read, asks}
 use Rattle.policy.specs.Plan.{isA, enOf, classOf, locks, ctrlOf, planOf, boot}
 use Rattle.boot_laws.specs.FromBoot.{FirstEvent, FromBoot}
-use Rattle.boot_laws.specs.Ran.{wants, reach, All}
+use Rattle.boot_laws.specs.Ran.{wants, reach}
 use Rattle.boot_laws.specs.Stands.{Stands, Success}
 use Rattle.policy.specs.Table.{alertCount, markAt}
 use Rattle.policy.specs.declared.Installed.{Installed}
@@ -52,7 +51,8 @@ use Rattle.policy.specs.declared.Lifecycle.{Lifecycle}
 use Rattle.policy.specs.declared.Mark.{Mark}
 use Rattle.policy.specs.declared.Mark.the-variants.{A, B, C, D, X}
 use Rattle.boot_laws.proofs.AskLaws.{install-goes, Kept, reach-kept}
-use Rattle.boot_laws.proofs.Boot.{Went, went, begins, plan-fits, new-succeeds, boot-stands, not-zero}
+use Rattle.boot_laws.proofs.After.{boot-stands}
+use Rattle.boot_laws.proofs.Boot.{Went, went, begins, plan-fits, new-succeeds, not-zero}
 use Rattle.boot_laws.proofs.EntryLaws.{Fit}
 use Rattle.boot_laws.proofs.InstallLaws.{sound-fit, all-asks, Same}
 use Rattle.boot_laws.proofs.QuietLaws.{quiet-write, quiet-read, idle-write, idle-read}

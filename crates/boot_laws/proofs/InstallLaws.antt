@@ -1,40 +1,26 @@
 -- A list of registers, written and read back: when it succeeds, what then stands, and what is as before.
 -- Assumes nothing.
-use Prim.Native.Nat.{ℕ, _≤_, _<_}
+use Prim.Native.Nat.{ℕ}
 use mathlib.Core.Path.{_≡_, refl, sym, ap, _∙_, subst}
-use mathlib.Core.Logic.{_⊎_, inl, inr}
-use mathlib.Core.Bool.{Bool, true, false, false≢true, true≢false, cond, not, _&&_}
+use mathlib.Core.Bool.{Bool, true, false, not, _&&_}
 use mathlib.Core.List.{List, [], _∷_, _++_, cons≢nil}
-use native.Mathlib.Omega.{arith}
-use borrow.Author.Tests.{eqb-true, eqb-false, eq-eqb, ne-eqb, not-true, lt-ltb}
-use lib.Dec.{eqb, ltb}
-use lib.IntN.{ℤ}
-use Rattle.bits.proofs.IndexLaws.{and-true, true-and}
-use Rattle.class_rules.specs.Class.{en}
-use Rattle.laws.proofs.Cases.{pick, by-kind, by-setting}
-use Rattle.laws.proofs.Locks.{guard-in-map}
-use Rattle.laws.proofs.MapLaws.{number-eq}
-use Rattle.laws.proofs.ValidLaws.{facts}
-use Rattle.laws.proofs.Written.{guard-still, locked-same}
+use borrow.Author.Tests.{eqb-false, not-true}
+use lib.Dec.{eqb}
+use Rattle.bits.proofs.IndexLaws.{and-true}
+use Rattle.laws.proofs.Cases.{pick}
 use Rattle.laws.specs.Frame.{movesItself}
 use Rattle.laws.specs.InMap.{inMap}
-use Rattle.rules.specs.Access.{value, locked, unlike, silly}
-use Rattle.rules.specs.Map.{numberOf, isShadowed, guard, isRegister}
+use Rattle.rules.specs.Access.{value}
+use Rattle.rules.specs.Map.{numberOf, isShadowed}
 use Rattle.rules.specs.Stages.{stage}
-use Rattle.rules.specs.State.{classCount, classAt}
 use Rattle.rules.specs.Valid.{valid}
-use Rattle.rules.specs.declared.Access.{Access}
-use Rattle.rules.specs.declared.Access.the-variants.{Read, Write}
 use Rattle.rules.specs.declared.Handler.{Handler}
 use Rattle.rules.specs.declared.Register.{Register}
-use Rattle.rules.specs.declared.Register.the-variants.{Block}
-use Rattle.rules.specs.declared.Setting.{Setting}
-use Rattle.rules.specs.declared.Setting.the-variants.{AccumThresh}
 use Rattle.policy.specs.Install.{Ask, Entry, under, install, write, read, once, twice, asksOf, asks}
-use Rattle.boot_laws.specs.Ran.{wants, reach, Among, All}
+use Rattle.boot_laws.specs.Ran.{reach, Among, All}
 use Rattle.boot_laws.specs.Ran.All.{none, more}
 use Rattle.boot_laws.specs.Ran.Among.{here, there}
-use Rattle.policy.specs.Sound.{unnamed, unguarded, installable, sound, ahead, free}
+use Rattle.policy.specs.Sound.{unnamed, unguarded, installable, sound}
 use Rattle.policy.specs.declared.Progress.{Progress}
 use Rattle.boot_laws.proofs.AskLaws.{was-going, install-keeps, Kept, reach-kept, install-kept, install-run}
 use Rattle.policy.proofs.Asks.{install-append}

@@ -7,6 +7,7 @@ pub mod QuietLaws
 pub mod Stops
 pub mod Members
 pub mod Boot
+pub mod After
 pub mod FromBoot
 pub mod StopLaws
 pub mod Examples

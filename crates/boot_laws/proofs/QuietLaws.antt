@@ -2,11 +2,11 @@
 -- Assumes nothing.
 use Prim.Native.Nat.{ℕ, _+_, _-_, _/_, _%_, _^_, _<_}
 use mathlib.Core.Path.{_≡_, refl, sym, ap, _∙_}
-use mathlib.Core.Bool.{Bool, true, false, false≢true, cond, _&&_}
+use mathlib.Core.Bool.{Bool, true, false, false≢true, _&&_}
 use native.Mathlib.Omega.{arith}
 use borrow.Author.Tests.{ne-eqb}
 use lib.Dec.{eqb}
-use lib.ListN.{getD, getD-replicate}
+use lib.ListN.{getD-replicate}
 use Rattle.bits.proofs.BitLaws.{bit-none, bit-ones}
 use Rattle.bits.specs.Bits.{bit, place}
 use Rattle.class_rules.specs.Class.{stateOf}
@@ -22,13 +22,11 @@ use Rattle.laws.specs.RegisterFile.{commits, plain}
 use Rattle.laws.specs.StageFile.{names}
 use Rattle.rules.specs.Access.{value, verdict, accepts, accepted, isClrOf, writesClr, accessedBy, accessed, answerTo, clears}
 use Rattle.rules.specs.Answer.{number}
-use Rattle.rules.specs.Map.{decode, numberOf}
-use Rattle.rules.specs.Stages.{stage}
-use Rattle.rules.specs.State.{most, words, classCount, classAt}
-use Rattle.rules.specs.Tick.{after}
+use Rattle.rules.specs.Map.{numberOf}
+use Rattle.rules.specs.State.{words, classCount, classAt}
 use Rattle.rules.specs.Valid.{valid}
 use Rattle.rules.specs.declared.Access.{Access}
-use Rattle.rules.specs.declared.Access.the-variants.{Read, Write}
+use Rattle.rules.specs.declared.Access.the-variants.{Write}
 use Rattle.rules.specs.declared.Answer.{Answer}
 use Rattle.rules.specs.declared.Handler.{Handler}
 use Rattle.rules.specs.declared.Refusal.{Refusal}

@@ -1,6 +1,6 @@
 -- Boots that stop at a lock: a second one in PROD or PROD_END, and one where class A alone is locked.
 -- Assumes nothing.
-use Prim.Native.Nat.{ℕ, _+_, _≤_, _<_}
+use Prim.Native.Nat.{ℕ, _+_, _≤_}
 use mathlib.Core.Path.{_≡_, refl, sym, ap, _∙_, subst}
 use mathlib.Core.Logic.{inr}
 use mathlib.Core.Bool.{Bool, true, false, false≢true, cond, not, _&&_}
@@ -14,7 +14,7 @@ use Rattle.bits.proofs.IndexLaws.{and-true, true-and}
 use Rattle.laws.proofs.Locks.{guard-in-map}
 use Rattle.laws.proofs.Written.{guard-still, locked-same, new-unlocked, new-valid}
 use Rattle.laws.specs.InMap.{inMap}
-use Rattle.rules.specs.Access.{value, locked, unlike}
+use Rattle.rules.specs.Access.{value, locked}
 use Rattle.rules.specs.Map.{numberOf, isLock, isShadowed, guard}
 use Rattle.rules.specs.Stages.{stage}
 use Rattle.rules.specs.State.{most, classCount, newHandler}
@@ -35,7 +35,8 @@ use Rattle.policy.specs.Table.{alertCount, markAt}
 use Rattle.policy.specs.declared.Installed.{Installed}
 use Rattle.policy.specs.declared.Lifecycle.{Lifecycle}
 use Rattle.boot_laws.proofs.AskLaws.{Kept, install-kept}
-use Rattle.boot_laws.proofs.Boot.{plan-fits, begins, new-succeeds, Went, went, boot-stands}
+use Rattle.boot_laws.proofs.After.{boot-stands}
+use Rattle.boot_laws.proofs.Boot.{plan-fits, begins, new-succeeds}
 use Rattle.boot_laws.proofs.InstallLaws.{sound-fit, install-frame}
 use Rattle.boot_laws.proofs.Members.{among-left, among-right}
 use Rattle.policy.proofs.PlanLaws.{plan-ahead}

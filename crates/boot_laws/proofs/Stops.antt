@@ -5,13 +5,12 @@ use mathlib.Core.Path.{_≡_, refl, sym, ap, _∙_, subst}
 use mathlib.Core.Bool.{Bool, true, false, not, _&&_}
 use mathlib.Core.List.{List, [], _∷_, _++_}
 use lib.Dec.{eqb}
-use lib.IntN.{ℤ, negsuc}
+use lib.IntN.{negsuc}
 use Rattle.bits.proofs.IndexLaws.{and-true, true-and}
 use Rattle.bits.specs.Bits.{fits}
 use Rattle.laws.proofs.Cases.{pick}
 use Rattle.laws.proofs.Locks.{guard-in-map}
 use Rattle.laws.proofs.Written.{ticked-answer, write-locked, shadowed-wise, guard-still, locked-same}
-use Rattle.laws.specs.InMap.{inMap}
 use Rattle.laws.specs.RegisterFile.{asWritten}
 use Rattle.rules.specs.Access.{locked, silly, bars}
 use Rattle.rules.specs.Answer.{number}
@@ -24,9 +23,8 @@ use Rattle.rules.specs.declared.Answer.{Answer}
 use Rattle.rules.specs.declared.Handler.{Handler}
 use Rattle.rules.specs.declared.Refusal.{Refusal}
 use Rattle.rules.specs.declared.Register.{Register}
-use Rattle.rules.specs.declared.Ticked.{Ticked}
 use Rattle.policy.specs.Install.{Ask, Entry, rest, is, under, stopped, asked, ask, install, write, read, once, twice, asksOf, asks}
-use Rattle.boot_laws.specs.Ran.{inputOf, wants, reach}
+use Rattle.boot_laws.specs.Ran.{wants}
 use Rattle.policy.specs.Sound.{unnamed, sound, free}
 use Rattle.policy.specs.declared.Progress.{Progress}
 use Rattle.boot_laws.proofs.AskLaws.{asked-other, stays, Kept, install-kept, install-run}

@@ -1,10 +1,10 @@
 -- A list of registers succeeds where none is locked and none has another stage open, and stops at one that is locked.
 -- Assumes nothing.
-use Prim.Native.Nat.{ℕ, _+_, _≤_, _<_}
+use Prim.Native.Nat.{ℕ, _+_, _<_}
 use mathlib.Core.Path.{_≡_, refl, sym, ap, ap₂, _∙_, subst}
 use mathlib.Core.Logic.{_⊎_, inl, inr, ⊎-elim}
-use mathlib.Core.Bool.{Bool, true, false, false≢true, true≢false, cond, not, _&&_}
-use mathlib.Core.List.{List, [], _∷_, _++_}
+use mathlib.Core.Bool.{Bool, true, false, false≢true, cond, not, _&&_}
+use mathlib.Core.List.{List, [], _∷_}
 use native.Mathlib.Omega.{arith}
 use borrow.Author.Tests.{eqb-true, eqb-false, eq-eqb, ne-eqb, not-true, lt-ltb, ltb-true}
 use lib.Dec.{eqb, ltb}
@@ -16,7 +16,7 @@ use Rattle.laws.proofs.MapLaws.{number-eq}
 use Rattle.laws.proofs.ValidLaws.{facts}
 use Rattle.laws.proofs.Written.{guard-still, locked-same}
 use Rattle.laws.specs.Frame.{movesItself}
-use Rattle.laws.specs.InMap.{inMap, settingExists}
+use Rattle.laws.specs.InMap.{inMap}
 use Rattle.rules.specs.Access.{value, locked, unlike, silly}
 use Rattle.rules.specs.Map.{numberOf, guard}
 use Rattle.rules.specs.Stages.{stage}
@@ -27,12 +27,12 @@ use Rattle.rules.specs.declared.Register.{Register}
 use Rattle.rules.specs.declared.Register.the-variants.{Block}
 use Rattle.rules.specs.declared.Setting.{Setting}
 use Rattle.rules.specs.declared.Setting.the-variants.{AccumThresh}
-use Rattle.policy.specs.Install.{Entry, under, install, asksOf, asks}
+use Rattle.policy.specs.Install.{Entry, under, install, asks}
 use Rattle.policy.specs.Sound.{unnamed, unguarded, sound, ahead, free}
 use Rattle.policy.specs.declared.Progress.{Progress}
 use Rattle.boot_laws.proofs.AskLaws.{Kept}
-use Rattle.boot_laws.proofs.EntryLaws.{Fit, put-holds, Open, put-goes}
-use Rattle.boot_laws.proofs.InstallLaws.{First, first, differ, Same, same-start, put-same, put, then, put-kept}
+use Rattle.boot_laws.proofs.EntryLaws.{put-holds, Open, put-goes}
+use Rattle.boot_laws.proofs.InstallLaws.{first, differ, Same, same-start, put-same, put, then, put-kept}
 
 -- ── refusal 14: the threshold of each class that is locked is not 65535 then ──
 

@@ -12,7 +12,6 @@ use Rattle.rules.specs.Samples.{happens, positive, negative}
 use Rattle.rules.specs.State.{armed}
 use Rattle.rules.specs.declared.Handler.{Handler}
 use Rattle.rules.specs.declared.Input.{Input}
-use Rattle.rules.specs.declared.Wires.{Wires}
 use Rattle.policy.specs.Plan.{isA}
 use Rattle.policy.specs.Table.{alertCount, markAt}
 use Rattle.policy.specs.declared.Lifecycle.{Lifecycle}

@@ -1,8 +1,8 @@
 -- A tick with all wires at (0,1) whose access is accepted and clears nothing: no event comes.
 -- Assumes nothing.
 use Prim.Native.Nat.{ℕ, _≤_, _<_}
-use mathlib.Core.Path.{_≡_, refl, sym, ap, ap₂, _∙_, subst}
-use mathlib.Core.Bool.{Bool, true, false, true≢false, false≢true, cond, not, _&&_, _||_}
+use mathlib.Core.Path.{_≡_, refl, sym, ap, ap₂, _∙_}
+use mathlib.Core.Bool.{Bool, true, false, true≢false, false≢true, not, _&&_, _||_}
 use native.Mathlib.Omega.{arith}
 use borrow.Author.Tests.{ltb-true}
 use lib.Dec.{eqb, ltb}
@@ -10,13 +10,13 @@ use Rattle.bits.proofs.BitLaws.{bit-none, is-bitsOf}
 use Rattle.bits.proofs.IndexLaws.{and-true, any-none}
 use Rattle.bits.specs.Bits.{bit}
 use Rattle.class_rules.specs.Class.{enabled, stateOf, stateNumber}
-use Rattle.class_rules.specs.Step.{classEvent, trigger, due, counted, startsFrom, movedFrom, classStep}
+use Rattle.class_rules.specs.Step.{classEvent, counted, startsFrom, movedFrom, classStep}
 use Rattle.class_rules.specs.declared.Class.{Class}
 use Rattle.class_rules.specs.declared.ClassState.{ClassState}
 use Rattle.class_rules.specs.declared.ClassState.the-variants.{Idle}
 use Rattle.class_rules.specs.declared.Signals.{Signals}
-use Rattle.rules.specs.Access.{settingValue, value, verdict, accepts, accepted, accessedBy, accessed, acted, effects, clears}
-use Rattle.rules.specs.Samples.{happens, equal, positive, negative, alertEnabled, alertEvent, alertBroken, raised, occurs, sampled, assigned, marked}
+use Rattle.rules.specs.Access.{value, verdict, accepts, accepted, accessedBy, accessed, acted, effects, clears}
+use Rattle.rules.specs.Samples.{equal, negative, alertEnabled, alertEvent, alertBroken, raised, occurs, assigned, marked}
 use Rattle.rules.specs.State.{most, localCount, classCount, local, alert, armed, classAt}
 use Rattle.rules.specs.Tick.{event, interruptNow, signals, stepped, after}
 use Rattle.rules.specs.Valid.{valid}
@@ -27,13 +27,12 @@ use Rattle.rules.specs.declared.Handler.{Handler}
 use Rattle.rules.specs.declared.Input.{Input}
 use Rattle.rules.specs.declared.Register.{Register}
 use Rattle.rules.specs.declared.Register.the-variants.{IntrState, Local, Alert, Block}
-use Rattle.rules.specs.declared.Setting.{Setting}
 use Rattle.rules.specs.declared.Setting.the-variants.{AccumCnt}
 use Rattle.rules.specs.declared.Verdict.{Verdict}
 use Rattle.rules.specs.declared.Wires.{Wires}
 use Rattle.laws.specs.Frame.{movesItself}
-use Rattle.laws.specs.InMap.{inMap, settingExists}
-use Rattle.laws.specs.Quiet.{AtRest, settingRuns, runs}
+use Rattle.laws.specs.InMap.{inMap}
+use Rattle.laws.specs.Quiet.{AtRest, runs}
 use Rattle.laws.specs.RegisterFile.{commits}
 use Rattle.laws.proofs.Cases.{by-kind, by-field, by-setting}
 use Rattle.laws.proofs.Content.{acted-place}

@@ -1,0 +1,154 @@
+-- After a success, from any accepted state: the handler stands as the table says, and the rest is as before.
+-- Assumes nothing.
+use Prim.Native.Nat.{ℕ, _≤_, _<_}
+use mathlib.Core.Path.{_≡_, refl, sym, ap, _∙_, subst}
+use mathlib.Core.Bool.{true, false}
+use native.Mathlib.Omega.{arith}
+use borrow.Author.Tests.{lt-ltb}
+use lib.Dec.{eqb}
+use Rattle.bits.proofs.IndexLaws.{true-and}
+use Rattle.bits.specs.Bits.{bit}
+use Rattle.class_rules.specs.Class.{en, lock}
+use Rattle.laws.proofs.ValidLaws.{facts}
+use Rattle.laws.specs.InMap.{inMap}
+use Rattle.laws.specs.Quiet.{runs}
+use Rattle.laws.specs.StageFile.{names}
+use Rattle.rules.specs.Access.{value}
+use Rattle.rules.specs.Map.{decode, numberOf}
+use Rattle.rules.specs.Stages.{stage}
+use Rattle.rules.specs.State.{most, localCount, classCount, classAt}
+use Rattle.rules.specs.declared.Field.{Field}
+use Rattle.rules.specs.declared.Handler.{Handler}
+use Rattle.rules.specs.declared.Register.{Register}
+use Rattle.rules.specs.declared.Register.the-variants.{IntrState, IntrEnable, Local, Alert, Block}
+use Rattle.rules.specs.declared.Setting.the-variants.{Ctrl, AccumCnt}
+use Rattle.policy.specs.Install.{Ask, Entry, under, install, write, read, asks}
+use Rattle.policy.specs.Plan.{locks, ctrlOf, alertEntries, classEntries, planOf, boot}
+use Rattle.boot_laws.specs.Ran.{wants, reach, Among}
+use Rattle.boot_laws.specs.Ran.Among.{here, there}
+use Rattle.policy.specs.Sound.{unnamed, sound, planned}
+use Rattle.boot_laws.specs.Stands.{Success, Stands, AsBefore}
+use Rattle.policy.specs.declared.Installed.{Installed}
+use Rattle.policy.specs.declared.Lifecycle.{Lifecycle}
+use Rattle.policy.specs.declared.Progress.{Progress}
+use Rattle.boot_laws.proofs.AskLaws.{install-keeps, install-goes, Kept, reach-kept, install-kept, install-run}
+use Rattle.boot_laws.proofs.EntryLaws.{Fit, Settled, other-name, reach-stage}
+use Rattle.boot_laws.proofs.InstallLaws.{sound-fit, unnamed-at, all-asks, Same, same-start, install-holds}
+use Rattle.boot_laws.proofs.Members.{has-length, alert-part, class-part, lock-part, last-part}
+use Rattle.policy.proofs.PlanLaws.{plan-planned}
+use Rattle.boot_laws.proofs.QuietLaws.{quiet-write, quiet-read}
+use Rattle.boot_laws.proofs.Unnamed.{unplanned, local-out, cause-out, other-out, count-out}
+use Rattle.boot_laws.proofs.Boot.{plan-fits, begins, booted, Went, went}
+
+-- ── after a success, from any accepted state ──
+
+module _ (l : Lifecycle) (h : Handler) (w : Went l h) where
+  abbrev g : Handler
+  g = install (under h) (asks (planOf l)) .reached .handler
+
+  fits-it : sound (h .n) (planOf l) ≡ true
+  fits-it = plan-fits l (h .n) (w .large)
+
+  settled : (e : Entry) → Among e (planOf l) → Settled (e .register) (e .value) g
+  settled = install-holds h (planOf l) (w .good) fits-it (w .going)
+
+  holds : (e : Entry) → Among e (planOf l) → value g (e .register) ≡ e .value
+  holds e m = settled e m .0
+
+  -- class A has EN and LOCK where it is locked
+  ctrl-bits : locks l ≡ true → classAt g 0 .ctrl ≡ ctrlOf l 0 → (en (classAt g 0) ≡ true) × (lock (classAt g 0) ≡ true)
+  unfolding bit
+  ctrl-bits t e =
+      let d : ctrlOf l 0 ≡ 0x393F = rw t in
+      let c : classAt g 0 .ctrl ≡ 0x393F = e ∙ d in (ap (λ (x : ℕ). bit x 0) c, ap (λ (x : ℕ). bit x 1) c)
+
+  pub stands : Stands l g
+  unfolding alertEntries classEntries value
+  stands =
+      record {
+        class = λ i b. holds _ (alert-part l _ i b here);
+        enable = λ i b. holds _ (alert-part l _ i b (there here));
+        alertLocks = λ i b c d. holds _ (lock-part l i b c d);
+        thresh = λ k b. holds _ (class-part l _ k b here);
+        timeout = λ k b. holds _ (class-part l _ k b (there here));
+        lengths = λ k p b c. holds _ (class-part l _ k b (has-length l k p c));
+        ctrl = ctrl-is;
+        classLocks = λ c. let d = ctrl-bits c (ctrl-is 0 (omega arith)) in (holds _ (last-part l c), d .0, d .1);
+        unstaged = λ e m. settled e m .1;
+      }
+    where
+      ctrl-is : (k : ℕ) → k < classCount → value g (Block Ctrl k) ≡ ctrlOf l k
+      ctrl-is k b = holds _ (class-part l _ k b (there (there (there (there (there (there here)))))))
+
+  -- what the plan does not name
+  pub same : (o : Register) → inMap (h .n) o ≡ true → unnamed o (planOf l) ≡ true → runs o ≡ false → Same o h g
+  same o a u r =
+      install-goes (Same o h) (asks (planOf l))
+      (all-asks (λ x. (f : Handler) → Same o h f → wants f x ≡ true → Same o h (reach f x)) (planOf l) (λ e m.
+      let k = sound-fit (h .n) (planOf l) fits-it e m in
+      let d = unnamed-at o (planOf l) u e m in
+      (λ f s. quiet-write h f (s .kept) (e .register) (e .value) k o a r d s, λ f s. quiet-read h f (s .kept) (e .register) (e .value) k o a r d s)))
+      h (same-start o h (w .good)) (w .going)
+
+  -- its stage
+  stage-same : (o : Register) → inMap (h .n) o ≡ true → unnamed o (planOf l) ≡ true → stage g o ≡ stage h o
+  stage-same o a u =
+      install-keeps I (asks (planOf l))
+      (all-asks (λ x. (f : Handler) → I f → I (reach f x)) (planOf l) (λ e m.
+      let k = sound-fit (h .n) (planOf l) fits-it e m in
+      let d = unnamed-at o (planOf l) u e m in (
+        next (e .register) (e .value) k d (write (numberOf (e .register)) (e .value)) (λ f y. y),
+        next (e .register) (e .value) k d (read (numberOf (e .register)) (e .value)) (λ f y. y),
+      )))
+      (under h) (record { good = w .good; n = refl }, refl) .1
+    where
+      I : Handler → Type 0
+      I f = Kept h f × (stage f o ≡ stage h o)
+
+      next : (q : Register) (v : ℕ) → Fit (h .n) q v → (numberOf q ≡ numberOf o → ⊥) → (x : Ask)
+          → ((f : Handler) → eqb (numberOf (decode (f .n) (numberOf q))) (numberOf o) ≡ false → names f (x .access) o ≡ false)
+          → (f : Handler) → I f → I (reach f x)
+      next q v k d x y f i =
+          let a' : inMap (f .n) o ≡ true = ap (λ (n : ℕ). inMap n o) (i .0 .n) ∙ a in
+          let b : inMap (f .n) q ≡ true = ap (λ (n : ℕ). inMap n q) (i .0 .n) ∙ k .exists in
+          (reach-kept h f x (i .0), reach-stage f (i .0 .good) o a' x (y f (other-name f (i .0 .good) q v b (k .takes) o d)) ∙ i .1)
+
+  pub before : AsBefore l h g
+  unfolding numberOf
+  before =
+      record {
+        n = install-kept h (under h) (asks (planOf l)) (record { good = w .good; n = refl }) .n;
+        values = λ o a u r. same o a u r .holds;
+        stages = stage-same;
+        interrupts = same IntrState refl (free-of IntrState refl) refl .holds;
+        enables = same IntrEnable refl (free-of IntrEnable refl) refl .holds;
+        locals = λ f j b. let a = lt-ltb j localCount b in
+            let s = same (Local f j) a (free-of (Local f j) (local-out f j b)) refl in (s .holds, s .staged);
+        causes = λ i b. same (Alert Field.Cause i) (lt-ltb i (h .n) b) (free-of (Alert Field.Cause i) (cause-out i (below i b))) refl .holds;
+        counts = λ k b. same (Block AccumCnt k) (true-and (lt-ltb k classCount b) refl) (free-of (Block AccumCnt k) (count-out k b)) refl .holds;
+        others = λ f i a b.
+            let s = same (Alert f i) (lt-ltb i (h .n) b) (free-of (Alert f i) (other-out f i a (below i b))) refl in (s .holds, s .staged);
+      }
+    where
+      free-of : (o : Register) → planned (numberOf o) ≡ false → unnamed o (planOf l) ≡ true
+      free-of o p = unplanned (planOf l) o (plan-planned l) p
+
+      below : (i : ℕ) → i < h .n → i < most
+      below i b = let m : h .n ≤ most = facts h (w .good) .n in omega arith
+
+-- ── in the words of the boot ──
+
+module _ (l : Lifecycle) (h : Handler) (s : Success l h) where
+  is-it : boot l h ≡ install (under h) (asks (planOf l)) .reached
+  is-it = let w = went l h s in begins l h (w .good) (w .large)
+
+  -- all ticks of the plan ran
+  pub boot-ran : boot l h ≡ booted l h
+  boot-ran = is-it ∙ ap (λ (p : Progress). p .reached) (install-run h (asks (planOf l)) (went l h s .going))
+
+  -- each of the 58 alerts stands as the table says
+  pub boot-stands : Stands l (boot l h .handler)
+  boot-stands = subst (λ (r : Installed). Stands l (r .handler)) (sym is-it) (stands l h (went l h s))
+
+  pub boot-before : AsBefore l h (boot l h .handler)
+  boot-before = subst (λ (r : Installed). AsBefore l h (r .handler)) (sym is-it) (before l h (went l h s))
