@@ -30,7 +30,7 @@ use Rattle.rules.specs.declared.Register.{Register}
 use Rattle.rules.specs.declared.Register.the-variants.{IntrState}
 use Rattle.policy.specs.Install.{Ask, Entry, under, install, asks}
 use Rattle.policy.specs.Plan.{planOf, barred, boot}
-use Rattle.boot_laws.specs.Ran.{inputs, noAsk, All}
+use Rattle.boot_laws.specs.Ran.{inputs, noAsk, All, StoppedAt}
 use Rattle.boot_laws.specs.Ran.All.{none, more}
 use Rattle.policy.specs.Sound.{unnamed, unguarded, installable, sound, free}
 use Rattle.boot_laws.specs.Stands.{Success}
@@ -71,6 +71,16 @@ begins l h t a =
 -- what a success gives: register 0, answer 0 and the state after all ticks
 abbrev pub booted : Lifecycle → Handler → Installed
 booted l h = record { handler = run h (inputs (asks (planOf l))); answer = pos 0; register = 0 }
+
+-- a boot that begins succeeds, or stopped at the first answer that is not wanted, with what that tick gave
+pub boot-either : (l : Lifecycle) (h : Handler) → valid h ≡ true → alertCount ≤ h .n
+    → (boot l h ≡ booted l h) ⊎ ((s : Progress) × StoppedAt h (asks (planOf l)) s × (boot l h ≡ s .reached))
+boot-either l h t a = go (install (under h) (asks (planOf l)) .going) refl
+  where
+    go : (b : Bool) → install (under h) (asks (planOf l)) .going ≡ b
+        → (boot l h ≡ booted l h) ⊎ ((s : Progress) × StoppedAt h (asks (planOf l)) s × (boot l h ≡ s .reached))
+    go true g = inl (begins l h t a ∙ ap (λ (p : Progress). p .reached) (install-run h (asks (planOf l)) g))
+    go false g = inr (install (under h) (asks (planOf l)), install-stops h (asks (planOf l)) g, begins l h t a)
 
 -- from any accepted state of 58 alerts or more in which no register of the plan is locked or has another stage open, whatever the thresholds
 pub boot-succeeds : (l : Lifecycle) (h : Handler) → valid h ≡ true → alertCount ≤ h .n → free h (planOf l) ≡ true → boot l h ≡ booted l h
