@@ -42,6 +42,7 @@ use Rattle.policy.specs.Sound.{installable}
 use Rattle.policy.specs.declared.Progress.{Progress}
 use Rattle.boot_laws.proofs.AskLaws.{asked-wanted, asked-going, was-going, Kept, reach-kept, install-kept, install-run}
 use Rattle.policy.proofs.Asks.{install-append}
+use Rattle.boot_laws.proofs.Bools.{and-no}
 
 -- ── what the test of an entry says ──
 
@@ -69,10 +70,6 @@ as-read Way.Both e = refl
 as-read Way.OneClears e = refl
 as-read Way.ReadOnly e = refl
 as-read Way.WriteOnly e = sym e
-
-and-no : (b : Bool) → (b && false) ≡ false
-and-no true = refl
-and-no false = refl
 
 module _ (h : Handler) (t : valid h ≡ true) (q : Register) (v : ℕ) (a : inMap (h .n) q ≡ true) (p : plain q ≡ true) where
   pub names-it : decode (h .n) (numberOf q) ≡ q

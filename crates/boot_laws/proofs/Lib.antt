@@ -1,3 +1,4 @@
+pub mod Bools
 pub mod AskLaws
 pub mod EntryLaws
 pub mod InstallLaws

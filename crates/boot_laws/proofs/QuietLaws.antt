@@ -38,6 +38,7 @@ use Rattle.boot_laws.specs.Ran.{inputOf, wants, reach}
 use Rattle.boot_laws.proofs.AskLaws.{Kept, reach-kept}
 use Rattle.boot_laws.proofs.EntryLaws.{Fit, names-it, spares, other-name, reach-stage}
 use Rattle.boot_laws.proofs.InstallLaws.{Same}
+use Rattle.boot_laws.proofs.Bools.{and-no}
 
 -- all wires at (0,1)
 pub at-rest : (x : Access) → AtRest (rest x .sample .alerts)
@@ -93,10 +94,6 @@ module _ (h f : Handler) (w : Kept h f) (q : Register) (v : ℕ) (k : Fit (h .n)
   -- it clears nothing
   no-clear : (x : Access) → ((j : ℕ) → writesClr f x j ≡ false) → (j : ℕ) → j < classCount → clears f x j ≡ false
   no-clear x c j l = clears-if f x j l ∙ ap (λ (b : Bool). accepted f x && b) (c j) ∙ and-no (accepted f x)
-    where
-      and-no : (b : Bool) → (b && false) ≡ false
-      and-no true = refl
-      and-no false = refl
 
   write-clr : (j : ℕ) → writesClr f (Write (numberOf q) v) j ≡ false
   write-clr j =

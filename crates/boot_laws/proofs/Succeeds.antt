@@ -33,6 +33,7 @@ use Rattle.policy.specs.declared.Progress.{Progress}
 use Rattle.boot_laws.proofs.AskLaws.{Kept}
 use Rattle.boot_laws.proofs.EntryLaws.{put-holds, Open, put-goes}
 use Rattle.boot_laws.proofs.InstallLaws.{first, differ, Same, same-start, put-same, put, then, put-kept}
+use Rattle.boot_laws.proofs.Bools.{and-no}
 
 -- ── refusal 14: the threshold of each class that is locked is not 65535 then ──
 
@@ -45,10 +46,6 @@ regwen k = Block Setting.Regwen k
 -- it is not now, or it is written first
 abbrev pub Wise : ℕ → Handler → List Entry → Type 0
 Wise k h es = (value h (thresh k) ≡ 65535 → ⊥) ⊎ (ahead k es ≡ true)
-
-and-no : (b : Bool) → (b && false) ≡ false
-and-no true = refl
-and-no false = refl
 
 not-silly : (h : Handler) (q : Register) (v : ℕ) → ((k : ℕ) → q ≡ regwen k → value h (thresh k) ≡ 65535 → ⊥) → silly h q v ≡ false
 unfolding value

@@ -17,10 +17,7 @@ use Rattle.rules.specs.declared.Setting.the-variants.{AccumCnt}
 use Rattle.policy.specs.Install.{Entry}
 use Rattle.policy.specs.Sound.{unnamed, planned, allPlanned}
 use Rattle.policy.specs.Table.{alertCount}
-
-and-no : (b : Bool) → (b && false) ≡ false
-and-no true = refl
-and-no false = refl
+use Rattle.boot_laws.proofs.Bools.{and-no}
 
 -- a register whose number is no entry's kind
 pub unplanned : (es : List Entry) (o : Register) → allPlanned es ≡ true → planned (numberOf o) ≡ false → unnamed o es ≡ true

@@ -7,7 +7,7 @@ use lib.ListN.{getD, length, take, drop}
 use Rattle.rules.specs.Map.{numberOf, isShadowed}
 use Rattle.rules.specs.declared.Access.{Access}
 use Rattle.rules.specs.declared.Access.the-variants.{Read, Write}
-use Rattle.policy.specs.Install.{Ask, read, asksOf, asks}
+use Rattle.policy.specs.Install.{Ask, rest, read, asksOf, asks}
 use Rattle.policy.specs.Plan.{alertEntries, classEntries, lockEntries, classLock, partsTo, planOf}
 use Rattle.policy.specs.Table.{markAt}
 use Rattle.policy.specs.declared.Lifecycle.{Lifecycle}
@@ -32,6 +32,14 @@ wanted (a ∷ xs) = a .wanted ∷ wanted xs
 
 abbrev some : Lifecycle → ℕ → ℕ → List Ask
 some l t n = take n (drop t (asks (planOf l)))
+
+-- one access a tick with all wires at (0,1): 64 of them in each word
+wires : rest (Read 768) .sample .alerts
+    ≡ record {
+      pos = 0 ∷ 0 ∷ 0 ∷ 0 ∷ [];
+      neg = 0xFFFFFFFFFFFFFFFF ∷ 0xFFFFFFFFFFFFFFFF ∷ 0xFFFFFFFFFFFFFFFF ∷ 0xFFFFFFFFFFFFFFFF ∷ [];
+    }
+wires = refl
 
 -- two writes and a read for each of 116 alert registers and 28 class settings; a write and a read for each of 20 alert locks and the class lock
 ticks-of : (length (asks (planOf Prod)) ≡ 474) × (length (asks (planOf ProdEnd)) ≡ 474) × (length (asks (planOf Dev)) ≡ 432) × (length (asks (planOf Raw)) ≡ 432)
