@@ -12,3 +12,9 @@ pub mod After
 pub mod FromBoot
 pub mod StopLaws
 pub mod Examples
+pub mod AnyBoot
+pub mod Unlocked
+pub mod Course
+pub mod Ready
+pub mod StaysIdle
+pub mod BootExamples
