@@ -14,6 +14,7 @@
  *   tarravane_batch_24 33096 bytes
  *   tarravane_batch_70 33096 bytes
  *   tarravane_record 96 bytes
+ *   tarravane_install 0 bytes
  * Measured, not proved (tests/stack, the gate): each call ran on a stack filled with a pattern, with accesses of every kind
  * and lists of 0 to 300 entries, linked with -z now. Else the dynamic loader binds memcpy within the first call and takes
  * stack there: with it the first tarravane_new took 6600 bytes on the machine that was measured, the other calls no more. */
@@ -35,6 +36,7 @@ extern "C" {
 
 #define TARRAVANE_ALERTS 248   /* the most alerts that a handler is made for */
 #define TARRAVANE_ALERTS_24 64 /* the most that records of 24 bytes speak of */
+#define TARRAVANE_ALERTS_BOOT 58 /* those that a boot installs, from alert 0 on */
 #define TARRAVANE_WORDS 4      /* words of 64 that hold a bit of each alert */
 #define TARRAVANE_LOCALS 7     /* local alerts */
 #define TARRAVANE_CLASSES 4
@@ -155,6 +157,12 @@ struct tarravane_batched {
     int64_t answer;
 };
 
+struct tarravane_installed {
+    struct tarravane_handler handler;
+    int64_t answer;
+    uint16_t register_number; /* where it stopped, else 0 */
+};
+
 /* ---- Refusal numbers: an answer of -number ---- */
 
 #define TARRAVANE_NO_REGISTER 1   /* no such register */
@@ -170,6 +178,7 @@ struct tarravane_batched {
 #define TARRAVANE_NO_RECORD 10    /* an access that no well-formed record holds */
 #define TARRAVANE_SHORT_BUFFER 11 /* buffer shorter than the records to write */
 #define TARRAVANE_DIFFERS 12      /* second write differs from the first; the stage is dropped, local 5 occurs if enabled */
+#define TARRAVANE_FEW_ALERTS 13   /* n under 58, too few for a boot */
 #define TARRAVANE_THRESHOLD 14    /* a 0 to a class REGWEN that is still 1, while EN is 1 and ACCUM_THRESH 65535 */
 
 /* ---- Kinds of access ---- */
@@ -223,6 +232,16 @@ struct tarravane_batched {
 #define TARRAVANE_TIMEOUT 1
 #define TARRAVANE_TERMINAL 3
 #define TARRAVANE_PHASE(p) (4 + (p))
+
+/* ---- Lifecycles: the columns of document 002's classification; RAW and TEST are one ---- */
+
+#define TARRAVANE_LIFECYCLE_RAW 0
+#define TARRAVANE_LIFECYCLE_TEST 0
+#define TARRAVANE_LIFECYCLE_PROD 1
+#define TARRAVANE_LIFECYCLE_PROD_END 2
+#define TARRAVANE_LIFECYCLE_DEV 3
+#define TARRAVANE_LIFECYCLE_RMA 4
+#define TARRAVANE_LIFECYCLE_SCRAP 5
 
 /* ---- A word of a batch ---- */
 
@@ -280,6 +299,23 @@ int64_t tarravane_record(const uint8_t *kinds, size_t kinds_length, const uint16
                          const uint32_t *values, size_t values_length, const uint64_t *positive, size_t positive_length,
                          const uint64_t *negative, size_t negative_length, uint8_t *bytes, size_t length);
 
+/* Boots the state h: installs document 002's classification of alerts 0 to 57 and its class settings for the lifecycle, one
+ * access a tick with all wires at (0,1). In this order, numbers rising: CLASS, then EN of each alert; ACCUM_THRESH,
+ * TIMEOUT_CYC, PHASE0_CYC to PHASE3_CYC and CTRL of each class; REGWEN of each alert that is locked, and of class A. Each is
+ * written, twice where it is shadowed, and read back right after.
+ * An alert that the table marks X gets CLASS 0 and EN 0, one marked A to D its class and EN 1. CTRL is 0x393C, with EN for
+ * A and B in PROD, PROD_END and DEV, and with LOCK for A in PROD and PROD_END. Alerts marked A and class A are locked there
+ * alone. Local alerts and alerts from 58 up are not written.
+ * A lifecycle over 5 is none: PROD_END is installed then, the strictest.
+ * Answers 0 with register_number 0 where all of it is installed and read back; a new handler of 58 alerts or more always
+ * gets there. Else it stops, register_number names the register, and the state is the one reached: what was written stays.
+ * It stops at the first refusal and answers -number, or at the first register that does not read what was written and
+ * answers what it reads. -3: the register is locked, as after an earlier boot. -12: a stage that differs was left open; it
+ * is dropped.
+ * -7: the state breaks its rule. -13: n is under 58. In this order; either leaves the state unchanged, runs no tick and has
+ * register_number 0. */
+struct tarravane_installed tarravane_install(struct tarravane_handler h, uint8_t lifecycle);
+
 /* ---- The layout that the library has ---- */
 
 TARRAVANE_ASSERT(sizeof(size_t) == 8);
@@ -335,6 +371,9 @@ TARRAVANE_ASSERT(offsetof(struct tarravane_answered, answer) == 1912);
 TARRAVANE_ASSERT(offsetof(struct tarravane_answered, output) == 1920);
 TARRAVANE_ASSERT(sizeof(struct tarravane_batched) == 1920);
 TARRAVANE_ASSERT(offsetof(struct tarravane_batched, answer) == 1912);
+TARRAVANE_ASSERT(sizeof(struct tarravane_installed) == 1928);
+TARRAVANE_ASSERT(offsetof(struct tarravane_installed, answer) == 1912);
+TARRAVANE_ASSERT(offsetof(struct tarravane_installed, register_number) == 1920);
 
 #ifdef __cplusplus
 }

@@ -1,7 +1,7 @@
 /* The boundary from C's side: every field crosses to its register and back, a damaged field gets refusal 7, shadowed registers
- * take two equal writes, a class that waits for 65,536 events is not locked, a batch and the writer stay in their buffers,
- * example traces give the same words by batch, by single ticks and by the replay program, and the writer gives their bytes
- * again.
+ * take two equal writes, a class that waits for 65,536 events is not locked, a boot installs each lifecycle's policy or stops
+ * where it must, a batch and the writer stay in their buffers, example traces give the same words by batch, by single ticks
+ * and by the replay program, and the writer gives their bytes again.
  * usage: boundary [TRACE WORDS]...   WORDS: what the replay program printed of TRACE, or - for none */
 #include "boundary.h"
 
@@ -88,6 +88,8 @@ int main(int argc, char **argv) {
     test_states();
     test_stages();
     test_threshold();
+    test_boot();
+    test_boot_stops();
     test_writer();
     for (int i = 1; i + 1 < argc; i += 2) test_trace(argv[i], argv[i + 1]);
     printf("boundary: %lu checks from C hold\n", checks);

@@ -57,6 +57,25 @@ const struct shadowed *all_shadowed(void);
 uint64_t stage_of(const handler *h, const struct shadowed *s);
 void set_stage(handler *h, const struct shadowed *s, uint64_t code);
 
+/* ---- Boots ---- */
+
+/* The lifecycles; a number from here on is none. */
+#define LIFECYCLES 6
+
+/* What a boot writes, in its order: first the shadowed registers, then the locks. */
+#define BOOT_SHADOWED (2 * TARRAVANE_ALERTS_BOOT + TARRAVANE_CLASSES * (3 + TARRAVANE_PHASES))
+struct boot_entry {
+    int number; /* of the register */
+    uint32_t value;
+};
+struct boot_entry boot_entry(int lifecycle, int e);
+
+/* How many entries there are. */
+int boot_entries(int lifecycle);
+
+/* The state with the first e entries installed, put into their fields without a tick. */
+handler booted(handler h, int lifecycle, int e);
+
 /* ---- Records ---- */
 
 /* The word of a tick says what the tick gave. */
@@ -79,6 +98,8 @@ void test_accesses(void);
 void test_states(void);
 void test_stages(void);
 void test_threshold(void);
+void test_boot(void);
+void test_boot_stops(void);
 void test_writer(void);
 void test_trace(const char *trace, const char *printed);
 

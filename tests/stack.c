@@ -60,6 +60,12 @@ static void call_record(void)
                      sizeof bytes);
 }
 
+static void call_install(void)
+{
+    NOTE_FRAME();
+    state = tarravane_install(state, (uint8_t)(entries % 8)).handler;
+}
+
 /* The bytes below the caller's frame that the call changed. */
 static size_t depth_of(void (*call)(void))
 {
@@ -157,6 +163,7 @@ static const struct call {
     {"tarravane_batch_24", call_batch_24, pack_24, TARRAVANE_ALERTS_24},
     {"tarravane_batch_70", call_batch_70, call_record, TARRAVANE_ALERTS},
     {"tarravane_record", call_record, call_record, TARRAVANE_ALERTS},
+    {"tarravane_install", call_install, call_record, TARRAVANE_ALERTS},
 };
 
 static size_t most_of(const struct call *c)

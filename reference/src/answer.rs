@@ -1,7 +1,7 @@
 //! The refusals and the signed number that every call answers.
 
-/// Why an access, a batch, the making of a handler or the writing of a trace
-/// was refused.
+/// Why an access, a batch, the making of a handler, the writing of a trace or a
+/// boot was refused.
 #[derive(Clone, Copy, Debug, PartialEq, Eq)]
 pub enum Refusal {
     /// No such register.
@@ -29,6 +29,8 @@ pub enum Refusal {
     ShortBuffer = 11,
     /// The written value differs from the one that the register's stage holds.
     StageDiffers = 12,
+    /// The handler has fewer alerts than the boot policy names.
+    TooFewAlerts = 13,
     /// A class that waits for 65,536 events is not to be locked so.
     SillyThreshold = 14,
 }

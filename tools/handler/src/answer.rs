@@ -13,6 +13,8 @@ impl Refusal {
     pub const SHORT_BUFFER: Refusal = Refusal(11);
     /// A second write that differs from the first. The stage is dropped, and local alert 5 occurs if it is enabled.
     pub const DIFFERS: Refusal = Refusal(12);
+    /// Fewer alerts than a boot installs. Nothing is changed.
+    pub const FEW_ALERTS: Refusal = Refusal(13);
     /// A class with EN that waits for 65,536 events is not locked so. Nothing is changed.
     pub const THRESHOLD: Refusal = Refusal(14);
 }

@@ -1,21 +1,28 @@
 //! The proved alert handler, for Rust. Every call asks the proved library `boundary`; nothing is decided here. Beside them
-//! `registers` has the names and numbers of the registers, for tools.
+//! `registers` has the names and numbers of the registers, and `boot` the accesses of a boot, for tools.
 //!
 //! The promises stand in `include/tarravane.h` and are proved in `crates/boundary`.
 #![deny(missing_docs)]
 
+mod alert_names;
 mod answer;
+pub mod boot;
 mod edition;
 mod input;
+mod installed;
 mod library;
+mod lifecycle;
 pub mod registers;
 mod state;
 mod word;
 mod writer;
 
+pub use alert_names::ALERT_NAMES;
 pub use answer::{Answer, Refusal};
 pub use edition::Edition;
 pub use input::{Access, Input, Wires};
+pub use installed::Installed;
+pub use lifecycle::Lifecycle;
 pub use state::{
     AlertStages, Alerts, Class, ClassStages, Handler, Interrupts, LocalStages, Locals, Output,
     Receivers, Stages, ALERTS, CLASSES, LOCALS, PHASES, WORDS,
@@ -59,5 +66,23 @@ impl Handler {
     pub fn batch(self, edition: Edition, bytes: &[u8], out: &mut [Word]) -> (Handler, Answer) {
         let given = library::batch(self, edition, bytes, out);
         (given.handler, Answer(given.answer))
+    }
+
+    /// Boots: installs document 002's classification of alerts 0 to 57 and its class settings, one access a tick with all
+    /// wires at rest, reads each register back right after its writes, and stops at the first refusal or difference; what
+    /// was written stays. A new handler of 58 alerts or more always gets all of it. Refusals 7 and 13 (fewer than 58
+    /// alerts), 7 first: state unchanged, no tick run.
+    pub fn install(self, lifecycle: Lifecycle) -> Installed {
+        self.install_number(lifecycle.number())
+    }
+
+    /// The same by the lifecycle's number. One over 5 is none: PROD_END is installed then, the strictest.
+    pub fn install_number(self, lifecycle: u8) -> Installed {
+        let given = library::install(self, lifecycle);
+        Installed {
+            handler: given.handler,
+            answer: Answer(given.answer),
+            register: given.register,
+        }
     }
 }

@@ -23,6 +23,13 @@ pub struct Batched {
     pub answer: i64,
 }
 
+#[repr(C)]
+pub struct Installed {
+    pub handler: Handler,
+    pub answer: i64,
+    pub register: u16,
+}
+
 extern "C" {
     fn tarravane_new(n: usize) -> Made;
     fn tarravane_tick(h: Handler, kind: u8, register: u16, value: u32, wires: Wires) -> Answered;
@@ -54,6 +61,7 @@ extern "C" {
         bytes: *mut u8,
         length: usize,
     ) -> i64;
+    fn tarravane_install(h: Handler, lifecycle: u8) -> Installed;
 }
 
 pub fn new(n: usize) -> Made {
@@ -64,6 +72,11 @@ pub fn new(n: usize) -> Made {
 pub fn tick(h: Handler, kind: u8, register: u16, value: u32, wires: Wires) -> Answered {
     // Safe: integers in, integers out, no precondition.
     unsafe { tarravane_tick(h, kind, register, value, wires) }
+}
+
+pub fn install(h: Handler, lifecycle: u8) -> Installed {
+    // Safe: integers in, integers out, no precondition.
+    unsafe { tarravane_install(h, lifecycle) }
 }
 
 pub fn batch(h: Handler, edition: Edition, bytes: &[u8], out: &mut [Word]) -> Batched {

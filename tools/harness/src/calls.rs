@@ -1,10 +1,12 @@
 //! Calls of the proved library beside the reference: what they get, the same
 //! state on both sides, and what differs.
 
+mod found;
 mod input;
 mod odd;
 mod twin;
 
+pub use found::Found;
 pub use input::{access, record, register, wires};
 pub use odd::Odd;
 pub use twin::{handler_of, reference_access, reference_edition, reference_of, with_spare};

@@ -1,10 +1,11 @@
 //! Test harness of the alert handler: generated traces go through a program
 //! and through the reference, and both outputs are compared to the byte.
-//! Damaged states and lists for the trace writer go through the proved library
-//! and the reference in this process, and both are timed side by side. Words
+//! Damaged states, boots and lists for the trace writer go through the proved
+//! library and the reference in this process, and both are timed side by side. Words
 //! that a program gave once are kept, and another one's are compared with them.
 
 pub mod bench;
+pub mod boot;
 pub mod calls;
 pub mod compare;
 pub mod configure;

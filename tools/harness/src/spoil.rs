@@ -5,11 +5,12 @@ mod place;
 mod slot;
 mod way;
 
+pub use fit::{fit, fit_thresholds};
 pub use place::Place;
 pub use way::{Way, WAYS};
 
 use crate::rng::Rng;
-use fit::{fit, fit_stages, fit_thresholds};
+use fit::fit_stages;
 use handler::{Handler, ALERTS, CLASSES};
 
 /// Changes a state in this way.

@@ -2,14 +2,12 @@
 //! the reference, from the same state with the same input.
 
 mod both;
-mod found;
 mod lists;
 mod pool;
 mod run;
 mod subject;
 mod summary;
 
-pub use found::Found;
 pub use run::{try_all, DEFAULT_STATES};
 pub use subject::{Subject, PROVED};
 pub use summary::Summary;

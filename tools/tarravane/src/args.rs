@@ -1,4 +1,5 @@
 //! The words after each command.
+pub mod boot;
 pub mod explain;
 mod range;
 pub mod record;

@@ -1,5 +1,32 @@
 //! The help of each command.
 
+pub const BOOT: &str = "\
+usage: ./tarravane boot [--alerts N] [--trace FILE] [--] LIFECYCLE
+
+Makes a new handler, has the proved installer boot it, and shows what the state that came back holds.
+LIFECYCLE is RAW, TEST, PROD, PROD_END, DEV, RMA or SCRAP, in any letter case; RAW and TEST are one
+column of document 002's classification.
+
+  --alerts N       the alerts of the handler, 1 to 248; 58 unless it is given. With fewer than 58 the
+                   installer refuses
+  --trace FILE     write the boot, from the new handler to the last read, as a trace of the newest
+                   edition, which replay, explain and wave take. The file is there whole or not at all,
+                   and not where the boot did not come to its end
+  --help           this text
+
+A row for each of the 58 alerts: its number, its name, the class A to D, or X for CLASS 0 and EN 0,
+then EN, and whether its REGWEN has locked both. A row for each class: ACCUM_THRESH, TIMEOUT_CYC,
+PHASE0_CYC to PHASE3_CYC, CTRL, and whether its REGWEN has locked them.
+The last line says how the boot ended: `installed:` where every register that was written reads back,
+`stopped:` with the register and the reason, the rows then as they were left, or `refused:`.
+
+Exit status:
+  0  all of it is installed
+  1  it stopped or was refused
+  2  usage, a lifecycle or a number that there is not, a failed write: one line on standard error says
+     which
+";
+
 pub const EXPLAIN: &str = "\
 usage: ./tarravane explain [OPTION..] [--] TRACE
 

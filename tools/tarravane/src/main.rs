@@ -2,6 +2,7 @@
 mod alert_bits;
 mod args;
 mod back;
+mod boot;
 mod end;
 mod explain;
 mod facts;
@@ -28,6 +29,13 @@ fn helped(text: &str) -> Result<End, String> {
         out.write_all(text.as_bytes())?;
         Ok(End::Whole)
     })
+}
+
+fn boot(words: &[String]) -> Result<End, String> {
+    match args::boot::parse(words)? {
+        Asked::Help => helped(help::BOOT),
+        Asked::Run(asked) => boot::run(&asked),
+    }
 }
 
 fn explain(words: &[String]) -> Result<End, String> {
@@ -63,6 +71,7 @@ fn run(words: &[String]) -> Result<End, String> {
         .split_first()
         .map(|(first, rest)| (first.as_str(), rest))
     {
+        Some(("boot", rest)) => boot(rest),
         Some(("explain", rest)) => explain(rest),
         Some(("record", rest)) => record(rest),
         Some(("wave", rest)) => wave(rest),

@@ -88,9 +88,11 @@ pub fn refusal(refusal: Refusal, reads: bool) -> &'static str {
         3 => "locked",
         4 => "too wide",
         5 => "malformed",
+        7 => "the state breaks its rule",
         10 => "no record holds it",
         11 => "buffer too short",
         12 => "differs",
+        13 => "too few alerts",
         14 => "threshold",
         _ => "refused",
     }

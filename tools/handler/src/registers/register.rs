@@ -63,6 +63,11 @@ impl Register {
         }
     }
 
+    /// How many equal writes give it a value.
+    pub fn writes(self) -> usize {
+        1 + usize::from(self.is_shadowed())
+    }
+
     /// The register of this name; whether an edition has that alert, its map says.
     pub fn named(name: &str) -> Option<Register> {
         match name {

@@ -1,5 +1,8 @@
 //! What a comparison with the reference finds.
 
+use crate::spoil::Place;
+use handler::Handler;
+
 /// Something that is not as the reference has it.
 #[derive(Debug)]
 pub struct Odd {
@@ -27,6 +30,26 @@ impl Odd {
             reference: reference.to_string(),
             got: got.to_string(),
         }
+    }
+
+    /// The first number of a call that differs: its name, the reference's, and the one that came.
+    pub fn first(call: &'static str, pairs: &[(&str, i64, i64)]) -> Option<Odd> {
+        let (field, reference, got) = pairs.iter().find(|pair| pair.1 != pair.2)?;
+        Some(Odd::new(call, field, reference, got))
+    }
+
+    /// The first field of the next state that differs.
+    pub fn state(call: &'static str, wanted: &Handler, got: &Handler) -> Option<Odd> {
+        if wanted == got {
+            return None;
+        }
+        let mut places = Place::all().into_iter();
+        let place = places.find(|place| place.get(wanted) != place.get(got));
+        let hex = |state| place.map_or(String::new(), |place| format!("{:#x}", place.get(state)));
+        let name = place.map_or("a field without a name".to_string(), |place| {
+            place.to_string()
+        });
+        Some(Odd::new(call, name, hex(wanted), hex(got)))
     }
 
     /// The word at this place of a call's list.

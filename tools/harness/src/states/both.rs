@@ -7,7 +7,6 @@ use crate::calls::{
     access, handler_of, reference_access, reference_edition, reference_of, wires, with_spare, Odd,
 };
 use crate::rng::Rng;
-use crate::spoil::Place;
 use handler::{Edition, Handler};
 
 /// The answer to a state that breaks the rule.
@@ -29,7 +28,7 @@ pub fn tick(
         summary.ticks[wanted.answer.min(0).unsigned_abs() as usize] += 1;
     }
     let (interrupts, lines) = (got.output.interrupts, got.output.lines);
-    first_odd(
+    Odd::first(
         "tick",
         &[
             (
@@ -44,7 +43,7 @@ pub fn tick(
     )
     .or_else(|| {
         let wanted = with_spare(handler_of(&twin), state);
-        state_odd("tick", &wanted, &got.handler)
+        Odd::state("tick", &wanted, &got.handler)
     })
 }
 
@@ -71,7 +70,7 @@ pub fn batch(
         ("answer 7", i64::from(refused), i64::from(got == BROKEN)),
         ("answer", wanted, got),
     ];
-    first_odd("batch", &pairs)
+    Odd::first("batch", &pairs)
         .or_else(|| word_odd(&numbers, &lists.numbers()))
         .or_else(|| {
             let field = lists.disturbed(&before)?;
@@ -79,32 +78,12 @@ pub fn batch(
         })
         .or_else(|| {
             let wanted = with_spare(handler_of(&twin), state);
-            state_odd("batch", &wanted, &after)
+            Odd::state("batch", &wanted, &after)
         })
-}
-
-/// The first number that differs.
-fn first_odd(call: &'static str, pairs: &[(&str, i64, i64)]) -> Option<Odd> {
-    let (field, reference, got) = pairs.iter().find(|pair| pair.1 != pair.2)?;
-    Some(Odd::new(call, field, reference, got))
 }
 
 /// The first word that differs; later words count too.
 fn word_odd(wanted: &[u64], got: &[u64]) -> Option<Odd> {
     let at = (0..wanted.len()).find(|at| wanted[*at] != got[*at])?;
     Some(Odd::word("batch", at, wanted[at], got[at]))
-}
-
-/// The first field of the next state that differs.
-fn state_odd(call: &'static str, wanted: &Handler, got: &Handler) -> Option<Odd> {
-    if wanted == got {
-        return None;
-    }
-    let mut places = Place::all().into_iter();
-    let place = places.find(|place| place.get(wanted) != place.get(got));
-    let hex = |state| place.map_or(String::new(), |place| format!("{:#x}", place.get(state)));
-    let name = place.map_or("a field without a name".to_string(), |place| {
-        place.to_string()
-    });
-    Some(Odd::new(call, name, hex(wanted), hex(got)))
 }

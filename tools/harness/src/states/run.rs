@@ -1,11 +1,10 @@
 //! The run over states, one seed each.
 
 use super::both::{batch, tick};
-use super::found::Found;
 use super::pool::{Pool, BLOCK};
 use super::subject::Subject;
 use super::summary::Summary;
-use crate::calls::reference_of;
+use crate::calls::{reference_of, Found};
 use crate::rng::Rng;
 use crate::spoil::{spoil, Place, WAYS};
 
@@ -23,7 +22,7 @@ pub fn try_all(subject: &Subject, seed: u64, states: u64, summary: &mut Summary)
         }
         let mut rng = Rng::new(seed ^ (0xA5 << 56));
         let mut state = pool.states[(seed % BLOCK) as usize];
-        let (way, _) = rng.pick(&WAYS);
+        let (way, name) = rng.pick(&WAYS);
         spoil(way, &places, &mut rng, &mut state);
         let valid = reference_of(&state).valid();
         summary.states += 1;
@@ -31,7 +30,11 @@ pub fn try_all(subject: &Subject, seed: u64, states: u64, summary: &mut Summary)
         let odd = tick(subject, &state, &mut rng, summary)
             .or_else(|| batch(subject, &state, &mut rng, summary));
         if let Some(odd) = odd {
-            return Some(Found { seed, way, odd });
+            return Some(Found {
+                seed,
+                way: name,
+                odd,
+            });
         }
     }
     None

@@ -1,6 +1,7 @@
 //! The commands that ask the proved library, and what all of them print; each says whether all was equal.
 
 use crate::trouble::Trouble;
+use harness::boot::{self, try_boots};
 use harness::compare::Case;
 use harness::report::{report, times, verdict};
 use harness::states::{self, try_all};
@@ -23,6 +24,16 @@ pub fn damaged_states(seed: u64, states: u64) -> Result<bool, Trouble> {
     let found = try_all(&states::PROVED, seed, states, &mut summary);
     tell(begin, &summary, found, |found| {
         format!("states --states 1 --seed {}", found.seed)
+    })
+}
+
+/// Tries boots and prints how many came to their end.
+pub fn boots(seed: u64, boots: u64) -> Result<bool, Trouble> {
+    let begin = Instant::now();
+    let mut summary = boot::Summary::default();
+    let found = try_boots(boot::PROVED, seed, boots, &mut summary);
+    tell(begin, &summary, found, |found| {
+        format!("boot --boots 1 --seed {}", found.seed)
     })
 }
 

@@ -6,8 +6,9 @@ mod sets;
 mod trouble;
 mod words;
 
-use commands::{bench, damaged_states, print_trace, written_lists};
+use commands::{bench, boots, damaged_states, print_trace, written_lists};
 use golden::{hold, keep, FILE};
+use harness::boot::DEFAULT_BOOTS;
 use harness::compare::{damage, generated, DEFAULT_SEED};
 use harness::report::progress;
 use harness::states::DEFAULT_STATES;
@@ -45,6 +46,13 @@ fn command(mut words: Vec<String>) -> Result<bool, Trouble> {
             let options = only(&["--states", "--seed"])?;
             let states = options.get("--states").unwrap_or(DEFAULT_STATES);
             damaged_states(first(&options), states)
+        }
+        ["boot"] => {
+            let options = only(&["--boots", "--seed"])?;
+            boots(
+                first(&options),
+                options.get("--boots").unwrap_or(DEFAULT_BOOTS),
+            )
         }
         ["write"] => {
             let options = only(&["--lists", "--seed"])?;

@@ -13,6 +13,7 @@ const USAGE: &str = "usage:
                                                  else those in tools/harness/golden.txt
   harness golden REPLAY --write                  such a file of what REPLAY gives
   harness states [--states N] [--seed S]         damaged states through the proved library
+  harness boot [--boots N] [--seed S]            boots through the proved installer
   harness write [--lists N] [--seed S]           lists through the proved trace writer
   harness bench                                  times of proved library and reference
 REPLAY is the program to compare with the reference. --edition 24 or --edition 70 names

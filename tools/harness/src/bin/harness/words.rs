@@ -7,7 +7,8 @@ use harness::generate::Kind;
 use std::str::FromStr;
 
 /// The options, each with a number.
-const NAMES: [&str; 6] = [
+const NAMES: [&str; 7] = [
+    "--boots",
     "--edition",
     "--lists",
     "--records",

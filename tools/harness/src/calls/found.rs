@@ -1,7 +1,6 @@
 //! A difference that a run over states found.
 
-use crate::calls::Odd;
-use crate::spoil::{Way, WAYS};
+use super::odd::Odd;
 use std::fmt;
 
 /// A state that shows a difference.
@@ -10,18 +9,17 @@ pub struct Found {
     /// Its seed: a run of one state with it repeats it.
     pub seed: u64,
     /// How it was made.
-    pub way: Way,
+    pub way: &'static str,
     /// What differs.
     pub odd: Odd,
 }
 
 impl fmt::Display for Found {
     fn fmt(&self, out: &mut fmt::Formatter) -> fmt::Result {
-        let (seed, name) = (self.seed, WAYS[self.way as usize].1);
-        let odd = &self.odd;
+        let Found { seed, way, odd } = self;
         writeln!(
             out,
-            "DIFFERENT: state seed {seed} ({name}), {}, {}",
+            "DIFFERENT: state seed {seed} ({way}), {}, {}",
             odd.call, odd.field
         )?;
         writeln!(out, "reference: {}", odd.reference)?;

@@ -1,0 +1,173 @@
+//! The boot as a list of accesses, on new and on used handlers.
+
+mod common;
+
+use common::policy::{boot, booted, configured, success, LIFECYCLES};
+use common::{new, raised, read, tick, write, Numbers, REST};
+use reference::class::{IDLE, PHASE0};
+use reference::installer::{self, accesses, steps};
+use reference::policy::CLASSIFICATION;
+use reference::{install, Access, Handler};
+
+#[test]
+fn the_table_s_ids_are_its_places() {
+    for (place, (name, id, _)) in CLASSIFICATION.iter().enumerate() {
+        assert_eq!(usize::from(*id), place, "{name}");
+    }
+}
+
+#[test]
+fn the_accesses_come_in_the_request_s_order() {
+    for lifecycle in LIFECYCLES {
+        let expected = boot(lifecycle);
+        let plain: Vec<_> = expected.iter().map(|row| row.0).collect();
+        assert_eq!(accesses(lifecycle), plain);
+        let goes_on = steps(lifecycle)
+            .into_iter()
+            .flat_map(|step| step.accesses().into_iter().map(move |a| step.expected(a)));
+        assert!(goes_on.eq(expected.iter().map(|row| row.1)));
+    }
+}
+
+/// The register of an access of a boot.
+fn register(access: Access) -> u16 {
+    match access {
+        Access::Read { register } | Access::Write { register, .. } => register,
+        _ => panic!("no register"),
+    }
+}
+
+#[test]
+fn it_stops_at_any_other_answer() {
+    // The handler never reads back another value, so the answers are made up.
+    for lifecycle in LIFECYCLES {
+        let list = boot(lifecycle);
+        for (at, (access, goes_on)) in list.iter().enumerate() {
+            for other in [-3, goes_on ^ 1, 0xFFFF_FFFE] {
+                let mut ticks = 0;
+                let stopped = installer::boot(lifecycle, |asked| {
+                    assert_eq!(asked, list[ticks].0);
+                    ticks += 1;
+                    match ticks - 1 {
+                        tick if tick == at => other,
+                        tick => list[tick].1,
+                    }
+                });
+                assert_eq!(stopped, (other, register(*access)));
+                assert_eq!(ticks, at + 1);
+            }
+        }
+    }
+}
+
+#[test]
+fn all_wires_are_at_rest() {
+    for n in [58, 248] {
+        let mut h = new(n);
+        h.armed = [false; 248];
+        let h = success(h, 1);
+        assert_eq!(h.armed, std::array::from_fn(|i| i < n as usize));
+    }
+}
+
+#[test]
+fn what_the_policy_does_not_name_stays() {
+    for lifecycle in LIFECYCLES {
+        let mut h = new(248);
+        (h.intr_state, h.intr_enable) = (9, 10);
+        let others = h.locals.iter_mut().chain(&mut h.alerts[58..]);
+        for (at, source) in others.enumerate() {
+            (source.en, source.class, source.cause) = (1, at as u8 % 4, 1);
+        }
+        for (i, alert) in h.alerts[..58].iter_mut().enumerate() {
+            (alert.en, alert.class, alert.cause) = (i as u8 % 2, 3 - i as u8 % 4, 1);
+        }
+        for class in &mut h.classes {
+            (class.clr_regwen, class.accum_cnt, class.accum_thresh) = (0, 7, 9);
+        }
+        for register in [24, 38, 570, 826, 759, 1015] {
+            assert_eq!(write(&mut h, register, 1), 0);
+        }
+        // Locked, stages and all.
+        (h.locals[6].regwen, h.alerts[58].regwen) = (0, 0);
+        assert_eq!(success(h.clone(), lifecycle), booted(h, lifecycle));
+    }
+}
+
+#[test]
+fn a_booted_handler_escalates_as_the_policy_means() {
+    let mut h = success(new(58), 1);
+    // An alert of class C, then one of D: a cause and no more.
+    tick(&mut h, Access::None, raised(&[0]));
+    tick(&mut h, Access::None, raised(&[0, 57]));
+    assert_eq!((h.alerts[0].cause, h.alerts[57].cause), (1, 1));
+    assert_eq!((h.intr_state, h.classes.map(|c| c.state)), (0, [IDLE; 4]));
+    tick(&mut h, Access::None, raised(&[0, 57, 31]));
+    assert_eq!((h.classes[1].state, write(&mut h, 1299, 1)), (PHASE0, 0));
+    assert_eq!(tick(&mut h, Access::None, raised(&[14])).lines, 1);
+    assert_eq!((h.classes[0].state, write(&mut h, 1283, 1)), (PHASE0, -3));
+    // Only what is A is locked.
+    for (register, answer) in [(782, -3), (526, -3), (1281, -3), (799, 0), (1297, 0)] {
+        assert_eq!(write(&mut h, register, 0), answer, "{register}");
+    }
+}
+
+/// A handler after a random life: stages, events, now and then a lock.
+fn random(numbers: &mut Numbers, n: u64, locks: bool) -> Handler {
+    let mut h = new(n);
+    for _ in 0..numbers.below(400) {
+        let rows = configured(numbers.below(6) as u8);
+        let (register, value) = rows[numbers.below(rows.len() as u64) as usize];
+        let value = match numbers.below(8) {
+            0 => value ^ 1,
+            _ => value,
+        };
+        let access = match numbers.below(100) {
+            0 if locks => Access::Write {
+                register: 256 + numbers.below(58) as u16,
+                value: 0,
+            },
+            1 => Access::Write {
+                register: 1,
+                value: numbers.below(16) as u32,
+            },
+            2..=9 => Access::None,
+            _ => Access::Write { register, value },
+        };
+        tick(&mut h, access, raised(&[numbers.below(n) as usize]));
+        // Most stages are closed again.
+        if numbers.below(16) != 0 {
+            read(&mut h, register);
+        }
+    }
+    h
+}
+
+#[test]
+fn a_boot_is_its_accesses_up_to_the_first_that_stops() {
+    let mut numbers = Numbers(61);
+    let mut seen = [0; 3];
+    for round in 0..600 {
+        let n = [58, 64, 248][round % 3];
+        let lifecycle = numbers.below(6) as u8;
+        let start = random(&mut numbers, n, round % 2 == 0);
+        let (mut h, mut stopped) = (start.clone(), (0, 0));
+        for (access, goes_on) in boot(lifecycle) {
+            let answer = tick(&mut h, access, REST).answer;
+            if answer != goes_on {
+                stopped = (answer, register(access));
+                break;
+            }
+        }
+        let installed = install(start, lifecycle);
+        assert_eq!((installed.answer, installed.register), stopped);
+        assert_eq!(installed.handler, h);
+        match stopped.0 {
+            0 => seen[0] += 1,
+            -3 => seen[1] += 1,
+            -12 => seen[2] += 1,
+            answer => panic!("{answer}"),
+        }
+    }
+    assert!(seen.iter().all(|many| *many > 20), "{seen:?}");
+}

@@ -1,0 +1,73 @@
+//! What a run over boots reached.
+
+use super::way::WAYS;
+use handler::{Installed, Lifecycle};
+use std::collections::BTreeSet;
+use std::fmt;
+
+/// The answers of a boot that stopped or was refused.
+const REFUSED: [i64; 4] = [-3, -7, -12, -13];
+
+/// Counts over all boots of a set.
+#[derive(Default)]
+pub struct Summary {
+    /// Boots tried.
+    pub boots: u64,
+    /// Boots by the way in which their state was made.
+    pub ways: [u64; WAYS.len()],
+    /// Boots that came to their end, by lifecycle; the last are of numbers
+    /// that are none.
+    pub whole: [u64; Lifecycle::ALL.len() + 1],
+    /// Boots that stopped or were refused, by answer: 3, 7, 12, 13.
+    pub refused: [u64; REFUSED.len()],
+    /// Boots that stopped in any other way.
+    pub other: u64,
+    /// The registers at which boots stopped, each with the answer.
+    pub stops: BTreeSet<(i64, u16)>,
+}
+
+impl Summary {
+    /// Takes in a boot by what the reference gave.
+    pub(super) fn boot(&mut self, lifecycle: u8, wanted: &Installed) {
+        self.boots += 1;
+        if wanted.is_whole() {
+            let column = usize::from(lifecycle).min(Lifecycle::ALL.len());
+            self.whole[column] += 1;
+            return;
+        }
+        let answer = wanted.answer.0;
+        match REFUSED.iter().position(|number| *number == answer) {
+            Some(at) => self.refused[at] += 1,
+            None => self.other += 1,
+        }
+        if wanted.register != 0 {
+            self.stops.insert((answer, wanted.register));
+        }
+    }
+}
+
+impl fmt::Display for Summary {
+    fn fmt(&self, out: &mut fmt::Formatter) -> fmt::Result {
+        let whole: u64 = self.whole.iter().sum();
+        write!(out, "boots {}, to the end: {whole}", self.boots)?;
+        for (number, count) in REFUSED.iter().zip(self.refused) {
+            write!(out, ", refusal {}: {count}", -number)?;
+        }
+        write!(out, ", otherwise: {}\nto the end:", self.other)?;
+        let names = Lifecycle::ALL.map(Lifecycle::name);
+        for (name, count) in names.into_iter().chain(["over 5"]).zip(self.whole) {
+            write!(out, " {name} {count}")?;
+        }
+        let at = |answer| self.stops.iter().filter(|stop| stop.0 == answer).count();
+        write!(
+            out,
+            "\nregisters at which they stopped: refusal 3: {}, refusal 12: {}\nstates:",
+            at(-3),
+            at(-12)
+        )?;
+        for ((_, name), count) in WAYS.iter().zip(self.ways) {
+            write!(out, " {name} {count}")?;
+        }
+        Ok(())
+    }
+}

@@ -1,0 +1,137 @@
+//! The words after `boot`.
+use super::{is_option, Asked};
+use handler::boot::BOOT_ALERTS;
+use handler::{Lifecycle, ALERTS};
+
+#[derive(Debug, PartialEq, Eq)]
+pub struct Boot {
+    pub lifecycle: Lifecycle,
+    /// The alerts of the new handler, 1 to 248.
+    pub alerts: usize,
+    /// The file that the boot is written to as a trace.
+    pub trace: Option<String>,
+}
+
+fn lifecycle(word: &str) -> Result<Lifecycle, String> {
+    Lifecycle::named(word).ok_or_else(|| {
+        let names = Lifecycle::NAMES.map(|(name, _)| name).join(", ");
+        format!("no such lifecycle: {word} (there are {names})")
+    })
+}
+
+fn alerts(word: &str) -> Result<usize, String> {
+    match word.parse() {
+        Ok(number) if (1..=ALERTS).contains(&number) => Ok(number),
+        _ => Err(format!(
+            "--alerts wants a number from 1 to {ALERTS}, not {word}"
+        )),
+    }
+}
+
+fn file(word: &str) -> Result<String, String> {
+    match word {
+        "-" => Err("--trace wants a file: standard output has the table".to_string()),
+        _ => Ok(word.to_string()),
+    }
+}
+
+/// Takes the word after an option, once.
+fn take<T>(
+    place: &mut Option<T>,
+    option: &str,
+    word: Option<&String>,
+    read: fn(&str) -> Result<T, String>,
+) -> Result<(), String> {
+    let wanted = || format!("{option} wants a word after it");
+    let given = read(word.ok_or_else(wanted)?)?;
+    match place.replace(given) {
+        Some(_) => Err(format!("boot takes one {option}")),
+        None => Ok(()),
+    }
+}
+
+pub fn parse(words: &[String]) -> Result<Asked<Boot>, String> {
+    let (mut named, mut count, mut trace) = (None, None, None);
+    let mut options = true;
+    let mut rest = words.iter();
+    while let Some(word) = rest.next() {
+        match word.as_str() {
+            "--" if options => options = false,
+            "--help" | "-h" if options => return Ok(Asked::Help),
+            "--alerts" if options => take(&mut count, word, rest.next(), alerts)?,
+            "--trace" if options => take(&mut trace, word, rest.next(), file)?,
+            option if options && is_option(option) => {
+                return Err(format!("boot has no option {option}"))
+            }
+            _ if named.is_some() => return Err("boot takes one lifecycle".to_string()),
+            _ => named = Some(lifecycle(word)?),
+        }
+    }
+    let lifecycle = named.ok_or("boot wants a lifecycle")?;
+    let alerts = count.unwrap_or(BOOT_ALERTS);
+    Ok(Asked::Run(Boot {
+        lifecycle,
+        alerts,
+        trace,
+    }))
+}
+
+#[cfg(test)]
+mod tests {
+    use super::*;
+
+    fn parsed(line: &str) -> Result<Asked<Boot>, String> {
+        let words: Vec<String> = line.split_whitespace().map(str::to_string).collect();
+        parse(&words)
+    }
+
+    #[test]
+    fn options_stand_before_or_after_the_lifecycle() {
+        let asked = |lifecycle, alerts, trace: Option<&str>| {
+            let trace = trace.map(str::to_string);
+            Ok(Asked::Run(Boot {
+                lifecycle,
+                alerts,
+                trace,
+            }))
+        };
+        assert_eq!(parsed("raw"), asked(Lifecycle::RawTest, 58, None));
+        assert_eq!(parsed("-- Test"), asked(Lifecycle::RawTest, 58, None));
+        let line = "--alerts 248 prod_end --trace t";
+        assert_eq!(parsed(line), asked(Lifecycle::ProdEnd, 248, Some("t")));
+        let line = "DEV --trace --alerts --alerts 1";
+        assert_eq!(parsed(line), asked(Lifecycle::Dev, 1, Some("--alerts")));
+    }
+
+    #[test]
+    fn help_is_asked_for_by_its_option() {
+        for line in ["--help", "-h", "PROD --help"] {
+            assert_eq!(parsed(line), Ok(Asked::Help), "{line}");
+        }
+    }
+
+    #[test]
+    fn bad_words_are_refused() {
+        for (line, why) in [
+            ("", "boot wants a lifecycle"),
+            ("--", "boot wants a lifecycle"),
+            (
+                "production",
+                "no such lifecycle: production (there are RAW, TEST, PROD, PROD_END, DEV, RMA, SCRAP)",
+            ),
+            ("PROD DEV", "boot takes one lifecycle"),
+            ("PROD --alerts", "--alerts wants a word after it"),
+            ("PROD --alerts 0", "--alerts wants a number from 1 to 248, not 0"),
+            ("PROD --alerts 249", "--alerts wants a number from 1 to 248, not 249"),
+            ("PROD --alerts -1", "--alerts wants a number from 1 to 248, not -1"),
+            ("PROD --alerts many", "--alerts wants a number from 1 to 248, not many"),
+            ("PROD --alerts 58 --alerts 58", "boot takes one --alerts"),
+            ("PROD --trace", "--trace wants a word after it"),
+            ("PROD --trace -", "--trace wants a file: standard output has the table"),
+            ("PROD --trace a --trace b", "boot takes one --trace"),
+            ("PROD -o t", "boot has no option -o"),
+        ] {
+            assert_eq!(parsed(line), Err(why.to_string()), "{line}");
+        }
+    }
+}
