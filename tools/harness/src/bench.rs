@@ -1,11 +1,13 @@
-//! The time of a tick, proved library and reference side by side in one
+//! The time of a tick and of a boot, proved library and reference side by side in one
 //! process. A timing is never a verdict; unequal words are one.
 
+mod boot;
 mod load;
 mod rounds;
 mod start;
 mod timed;
 
+pub use boot::{time_boot, BOOTS, BOOT_TITLE};
 pub use load::{load, Load, LOADS};
 pub use rounds::time;
 pub use start::start;

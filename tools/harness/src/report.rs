@@ -1,7 +1,8 @@
 //! What the commands print. A reader that goes away is no failure; any other write that fails is told.
 
-use crate::bench::{records, time, LOADS, TITLE};
-use handler::Edition;
+use crate::bench::{records, time, time_boot, BOOTS, BOOT_TITLE, LOADS, TITLE};
+use handler::boot::BOOT_ALERTS;
+use handler::{Edition, ALERTS};
 use std::fmt::Display;
 use std::io::{self, ErrorKind, Write};
 use std::time::Instant;
@@ -38,8 +39,8 @@ pub fn report<D: Display>(
     writeln!(out, "repeat: {own} {}", command(found))
 }
 
-/// Prints the times of every load, each when it is known; notes whether all
-/// words were equal.
+/// Prints the times of every load and of a boot, each when it is known; notes
+/// whether all was equal.
 pub fn times(out: &mut impl Write, equal: &mut bool) -> io::Result<()> {
     if cfg!(debug_assertions) {
         let line = "the reference is not built for release: its times say nothing";
@@ -52,6 +53,12 @@ pub fn times(out: &mut impl Write, equal: &mut bool) -> io::Result<()> {
             *equal &= timed.equal;
             writeln!(out, "{timed}")?;
         }
+    }
+    writeln!(out, "{BOOT_TITLE}")?;
+    for n in [BOOT_ALERTS, ALERTS] {
+        let timed = time_boot(n, BOOTS);
+        *equal &= timed.equal;
+        writeln!(out, "{timed}")?;
     }
     writeln!(out, "{}", if *equal { "EQUAL" } else { "DIFFERENT" })
 }

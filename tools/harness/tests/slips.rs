@@ -1,68 +1,19 @@
 //! Slips that look right, each put into a copy of the reference by replacing
 //! one piece of its text: the default set must find every one of them.
 
+use copied::{library, program, Slip};
 use handler::Edition;
 use harness::compare::{compare_all, generated, Case, Coverage, DEFAULT_SEED, DEFAULT_TRACES};
-use std::fs;
+use list::slips;
 use std::path::{Path, PathBuf};
-use std::process::Command;
 
+mod copied;
 mod list;
-use list::{slips, Slip};
-
-/// The reference's sources, copied for each slip and never changed.
-const REFERENCE: &str = concat!(env!("CARGO_MANIFEST_DIR"), "/../../reference/src");
-
-/// Copies the sources, `bin` included, with the slip put in.
-fn copy(slip: &Slip, from: &Path, to: &Path) {
-    fs::create_dir_all(to).unwrap();
-    for entry in fs::read_dir(from).unwrap() {
-        let entry = entry.unwrap();
-        let target = to.join(entry.file_name());
-        if entry.file_type().unwrap().is_dir() {
-            copy(slip, &entry.path(), &target);
-            continue;
-        }
-        let mut text = fs::read_to_string(entry.path()).unwrap();
-        if entry.file_name() == slip.file {
-            assert_eq!(text.matches(slip.right).count(), 1, "{}", slip.name);
-            text = text.replace(slip.right, slip.wrong);
-        }
-        fs::write(target, text).unwrap();
-    }
-}
-
-/// Compiles with the plain compiler: it is quicker than a package each.
-fn compile(arguments: &[&str], directory: &Path) {
-    let status = Command::new("rustc")
-        .args(["--edition", "2021", "--cap-lints", "allow", "-Copt-level=0"])
-        .args(arguments)
-        .current_dir(directory)
-        .status()
-        .expect("rustc runs");
-    assert!(status.success());
-}
 
 /// The reference's program with the slip put in.
 fn build(number: usize, slip: &Slip) -> PathBuf {
-    let directory = Path::new(env!("CARGO_TARGET_TMPDIR")).join(format!("slip{number}"));
-    copy(slip, Path::new(REFERENCE), &directory);
-    compile(
-        &["--crate-type=rlib", "--crate-name=reference", "lib.rs"],
-        &directory,
-    );
-    let library = "reference=libreference.rlib";
-    compile(
-        &[
-            "--extern",
-            library,
-            "-o",
-            "replay",
-            "bin/reference-replay.rs",
-        ],
-        &directory,
-    );
-    directory.join("replay")
+    let directory = library(&format!("slip{number}"), slip);
+    program(&directory, "bin/reference-replay.rs")
 }
 
 /// Which trace of the default set finds the slip, if one does.

@@ -3,12 +3,12 @@
 
 use handler::registers::Setting;
 use handler::{Access, Answer, Edition, Handler, Ticked, Wires, Word, ALERTS};
-use harness::bench::{load, start, time, LOADS};
-use harness::calls::{handler_of, reference_of, with_spare};
+use harness::bench::{load, start, time, time_boot, LOADS};
+use harness::calls::{handler_of, reference_of, with_spare, Found};
 use harness::compare::ANSWERS;
 use harness::rng::Rng;
 use harness::spoil::{Place, WAYS};
-use harness::states::{try_all, Found, Subject, Summary, PROVED};
+use harness::states::{try_all, Subject, Summary, PROVED};
 use std::sync::LazyLock;
 
 /// A configured state of all alerts.
@@ -313,7 +313,7 @@ fn an_old_batch_that_runs_on_65_alerts_is_found() {
 }
 
 #[test]
-fn the_bench_compares_every_word() {
+fn the_bench_compares_every_word_and_state() {
     for edition in Edition::ALL {
         for (kind, name) in LOADS {
             let bytes = load(edition, kind, 1000);
@@ -321,4 +321,5 @@ fn the_bench_compares_every_word() {
             assert!(time(edition, kind, name, 1000).equal, "{name}");
         }
     }
+    assert!(time_boot(58, 3).equal && time_boot(248, 3).equal);
 }

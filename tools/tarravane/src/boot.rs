@@ -60,3 +60,6 @@ pub fn run(asked: &Boot) -> Result<End, String> {
     }
     output::write(None, |out| shown(asked, &installed, out))
 }
+
+#[cfg(test)]
+mod tests;

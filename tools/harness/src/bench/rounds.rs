@@ -14,27 +14,18 @@ pub fn time(edition: Edition, kind: Load, name: &'static str, records: usize) ->
     let first = start(edition);
     let mut words = vec![Word(0); records];
     let mut numbers = vec![0; records];
-    let mut timed = Timed {
-        name,
-        edition,
-        records,
-        proved: Duration::MAX,
-        reference: Duration::MAX,
-        equal: true,
-    };
+    let mut timed = Timed::new(name, edition.alerts(), records);
     for _ in 0..ROUNDS {
         // Neither side may live on the words of the round before.
         words.fill(Word(u64::MAX));
         numbers.fill(0);
-        let (state, spent) = proved_round(handler_of(&first), edition, &bytes, &mut words);
-        timed.proved = timed.proved.min(spent);
-        let (twin, spent) = reference_round(first.clone(), edition, &bytes, &mut numbers);
-        timed.reference = timed.reference.min(spent);
+        let (state, proved) = proved_round(handler_of(&first), edition, &bytes, &mut words);
+        let (twin, reference) = reference_round(first.clone(), edition, &bytes, &mut numbers);
         let same = words
             .iter()
             .zip(&numbers)
             .all(|(word, number)| word.0 == *number);
-        timed.equal &= same && state == handler_of(&twin);
+        timed.round(proved, reference, same && state == handler_of(&twin));
     }
     timed
 }

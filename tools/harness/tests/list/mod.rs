@@ -4,17 +4,7 @@ mod patterns;
 mod stages;
 mod threshold;
 
-/// One slip.
-pub struct Slip {
-    /// What goes wrong.
-    pub name: &'static str,
-    /// The file name in the reference.
-    pub file: &'static str,
-    /// The right text, found exactly once in the file.
-    pub right: &'static str,
-    /// The text with the slip.
-    pub wrong: &'static str,
-}
+use crate::copied::Slip;
 
 /// Every slip; the default set must find each of them.
 pub fn slips() -> impl Iterator<Item = &'static Slip> {

@@ -1,0 +1,49 @@
+//! The time of a boot: a new handler, and the policy of PROD installed.
+
+use super::timed::Timed;
+use super::ROUNDS;
+use crate::calls::handler_of;
+use handler::{Handler, Installed, Lifecycle};
+use std::hint::black_box;
+use std::time::{Duration, Instant};
+
+/// The boots that are timed in a round.
+pub const BOOTS: usize = 100;
+
+/// The line above the times.
+pub const BOOT_TITLE: &str = "ns a boot, best of 7    N   proved  reference  proved/reference";
+
+/// Times so many boots of n alerts, both sides in turn.
+pub fn time_boot(n: usize, boots: usize) -> Timed {
+    let mut timed = Timed::new("a boot for PROD", n, boots);
+    for _ in 0..ROUNDS {
+        let (state, proved) = proved_round(n, boots);
+        let (twin, reference) = reference_round(n, boots);
+        let same = state.is_whole()
+            && (state.answer.0, state.register) == (twin.answer, twin.register)
+            && state.handler == handler_of(&twin.handler);
+        timed.round(proved, reference, same);
+    }
+    timed
+}
+
+/// The last of so many calls, and the time of all.
+fn last<T>(boots: usize, mut call: impl FnMut() -> T) -> (T, Duration) {
+    let begin = Instant::now();
+    for _ in 1..boots {
+        black_box(call());
+    }
+    let given = call();
+    (given, begin.elapsed())
+}
+
+fn proved_round(n: usize, boots: usize) -> (Installed, Duration) {
+    last(boots, || Handler::new(n).0.install(Lifecycle::Prod))
+}
+
+fn reference_round(n: usize, boots: usize) -> (reference::Installed, Duration) {
+    let number = Lifecycle::Prod.number();
+    last(boots, || {
+        reference::install(reference::Handler::new(n as u64).0, number)
+    })
+}
