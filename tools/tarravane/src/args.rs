@@ -37,5 +37,8 @@ mod tests {
             assert_eq!(parsed(record::parse, line), Ok(Asked::Help), "{line}");
             assert_eq!(parsed(wave::parse, line), Ok(Asked::Help), "{line}");
         }
+        for line in ["--help", "-h", "PROD --help", "--help --both"] {
+            assert_eq!(parsed(boot::parse, line), Ok(Asked::Help), "{line}");
+        }
     }
 }

@@ -41,6 +41,11 @@ fn explain_prints_what_readme_shows() {
     shows("explain --from 9 --to 19 examples/silly-threshold.trace");
 }
 
+#[test]
+fn boot_prints_what_readme_shows() {
+    shows("boot PROD");
+}
+
 /// The waves that README shows are written as it says; its picture is the one that is stored.
 #[test]
 fn wave_writes_what_readme_names() {

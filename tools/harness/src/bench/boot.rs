@@ -11,11 +11,12 @@ use std::time::{Duration, Instant};
 pub const BOOTS: usize = 100;
 
 /// The line above the times.
-pub const BOOT_TITLE: &str = "ns a boot, best of 7    N   proved  reference  proved/reference";
+pub const BOOT_TITLE: &str = "us a boot, best of 7    N   proved  reference  proved/reference";
 
 /// Times so many boots of n alerts, both sides in turn.
 pub fn time_boot(n: usize, boots: usize) -> Timed {
-    let mut timed = Timed::new("a boot for PROD", n, boots);
+    // A thousand nanoseconds are shown as one.
+    let mut timed = Timed::new("a boot for PROD", n, 1000 * boots);
     for _ in 0..ROUNDS {
         let (state, proved) = proved_round(n, boots);
         let (twin, reference) = reference_round(n, boots);

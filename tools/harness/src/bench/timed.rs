@@ -9,8 +9,8 @@ pub struct Timed {
     pub name: &'static str,
     /// The alerts of the handler.
     pub alerts: usize,
-    /// The ticks or boots of a round.
-    pub count: usize,
+    /// What the time of a round is divided by, to be shown: its ticks.
+    pub shares: usize,
     /// Of the proved library.
     pub proved: Duration,
     /// Of the reference.
@@ -24,11 +24,11 @@ pub const TITLE: &str = "ns a tick, best of 7    N   proved  reference  proved/r
 
 impl Timed {
     /// Nothing is timed yet.
-    pub(super) fn new(name: &'static str, alerts: usize, count: usize) -> Timed {
+    pub(super) fn new(name: &'static str, alerts: usize, shares: usize) -> Timed {
         Timed {
             name,
             alerts,
-            count,
+            shares,
             proved: Duration::MAX,
             reference: Duration::MAX,
             equal: true,
@@ -45,7 +45,7 @@ impl Timed {
 
 impl fmt::Display for Timed {
     fn fmt(&self, out: &mut fmt::Formatter) -> fmt::Result {
-        let each = |time: Duration| time.as_nanos() as f64 / self.count as f64;
+        let each = |time: Duration| time.as_nanos() as f64 / self.shares as f64;
         let (proved, reference) = (each(self.proved), each(self.reference));
         let ratio = proved / reference;
         let (name, n) = (self.name, self.alerts);

@@ -78,12 +78,8 @@ pub fn parse(words: &[String]) -> Result<Asked<Boot>, String> {
 
 #[cfg(test)]
 mod tests {
+    use super::super::tests::parsed;
     use super::*;
-
-    fn parsed(line: &str) -> Result<Asked<Boot>, String> {
-        let words: Vec<String> = line.split_whitespace().map(str::to_string).collect();
-        parse(&words)
-    }
 
     #[test]
     fn options_stand_before_or_after_the_lifecycle() {
@@ -95,19 +91,21 @@ mod tests {
                 trace,
             }))
         };
-        assert_eq!(parsed("raw"), asked(Lifecycle::RawTest, 58, None));
-        assert_eq!(parsed("-- Test"), asked(Lifecycle::RawTest, 58, None));
+        assert_eq!(parsed(parse, "raw"), asked(Lifecycle::RawTest, 58, None));
+        assert_eq!(
+            parsed(parse, "-- Test"),
+            asked(Lifecycle::RawTest, 58, None)
+        );
         let line = "--alerts 248 prod_end --trace t";
-        assert_eq!(parsed(line), asked(Lifecycle::ProdEnd, 248, Some("t")));
+        assert_eq!(
+            parsed(parse, line),
+            asked(Lifecycle::ProdEnd, 248, Some("t"))
+        );
         let line = "DEV --trace --alerts --alerts 1";
-        assert_eq!(parsed(line), asked(Lifecycle::Dev, 1, Some("--alerts")));
-    }
-
-    #[test]
-    fn help_is_asked_for_by_its_option() {
-        for line in ["--help", "-h", "PROD --help"] {
-            assert_eq!(parsed(line), Ok(Asked::Help), "{line}");
-        }
+        assert_eq!(
+            parsed(parse, line),
+            asked(Lifecycle::Dev, 1, Some("--alerts"))
+        );
     }
 
     #[test]
@@ -131,7 +129,7 @@ mod tests {
             ("PROD --trace a --trace b", "boot takes one --trace"),
             ("PROD -o t", "boot has no option -o"),
         ] {
-            assert_eq!(parsed(line), Err(why.to_string()), "{line}");
+            assert_eq!(parsed(parse, line), Err(why.to_string()), "{line}");
         }
     }
 }

@@ -2,7 +2,7 @@
 use crate::names;
 use handler::boot::BOOT_ALERTS;
 use handler::registers::MAP;
-use handler::{Edition, Installed, Refusal};
+use handler::{Installed, Refusal};
 
 /// Nothing was installed: the refusal is of the whole call.
 fn refused(refusal: Refusal, n: usize) -> String {
@@ -34,7 +34,8 @@ pub fn end(installed: &Installed) -> String {
         (0, Ok(_)) => "installed: every register that was written reads back".to_string(),
         (0, Err(refusal)) => refused(refusal, installed.handler.n),
         (number, answer) => {
-            let name = names::register(Edition::NEWEST, number);
+            let name = MAP.register(number).map(|register| register.to_string());
+            let name = name.unwrap_or_default();
             format!("stopped: {name} ({number}): {}", why(number, answer))
         }
     }
