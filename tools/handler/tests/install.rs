@@ -74,3 +74,33 @@ fn the_accesses_of_a_boot_end_in_its_state() {
         }
     }
 }
+
+/// A line of the table in specs, as document 002 has it: the marks of the six lifecycles, the alert and its name.
+fn table_line(line: &str) -> Option<(Vec<char>, usize, &str)> {
+    let (row, comment) = line.split_once(" -- ")?;
+    let (_, marks) = row.split_once("row ")?;
+    let (number, name) = comment.split_once(' ')?;
+    let marks = marks.split_whitespace().flat_map(|mark| mark.chars());
+    Some((marks.collect(), number.parse().ok()?, name))
+}
+
+/// The names are those of the table in specs, and what is installed is what stands there.
+#[test]
+fn names_and_marks_are_those_of_the_table() {
+    let file = concat!(
+        env!("CARGO_MANIFEST_DIR"),
+        "/../../crates/policy/specs/Table.antt"
+    );
+    let table = std::fs::read_to_string(file).expect("the table");
+    let lines: Vec<_> = table.lines().filter_map(table_line).collect();
+    assert_eq!(lines.len(), 58);
+    for (at, (marks, number, name)) in lines.iter().enumerate() {
+        assert_eq!((*number, *name), (at, ALERT_NAMES[at]));
+        for (lifecycle, mark) in Lifecycle::ALL.into_iter().zip(marks) {
+            let alerts = new(58).install(lifecycle).handler.alerts;
+            let (en, class) = (alerts.en[at], alerts.class[at]);
+            let shown = [b'X', b'A' + class][usize::from(en)];
+            assert_eq!(char::from(shown), *mark, "{name} in {}", lifecycle.name());
+        }
+    }
+}
