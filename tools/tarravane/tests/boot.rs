@@ -160,6 +160,15 @@ fn too_few_alerts_are_refused() {
     }
 }
 
+#[test]
+fn help_names_every_lifecycle() {
+    let help = shown(&["PROD", "--help"]).join("\n");
+    assert!(help.starts_with("usage: ./tarravane boot "));
+    for (name, _) in Lifecycle::NAMES {
+        assert!(help.contains(name), "{name}");
+    }
+}
+
 /// One line, and nothing is shown.
 #[test]
 fn what_cannot_be_done_is_told() {
