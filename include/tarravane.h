@@ -34,11 +34,11 @@ extern "C" {
 
 /* ---- Sizes ---- */
 
-#define TARRAVANE_ALERTS 248   /* the most alerts that a handler is made for */
-#define TARRAVANE_ALERTS_24 64 /* the most that records of 24 bytes speak of */
+#define TARRAVANE_ALERTS 248     /* the most alerts that a handler is made for */
+#define TARRAVANE_ALERTS_24 64   /* the most that records of 24 bytes speak of */
 #define TARRAVANE_ALERTS_BOOT 58 /* those that a boot installs, from alert 0 on */
-#define TARRAVANE_WORDS 4      /* words of 64 that hold a bit of each alert */
-#define TARRAVANE_LOCALS 7     /* local alerts */
+#define TARRAVANE_WORDS 4        /* words of 64 that hold a bit of each alert */
+#define TARRAVANE_LOCALS 7       /* local alerts */
 #define TARRAVANE_CLASSES 4
 #define TARRAVANE_PHASES 4
 #define TARRAVANE_LINES 4
