@@ -90,7 +90,7 @@ module _ (l : Lifecycle) (n : ℕ) (c : locks l ≡ true) (a : alertCount ≤ n)
       let r : s - first ≤ length xs = let d = t .from in let f = t .to in omega arith in
       record { idle = idle-to (s - first) r e; is-alert = k; marked = m; occurs = o; unclear = u }
 
-  -- "the first event of an alert marked A starts it": no start came before tick s of the list, and in it an alert marked A has an event with no
+  -- the first event of an alert marked A starts it: no start came before tick s of the list, and in it an alert marked A has an event with no
   -- accepted clear of class A
   pub first-starts : (first s i : ℕ) → IsTick first xs s → ((j : ℕ) → j < s - first → startsIn j ≡ false) → i < alertCount → isA (markAt l i) ≡ true
       → happens (armed (before first h xs s) i) (positive (inputAt first xs s .sample .alerts) i) (negative (inputAt first xs s .sample .alerts) i) ≡ true

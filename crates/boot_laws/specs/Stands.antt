@@ -23,7 +23,7 @@ use Rattle.policy.specs.Sound.{unnamed}
 use Rattle.policy.specs.Table.{alertCount, markAt}
 use Rattle.policy.specs.declared.Lifecycle.{Lifecycle}
 
--- "register 0 on success, success answers 0"
+-- "register 0 on success, .. success answers 0"
 pub record Success (l : Lifecycle) (h : Handler) : Type 0 where
   pub register : boot l h .register ≡ 0
   pub answer : boot l h .answer ≡ pos 0

@@ -74,9 +74,9 @@ abbrev pub startsIn : ℕ → Handler → Input → Bool
 startsIn k g x = starts (met g x k) (classRead g x k)
 
 pub record Undisturbed (k first : ℕ) (h : Handler) (xs ys : List Input) : Type 0 where
-  -- "class A's escalation starts in the same tick"
+  -- class k's escalation starts in the same tick
   pub start : (t : ℕ) → IsTick first xs t → startsIn k (before first h xs t) (inputAt first xs t) ≡ startsIn k (before first h ys t) (inputAt first ys t)
-  -- "and takes as long": its STATE and ESC_CNT, with all else that is its own, are equal in every tick
+  -- and takes as long: its STATE and ESC_CNT, with all else that is its own, are equal in every tick
   pub class : (t : ℕ) → IsTick first xs t → SameClass k (givenAt first h xs t) (givenAt first h ys t)
   pub interrupt : (t : ℕ) → IsTick first xs t → SameInterrupt k (givenAt first h xs t) (givenAt first h ys t)
   pub answer :

@@ -1,4 +1,4 @@
-// Request (vi), boot policy: types. Its definitions and theorems are in specs/ and proofs/.
+// Request (vi), boot policy: types. Its definitions are in specs/, examples of them in proofs/, the theorems in crate boot_laws.
 use rules::Handler;
 
 // How an alert is marked: a class, or X for none.

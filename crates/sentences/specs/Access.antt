@@ -66,7 +66,8 @@ pub record Accessed (h : Handler) (x : Access) (g : Handler) (z : ℤ) (fx : Eff
   pub arrays : Sized g
   pub handed : Handed h x fx
 
--- of every state of at most 248 alerts, so of every one that refusal 7 does not meet, and of every access
+-- of every state of at most 248 alerts whose arrays have their lengths, so of every one that a call can have and refusal 7 does not meet, and of
+-- every access
 abbrev pub AccessStep : (Handler → Access → Handler) → (Handler → Access → ℤ) → (Handler → Access → Effects) → Type 0
 AccessStep state answer effects = (h : Handler) (x : Access) → h .n ≤ 248 → Sized h → Accessed h x (state h x) (answer h x) (effects h x)
 

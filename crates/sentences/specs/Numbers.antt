@@ -1,4 +1,4 @@
--- "Numbers that come back", in sentences: the signed number of each answer.
+-- "Numbers that come back", in sentences: the signed number of each answer. 13 is an answer of the boot alone (policy, Plan.barNumber).
 -- Assumes nothing.
 use Prim.Native.Nat.{ℕ}
 use mathlib.Core.Path.{_≡_}

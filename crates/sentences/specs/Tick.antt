@@ -54,7 +54,7 @@ Tick step1 tick = (h : Handler) (x : Input) → TickOf step1 h x (tick h x)
 -- ── what steps 2 to 5 take of step 1 ──
 
 pub record Step1 (step1 : Handler → Access → Accessed) : Type 0 where
-  -- "States that calls produce never get it": refusal 7
+  -- "States that calls produce never get it": refusal 7; a reading: nor does the state that step 1 leaves to step 2
   pub valid : (h : Handler) (x : Access) → Valid h → Valid (step1 h x .handler)
   -- request (v): local 5 is raised, or none
   pub raises : (h : Handler) (x : Access) → RaisesFiveOrNone (step1 h x .effects)
