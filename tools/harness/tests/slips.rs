@@ -6,6 +6,7 @@ use handler::Edition;
 use harness::compare::{compare_all, generated, Case, Coverage, DEFAULT_SEED, DEFAULT_TRACES};
 use list::slips;
 use std::path::{Path, PathBuf};
+use std::thread;
 
 mod copied;
 mod list;
@@ -31,16 +32,28 @@ fn finder(replay: &Path) -> Option<String> {
     Some(format!("{kind} seed {seed} of {bytes} bytes{records}"))
 }
 
+/// The slip's name, where the default set does not find it.
+fn missed(number: usize, slip: &Slip) -> Option<&'static str> {
+    match finder(&build(number + 1, slip)) {
+        Some(found) => {
+            println!("{:2} {}: {found}", number + 1, slip.name);
+            None
+        }
+        None => Some(slip.name),
+    }
+}
+
+/// On every core: each slip is a program of its own.
 #[test]
 fn the_default_set_finds_every_slip() {
-    let mut missed = Vec::new();
-    for (number, slip) in slips().enumerate() {
-        let replay = build(number + 1, slip);
-        match finder(&replay) {
-            Some(found) => println!("{:2} {}: {found}", number + 1, slip.name),
-            None => missed.push(slip.name),
-        }
-    }
+    let cores = thread::available_parallelism().map_or(1, usize::from);
+    let part = |core| slips().enumerate().skip(core).step_by(cores);
+    let missed: Vec<&str> = thread::scope(|scope| {
+        let look = |core| move || part(core).filter_map(|(n, slip)| missed(n, slip)).collect();
+        let parts: Vec<_> = (0..cores).map(|core| scope.spawn(look(core))).collect();
+        let joined = parts.into_iter().map(|part| part.join().expect("a part"));
+        joined.collect::<Vec<Vec<&str>>>().concat()
+    });
     assert!(missed.is_empty(), "not found: {missed:?}");
 }
 
