@@ -17,7 +17,7 @@ library_stands() { stands "$library" "$here/crates" "$here/crates.txt"; }
 tools_stands() {
   library_stands || return
   for tool in "$cli" "$harness"; do
-    stands "$tool" "$library" "$here/tools" "$here/reference" "$here/Cargo.toml" "$here/Cargo.lock" || return
+    stands "$tool" "$library" "$here/tools" "$here/launcher/help" "$here/reference" "$here/Cargo.toml" "$here/Cargo.lock" || return
   done
 }
 

@@ -23,7 +23,7 @@ impl Lifecycle {
     /// All, in the order of the columns.
     pub const ALL: [Lifecycle; 6] = [RawTest, Prod, ProdEnd, Dev, Rma, Scrap];
 
-    /// The words that name one, each with what it names.
+    /// The short words that name one, each with what it names.
     pub const NAMES: [(&'static str, Lifecycle); 7] = [
         ("RAW", RawTest),
         ("TEST", RawTest),
@@ -34,9 +34,10 @@ impl Lifecycle {
         ("SCRAP", Scrap),
     ];
 
-    /// The lifecycle of this name, in any letter case.
+    /// The lifecycle of this short word, or of this head of a column, in any letter case.
     pub fn named(name: &str) -> Option<Lifecycle> {
-        let mut names = Lifecycle::NAMES.into_iter();
+        let heads = Lifecycle::ALL.map(|lifecycle| (lifecycle.name(), lifecycle));
+        let mut names = Lifecycle::NAMES.into_iter().chain(heads);
         let found = names.find(|(word, _)| word.eq_ignore_ascii_case(name));
         found.map(|(_, lifecycle)| lifecycle)
     }
@@ -72,10 +73,16 @@ mod tests {
             let own: Vec<&str> = own.map(|(name, _)| *name).collect();
             assert_eq!(own.join("/"), lifecycle.name());
         }
-        for (name, number) in [("raw", 0), ("Test", 0), ("pRoD_eNd", 2), ("SCRAP", 5)] {
+        for (name, number) in [
+            ("raw", 0),
+            ("Test", 0),
+            ("raw/test", 0),
+            ("pRoD_eNd", 2),
+            ("SCRAP", 5),
+        ] {
             assert_eq!(Lifecycle::named(name).map(Lifecycle::number), Some(number));
         }
-        for name in ["", "RAW/TEST", "PROD END", "PROD_", " DEV", "1"] {
+        for name in ["", "RAW/", "TEST/RAW", "PROD END", "PROD_", " DEV", "1"] {
             assert_eq!(Lifecycle::named(name), None, "{name}");
         }
     }

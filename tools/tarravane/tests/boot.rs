@@ -176,7 +176,7 @@ fn what_cannot_be_done_is_told() {
     let (inside, here) = (folder.path("missing/t"), folder.path(""));
     for (words, wanted) in [
         (&["x"][..], "no such lifecycle: x"),
-        (&["RAW/TEST"], "no such lifecycle: RAW/TEST"),
+        (&["RAW/DEV"], "no such lifecycle: RAW/DEV"),
         (&["PROD", "--alerts", "249"], "--alerts wants a number"),
         (&["PROD", "--trace", &inside], "cannot write "),
         (&["PROD", "--trace", &here], "cannot write "),

@@ -1,5 +1,5 @@
 //! The words after `boot`.
-use super::{is_option, Asked};
+use super::{is_option, number, Asked};
 use handler::boot::BOOT_ALERTS;
 use handler::{Lifecycle, ALERTS};
 
@@ -20,8 +20,8 @@ fn lifecycle(word: &str) -> Result<Lifecycle, String> {
 }
 
 fn alerts(word: &str) -> Result<usize, String> {
-    match word.parse() {
-        Ok(number) if (1..=ALERTS).contains(&number) => Ok(number),
+    match number(word).and_then(|number| usize::try_from(number).ok()) {
+        Some(number) if (1..=ALERTS).contains(&number) => Ok(number),
         _ => Err(format!(
             "--alerts wants a number from 1 to {ALERTS}, not {word}"
         )),
@@ -122,6 +122,7 @@ mod tests {
             ("PROD --alerts 0", "--alerts wants a number from 1 to 248, not 0"),
             ("PROD --alerts 249", "--alerts wants a number from 1 to 248, not 249"),
             ("PROD --alerts -1", "--alerts wants a number from 1 to 248, not -1"),
+            ("PROD --alerts +60", "--alerts wants a number from 1 to 248, not +60"),
             ("PROD --alerts many", "--alerts wants a number from 1 to 248, not many"),
             ("PROD --alerts 58 --alerts 58", "boot takes one --alerts"),
             ("PROD --trace", "--trace wants a word after it"),

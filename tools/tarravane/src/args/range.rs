@@ -1,10 +1,11 @@
 //! The words `--from TICK` and `--to TICK`.
+use super::number;
 use crate::range::Range;
 
 fn tick(option: &str, word: Option<&String>) -> Result<u64, String> {
     let word = word.ok_or_else(|| format!("{option} wants a tick number"))?;
-    match word.parse() {
-        Ok(number) if number > 0 => Ok(number),
+    match number(word) {
+        Some(number) if number > 0 => Ok(number),
         _ => Err(format!(
             "{option} wants a tick number from 1 on, not {word}"
         )),
