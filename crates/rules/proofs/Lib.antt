@@ -3,12 +3,9 @@ pub mod AnswerExamples
 pub mod MapExamples
 pub mod AccessExamples
 pub mod ValidExamples
-pub mod SampleExamples
 pub mod TickExamples
 pub mod TraceExamples
 pub mod WriterExamples
-pub mod StageExamples
 pub mod ShadowExamples
 pub mod LockExamples
 pub mod ApartExamples
-pub mod OwnBitsExamples

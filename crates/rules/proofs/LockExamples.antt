@@ -3,12 +3,10 @@
 use Prim.Native.Nat.{ℕ, _+_, _*_}
 use mathlib.Core.Path.{_≡_, refl}
 use mathlib.Core.List.{List, [], _∷_, map}
-use lib.IntN.{ℤ, pos}
+use lib.IntN.{pos}
 use lib.ListN.{set, replicate}
-use Rattle.class_rules.specs.declared.Class.{Class}
 use Rattle.rules.specs.Access.{acted, effects}
 use Rattle.rules.specs.State.{noStages, withStages}
-use Rattle.rules.specs.declared.Access.{Access}
 use Rattle.rules.specs.declared.Access.the-variants.{Read, Write}
 use Rattle.rules.specs.declared.Handler.{Handler}
 use Rattle.rules.specs.Scenes.{rest, gives, refused}

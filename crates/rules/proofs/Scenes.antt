@@ -11,10 +11,10 @@ use Rattle.class_rules.specs.declared.Class.{Class}
 use Rattle.class_rules.specs.Class.{stateOf, drives, classFits}
 use Rattle.class_rules.specs.Step.{counted, startsFrom, movedFrom, classStep}
 use Rattle.rules.specs.Answer.{number, firstOf}
-use Rattle.rules.specs.State.{put, newHandler, made, resetClass, withAlerts, withClasses}
+use Rattle.rules.specs.State.{put, newHandler, made, resetClass, withLocals, withAlerts, withClasses}
 use Rattle.rules.specs.Map.{blockAt, decode, numberOf, bits, writeOnly, readOnly, guard, isLock, isShadowed}
 use Rattle.rules.specs.Stages.{stageIn, withStage, dropped}
-use Rattle.rules.specs.Scenes.{rest}
+use Rattle.rules.specs.Scenes.{rest, raise, none}
 use Rattle.rules.specs.Valid.{classStagesFit, stagesFit, valid}
 use Rattle.rules.specs.Access.{value, locked, verdict, store, written, acted, answerTo, effects, clears, accessed}
 use Rattle.rules.specs.Samples.{alertEvent, alertBroken, rearmed, raised, occurs, sampled, assigned}
@@ -71,3 +71,16 @@ pair thresh timeout lengths = station 2 (1 ∷ 1 ∷ replicate 246 0) (replicate
 
 abbrev pub ready : ℕ → Handler
 ready thresh = pair thresh 0 zeros
+
+-- local 5 is enabled or not, in class 1, which has EN and a line
+abbrev pub watched : ℕ → Handler
+watched on =
+    withLocals (record { regwen = replicate 7 1; en = set (replicate 7 0) 5 on; class = set (replicate 7 0) 5 1; cause = replicate 7 0 })
+    (station 1 (replicate 248 0) (replicate 248 0) 1 (settings 5 0 0 zeros))
+
+-- threshold 0 and these phase lengths; and such a handler with its escalation started
+abbrev pub lengths : ℕ → ℕ → ℕ → ℕ → Handler
+lengths a b c d = pair 0 0 (a ∷ b ∷ c ∷ d ∷ [])
+
+abbrev pub started : Handler
+started = run (lengths 9 0 0 0) (raise 0 none ∷ [])

@@ -1,4 +1,4 @@
--- Worked examples that pin steps 3 to 5 and the order of a tick's steps, by computation.
+-- Worked examples that pin steps 3 to 5 and the order of a tick's steps, by computation; rule_examples PhaseExamples has the phases.
 -- Assumes nothing.
 use Prim.Native.Nat.{ℕ, _+_}
 use mathlib.Core.Path.{_≡_, refl}
@@ -6,7 +6,7 @@ use mathlib.Core.List.{List, [], _∷_, _++_, map}
 use lib.ListN.{replicate}
 use Rattle.rules.specs.Access.{value}
 use Rattle.rules.specs.Run.{run, ticks}
-use Rattle.rules.specs.State.{newHandler, classAt, resetClass, withInterrupts, withClasses}
+use Rattle.rules.specs.State.{newHandler, resetClass, withInterrupts, withClasses}
 use Rattle.rules.specs.Tick.{ticked, interrupts, lines}
 use Rattle.rules.specs.declared.Access.{Access}
 use Rattle.rules.specs.declared.Field.{Field}
@@ -15,10 +15,10 @@ use Rattle.rules.specs.declared.Input.{Input}
 use Rattle.rules.specs.declared.Register.{Register}
 use Rattle.rules.specs.declared.Register.the-variants.{IntrState, IntrEnable, IntrTest, Alert, Block}
 use Rattle.rules.specs.declared.Setting.{Setting}
-use Rattle.rules.specs.declared.Setting.the-variants.{Ctrl, ClrRegwen, Clr, AccumCnt, TimeoutCyc, PhaseCyc, EscCnt}
+use Rattle.rules.specs.declared.Setting.the-variants.{Ctrl, ClrRegwen, Clr, AccumCnt, TimeoutCyc, EscCnt}
 use Rattle.rules.specs.declared.Ticked.{Ticked}
 use Rattle.rules.specs.Scenes.{rest, raise, none, write, configure, gives, refused}
-use Rattle.rules.proofs.Scenes.{rules, settings, zeros, station, pair, ready}
+use Rattle.rules.proofs.Scenes.{rules, settings, zeros, station, pair, ready, lengths, started}
 
 abbrev holds : Handler → List Input → Register → ℕ
 holds h xs q = value (run h xs) q
@@ -113,52 +113,12 @@ clearing : (state (ready 0) (raise 0 (write (Block Clr 0) 1) ∷ []) ≡ 0)
 unfolding rules
 clearing = (refl, refl, refl, refl, refl, refl, refl)
 
--- threshold 0 and these lengths
-abbrev lengths : ℕ → ℕ → ℕ → ℕ → Handler
-lengths a b c d = pair 0 0 (a ∷ b ∷ c ∷ d ∷ [])
-
 -- "Letting the clear of one tick undo a start of the tick before under LOCK" is a slip: it is refused, and the phase goes on
-abbrev started : Handler
-started = run (lengths 9 0 0 0) (raise 0 none ∷ [])
-
 under-lock : (gives started (rest (write (Block Clr 0) 1)) ≡ refused 3)
     × (state started (rest (write (Block Clr 0) 1) ∷ []) ≡ 4)
     × (holds started (rest (write (Block Clr 0) 1) ∷ []) (Block EscCnt 0) ≡ 2)
 unfolding rules
 under-lock = (refl, refl, refl)
-
--- a write acts in its own tick: EN or all lines off in a phase, which goes on; a length shortened below the count
-abbrev linesOff : Access
-linesOff = write (Block Ctrl 0) noLines
-
-in-phase : (state started (map rest (configure (Block Ctrl 0) 0) ++ (rest none ∷ [])) ≡ 4)
-    × (holds started (rest linesOff ∷ rest linesOff ∷ []) (Block EscCnt 0) ≡ 3)
-    × (state started (rest linesOff ∷ rest linesOff ∷ replicate 10 (rest none)) ≡ 3)
-    × (ticked (run started (rest linesOff ∷ [])) (rest linesOff) .output .lines ≡ 0)
-    × (state started (rest none ∷ map rest (configure (Block (PhaseCyc 0) 0) 1)) ≡ 5)
-unfolding rules
-in-phase = (refl, refl, refl, refl, refl)
-
--- "Phase p .. to the next phase, count 1 (after Phase 3 Terminal, count 0); else add 1": STATE and ESC_CNT after each tick from the start on
-abbrev places : Handler → ℕ → List (List ℕ)
-places h count =
-    map (λ (t : Ticked). classAt (t .handler) 0 .state ∷ classAt (t .handler) 0 .count ∷ []) (ticks h (raise 0 none ∷ replicate count (rest none)))
-
-phases : places (lengths 3 0 2 5) 12
-    ≡ (4 ∷ 1 ∷ [])
-    ∷ (4 ∷ 2 ∷ [])
-    ∷ (4 ∷ 3 ∷ [])
-    ∷ (5 ∷ 1 ∷ [])
-    ∷ (6 ∷ 1 ∷ [])
-    ∷ (6 ∷ 2 ∷ [])
-    ∷ (7 ∷ 1 ∷ [])
-    ∷ (7 ∷ 2 ∷ [])
-    ∷ (7 ∷ 3 ∷ [])
-    ∷ (7 ∷ 4 ∷ [])
-    ∷ (7 ∷ 5 ∷ [])
-    ∷ replicate 2 (3 ∷ 0 ∷ [])
-unfolding rules
-phases = refl
 
 -- step 5: "interrupts are INTR_STATE and INTR_ENABLE, bit by bit"; "a line is on if any class drives it"
 outputs : (interrupts (withInterrupts (record { state = 12; enable = 10 }) (newHandler 1)) ≡ 8)

@@ -155,17 +155,14 @@ refusals : (batch Bytes24 (newHandler 1) [] (7 ∷ []) ≡ record { handler = ne
 unfolding rules
 refusals = (refl, refl, refl, refl, refl, refl, refl)
 
--- request (iii): "8 reads 70"; "an old batch answers 7 to a handler of more than 64 alerts"
-refusals70 : (given (batch Bytes70 (newHandler 65) [] []) ≡ pos 0)
-    × (given (batch Bytes24 (newHandler 64) [] []) ≡ pos 0)
-    × (given (batch Bytes24 (newHandler 248) (replicate 24 0) (7 ∷ [])) ≡ refused 7)
-    × (given (batch Bytes70 (newHandler 249) [] []) ≡ refused 7)
+-- request (iii): "8 reads 70"; a refused batch of 249 alerts (more of how many alerts a batch runs with is in rule_examples MostAlertsExamples)
+refusals70 : (given (batch Bytes70 (newHandler 249) [] []) ≡ refused 7)
     × (given (batch Bytes70 (newHandler 1) (replicate 24 0) []) ≡ refused 8)
     × (given (batch Bytes70 (newHandler 1) (replicate 71 0) []) ≡ refused 8)
     × (given (batch Bytes24 (newHandler 1) (replicate 70 0) []) ≡ refused 8)
     × (batch Bytes70 (newHandler 1) (replicate 70 0) [] ≡ record { handler = newHandler 1; answer = refused 9; out = [] })
 unfolding rules
-refusals70 = (refl, refl, refl, refl, refl, refl, refl, refl)
+refusals70 = (refl, refl, refl, refl, refl)
 
 -- lengths that divide by 2, 4, 8 or 12, or by 7, 10, 14 or 35, and no multiples of the record's, with room in the list
 abbrev uneven : Edition → ℕ → ℤ

@@ -74,9 +74,9 @@ fn exists(cited: &str) -> bool {
         [name] if name.contains('.') => is_in("rules", name),
         [word] => PLAIN.contains(&word),
         ["cases", name] => is_case(name),
-        [examples, name] if examples.ends_with("Examples") => {
-            declares(&module("rules", examples), name)
-        }
+        [examples, name] if examples.ends_with("Examples") => ["rules", "rule_examples"]
+            .iter()
+            .any(|krate| declares(&module(krate, examples), name)),
         [krate, name] => is_in(krate, name),
         [krate, "Examples", name] => declares(&module(krate, "Examples"), name),
         _ => false,
