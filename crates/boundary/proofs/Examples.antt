@@ -12,6 +12,9 @@ use Rattle.boundary.specs.Input.{accessBy, inputBy}
 use Rattle.class_rules.specs.declared.Class.{Class}
 use Rattle.handler.specs.Answered.{answered}
 use Rattle.handler.specs.declared.tick.Answered.{Answered}
+use Rattle.policy.specs.Plan.{boot, lifecycleOf}
+use Rattle.policy.specs.declared.Installed.{Installed}
+use Rattle.policy.specs.declared.Lifecycle.{Lifecycle}
 use Rattle.rules.proofs.Scenes.{rules, settings, zeros, station}
 use Rattle.rules.specs.State.{newHandler, made, alert, classAt, resetClass, withInterrupts, withClasses}
 use Rattle.rules.specs.Tick.{ticked}
@@ -139,3 +142,14 @@ module _ (r : Batched) (left : List ℕ) where
   too-short : BatchedBy Edition.Bytes24 (newHandler 1) records (7 ∷ 7 ∷ []) r left → (r .answer ≡ negsuc 8) × (r .handler ≡ newHandler 1) × (left ≡ 7 ∷ 7 ∷ [])
   unfolding rules
   too-short b = (b .answer, b .handler, b .words)
+
+-- ── a boot: r is what the call gives back ──
+
+-- a number that is no lifecycle's boots PROD_END, and under 58 alerts any is refused with 13: register 0, state unchanged
+no-lifecycle : (r : Installed) → r ≡ boot (lifecycleOf 6) (newHandler 248) → r ≡ boot Lifecycle.ProdEnd (newHandler 248)
+unfolding lifecycleOf
+no-lifecycle r e = e
+
+few-alerts : (r : Installed) → r ≡ boot (lifecycleOf 1) (newHandler 57) → (r .answer ≡ negsuc 12) × (r .register ≡ 0) × (r .handler ≡ newHandler 57)
+unfolding rules boot
+few-alerts r e = (ap (λ (x : Installed). x .answer) e, ap (λ (x : Installed). x .register) e, ap (λ (x : Installed). x .handler) e)
