@@ -1,3 +1,4 @@
 pub mod Classes
 pub mod Outputs
 pub mod Answered
+pub mod Quiet

@@ -2,3 +2,4 @@ pub mod Past
 pub mod Stores
 pub mod Accesses
 pub mod Restages
+pub mod Sames

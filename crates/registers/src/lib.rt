@@ -2,6 +2,7 @@
 pub mod access;
 pub mod read;
 mod restage;
+pub mod same;
 mod silly;
 mod stage;
 mod verdict;

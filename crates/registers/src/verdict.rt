@@ -76,7 +76,7 @@ fn first_refusal(
 }
 
 // The refusals of a read.
-fn read_verdict(q: Register) -> Verdict
+pub fn read_verdict(q: Register) -> Verdict
     ensures { λ r. ⌜ r ≡ firstOf (inOrder false (not (isRegister q)) (writeOnly q) false false false false) ⌝ }
 {
     first_refusal(

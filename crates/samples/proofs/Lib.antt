@@ -6,4 +6,5 @@ pub mod Turns
 pub mod Noting
 pub mod Unbroken
 pub mod Steps
+pub mod Quiets
 pub mod Masks

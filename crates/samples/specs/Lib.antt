@@ -1,4 +1,5 @@
 pub mod Received
+pub mod Rearmed
 pub mod Places
 pub mod Noted
 pub mod Gathered

@@ -1,5 +1,6 @@
 // Step 2 of a tick: the samples.
 mod receive; // receive.rt: wire pairs and arming, 64 alerts at a time
+pub mod rearm; // rearm.rt: arming alone
 mod note; // note.rt: what one event does
 mod places; // places.rt: the places of a word that are set
 mod gather; // gather.rt: events and enables of the alerts into causes and classes

@@ -1,0 +1,31 @@
+-- `quiet::quiet_of` meets its contract: the facts that its calls ensure, put together.
+-- Assumes nothing.
+use mathlib.Core.Path.{_≡_}
+use borrow.Author.Needs.{needs}
+use lib.ListN.{length}
+use Rattle.rules.specs.State.{most, localCount}
+use Rattle.handler.proofs.Quiets.{quiet-tick}
+use Rattle.handler.proofs.quiet.quiet_of.Statement.{statement}
+use Rattle.handler.proofs.quiet.quiet_of.Tie as tie
+
+rearm-requires : tie.Need-rearm-requires
+rearm-requires c κs = search needs
+
+same-after-requires : tie.Need-same-after-requires
+same-after-requires c κs = search needs
+
+-- the columns of causes have their lengths by their types; here, since the search for them looks at so many facts and no more
+alerts-long : (c : tie.After-before2) → length (c .before .args .h .alerts .cause) ≡ most
+alerts-long c = search needs
+
+locals-long : (c : tie.After-before2) → length (c .before .args .h .locals .cause) ≡ localCount
+locals-long c = search (c .before .good .0 .1 .1 .1 .1 .1 .1 .0, needs)
+
+returns : tie.Need-returns
+returns c =
+    let r = c .before .before .before .before in
+    let s = r .before .before in
+    λ t. quiet-tick (s .args .h) (s .args .x) _ _ _ (s .pre) (alerts-long (r .before)) (locals-long (r .before)) (r .rearm .ensures) (c .before .before .before .same-after .ensures) t
+
+pub quiet-of-spec : {M : Type 1} → statement M
+quiet-of-spec = tie.close (tie.spec rearm-requires same-after-requires returns)

@@ -1,0 +1,28 @@
+-- An access that leaves the state as it is.
+-- Assumes nothing.
+use Prim.Native.Nat.{ℕ}
+use mathlib.Core.Bool.{Bool, false, not}
+use Rattle.rules.specs.Access.{value, inOrder}
+use Rattle.rules.specs.Answer.{firstOf}
+use Rattle.rules.specs.Map.{isRegister, writeOnly}
+use Rattle.rules.specs.declared.Accessed.{Accessed}
+use Rattle.rules.specs.declared.Answer.{Answer}
+use Rattle.rules.specs.declared.Handler.{Handler}
+use Rattle.rules.specs.declared.Register.{Register}
+use Rattle.rules.specs.declared.Verdict.{Verdict}
+
+-- the answer to a read of the value v, by its verdict
+abbrev pub answerBy : Verdict → ℕ → Answer
+answerBy Verdict.Accepted v = Answer.Value v
+answerBy (Verdict.Refused m) v = Answer.Refused m
+
+-- the verdict on a read
+abbrev pub readVerdict : Register → Verdict
+readVerdict q = firstOf (inOrder false (not (isRegister q)) (writeOnly q) false false false false)
+
+abbrev pub readAnswer : Handler → Register → Answer
+readAnswer h q = answerBy (readVerdict q) (value h q)
+
+-- step 1 with this answer, the state unchanged, no clear and nothing raised
+abbrev pub unmoved : Handler → Answer → Accessed
+unmoved h a = record { handler = h; answer = a; effects = record { clears = 0; raises = 0 } }

@@ -1,0 +1,22 @@
+-- What arming alone promises.
+-- Assumes nothing.
+use Prim.Native.Nat.{ℕ, _<_}
+use mathlib.Core.Path.{_≡_}
+use mathlib.Core.Bool.{Bool, true, false, _&&_}
+use mathlib.Core.List.{List}
+use lib.Dec.{eqb}
+use lib.ListN.{getD}
+use Rattle.rules.specs.State.{most}
+use Rattle.rules.specs.declared.Wires.{Wires}
+use Rattle.samples.specs.Received.{armsAt, happensAt, equalAt, wordsBy}
+use Rattle.samples.specs.declared.rearm.Rearmed.{Rearmed}
+
+-- no place of the four words is set
+abbrev pub noneSet : List ℕ → Bool
+noneSet ws = eqb (getD ws 0 0) 0 && (eqb (getD ws 1 0) 0 && (eqb (getD ws 2 0) 0 && eqb (getD ws 3 0) 0))
+
+-- the arming words after step 2; where it is quiet no alert has an event, enabled or not, and none has equal wires
+pub record RearmedBy (n : ℕ) (armed : List ℕ) (w : Wires) (r : Rearmed) : Type 0 where
+  pub arms : r .armed ≡ wordsBy (armsAt n armed (w .pos) (w .neg))
+  pub no-event : r .quiet ≡ true → (i : ℕ) → i < most → happensAt n armed (w .pos) (w .neg) i ≡ false
+  pub none-equal : r .quiet ≡ true → (i : ℕ) → i < most → equalAt n (w .pos) (w .neg) i ≡ false
