@@ -1,9 +1,12 @@
 // "Traces": a batch fills a lent list of 64-bit words, one per record.
 use answers::signed;
+use handler::quiet::finish;
+use handler::quiet::quiet_of;
 use handler::tick::step;
 use rules::Answer;
 use rules::Edition;
 use rules::Handler;
+use rules::Receivers;
 use rules::Refusal;
 use state::valid::is_valid;
 use trace::edition::alerts;
@@ -31,7 +34,8 @@ pub struct Batched {
     pub answer: i64,
 }
 
-// The ticks of all records, one after another, each with its word at its place. The first state is valid, so each state is.
+// The ticks of all records, one after another, each with its word at its place. The first state is valid, so each state is. A quiet tick
+// writes what it moves into the state where it stands: `step` hands the state on by copies, most of the time of such a tick.
 fn run_records(edition: Edition, h: Handler, bytes: &[u8], out: &mut [u64], count: usize) -> Handler
     requires { ⌜ (valid h ≡ true) × (count ≡ recordCount edition (now bytes)) × (count ≤ length (now out)) ⌝ }
     ensures { λ r. ⌜ (r ≡ run h (inputsOf edition (now (bytes .entry)))) × (now (out .exit) ≡ map wordOf (ticks h (inputsOf edition (now (bytes .entry)))) ++ drop count (now (out .entry))) ⌝ }
@@ -41,6 +45,22 @@ fn run_records(edition: Edition, h: Handler, bytes: &[u8], out: &mut [u64], coun
     let mut i = 0;
     while i < count {
         let x = input_at(edition, bytes, i * size);
+        let quiet = quiet_of(g, x);
+        if quiet.holds {
+            let before = g.classes;
+            let end = finish(before, g.interrupts.state, g.interrupts.enable);
+            let output = end.output;
+            let answer = quiet.answer;
+            out[i] = word(output, answer);
+            let armed = quiet.armed;
+            let receivers = Receivers { armed };
+            let classes = end.classes;
+            g.receivers = receivers;
+            g.classes = classes;
+            g.interrupts.state = end.state;
+            i += 1;
+            continue;
+        }
         let t = step(g, x);
         let output = t.output;
         let answer = t.answer;

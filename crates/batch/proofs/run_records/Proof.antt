@@ -8,6 +8,7 @@ use borrow.Author.Needs.{needs}
 use lib.ListN.{take, drop}
 use Rattle.rules.specs.Edition.{recordBytes}
 use Rattle.rules.specs.Record.{inputOf, inputsOf}
+use Rattle.handler.specs.Quiet.{ended}
 use Rattle.batch.specs.Running.{Running}
 use Rattle.batch.proofs.Running.{start, end, length-inputs, record-within, few-alerts, next-record}
 use Rattle.batch.proofs.run_records.Statement.{statement}
@@ -37,17 +38,20 @@ input-at-requires c κs =
     let l = c .before .loop in
     record-within (begin .args .edition) (begin .args .bytes .now) (l .i) _ (c .before .before .record-bytes .ensures) (omega (arith, begin .pre .1))
 
-step-requires : tie.Need-step-requires Inv-loop μ-loop
-step-requires c κs = let l = c .before .before .loop in few-alerts _ _ _ (c .before .before .before .before .before .before .pre .0) _ _ _ (l .inv .1)
+quiet-of-requires : tie.Need-quiet-of-requires Inv-loop μ-loop
+quiet-of-requires c κs = let l = c .before .before .loop in few-alerts _ _ _ (c .before .before .before .before .before .before .pre .0) _ _ _ (l .inv .1)
+
+finish-requires : tie.Need-finish-requires Inv-loop μ-loop
+finish-requires c κs = search needs
 
 word-requires : tie.Need-word-requires Inv-loop μ-loop
 word-requires c κs = search needs
 
 mul-out : tie.Need-mul-out Inv-loop μ-loop
-mul-out c = let begin = c .before .before .before .before .before .before .before .before .before in omega (arith, begin .pre .2, begin .good .1 .1 .1 .0 .1)
+mul-out c = let begin = c .before .before .before .before .before .before .before .before .before .before .before .before in omega (arith, begin .pre .2, begin .good .1 .1 .1 .0 .1)
 
 slice-write-out : tie.Need-slice-write-out Inv-loop μ-loop
-slice-write-out c = omega (arith, c .before .before .before .before .before .loop .inv .1 .same)
+slice-write-out c = omega (arith, c .before .before .before .before .before .before .before .before .loop .inv .1 .same)
 
 add-i : tie.Need-add-i Inv-loop μ-loop
 add-i c = search needs
@@ -57,14 +61,49 @@ loop-less c = search needs
 
 loop-again : tie.Need-loop-again Inv-loop μ-loop
 loop-again c =
-    let begin = c .before .before .before .before .before .before .before .before .before .before in
-    let l = c .before .before .before .before .before .before .loop in
-    let size = c .before .before .before .before .before .before .before .record-bytes in (
+    let quiet = c .before .before .before .before .before .before .before .before in
+    let input = quiet .before in
+    let l = input .before .before .loop in
+    let size = input .before .before .before .record-bytes in
+    let begin = input .before .before .before .before .before .before in (
       omega arith,
       rw add-one
           (next-record (begin .args .edition) (begin .args .h) (begin .args .bytes .now) (begin .args .out .now) (begin .pre .0) (l .g) (l .out) (l .i) (l .inv .1) (omega arith) (omega arith)
-          _ _ _ (c .before .before .before .before .input-at .ensures
-          ∙ ap (λ (n : ℕ). inputOf (begin .args .edition) (take (recordBytes (begin .args .edition)) (drop (l .i * n) (begin .args .bytes .now)))) (size .ensures)) (c .before .before .before .step .ensures) (c .before .word .ensures)),
+          _ (ended (l .g) (quiet .quiet-of .result .armed) (quiet .quiet-of .result .answer) (c .before .before .before .before .before .finish .result)) _ (input .input-at .ensures
+          ∙ ap (λ (n : ℕ). inputOf (begin .args .edition) (take (recordBytes (begin .args .edition)) (drop (l .i * n) (begin .args .bytes .now)))) (size .ensures))
+          (ap (ended (l .g) (quiet .quiet-of .result .armed) (quiet .quiet-of .result .answer)) (c .before .before .before .before .before .finish .ensures) ∙ quiet .quiet-of .ensures (c .before .before .before .before .before .before .before .if1 .taken))
+          (c .before .before .before .word .ensures)),
+    )
+
+step-requires : tie.Need-step-requires Inv-loop μ-loop
+step-requires c κs = let l = c .before .before .before .before .loop in few-alerts _ _ _ (c .before .before .before .before .before .before .before .before .pre .0) _ _ _ (l .inv .1)
+
+word-requires-2 : tie.Need-word-requires-2 Inv-loop μ-loop
+word-requires-2 c κs = search needs
+
+mul-out-2 : tie.Need-mul-out-2 Inv-loop μ-loop
+mul-out-2 c = let begin = c .before .before .before .before .before .before .before .before .before .before .before in omega (arith, begin .pre .2, begin .good .1 .1 .1 .0 .1)
+
+slice-write-out-2 : tie.Need-slice-write-out-2 Inv-loop μ-loop
+slice-write-out-2 c = omega (arith, c .before .before .before .before .before .before .before .loop .inv .1 .same)
+
+add-i-2 : tie.Need-add-i-2 Inv-loop μ-loop
+add-i-2 c = let begin = c .before .before .before .before .before .before .before .before .before .before .before .before in search (c .before .before .before .before .before .before .before .loop-test .taken, begin .pre .2, begin .good .1 .1 .1 .0 .1, needs)
+
+loop-less-2 : tie.Need-loop-less-2 Inv-loop μ-loop
+loop-less-2 c = search needs
+
+loop-again-2 : tie.Need-loop-again-2 Inv-loop μ-loop
+loop-again-2 c =
+    let input = c .before .before .before .before .before .before in
+    let l = input .before .before .loop in
+    let size = input .before .before .before .record-bytes in
+    let begin = input .before .before .before .before .before .before in (
+      omega arith,
+      rw add-one
+          (next-record (begin .args .edition) (begin .args .h) (begin .args .bytes .now) (begin .args .out .now) (begin .pre .0) (l .g) (l .out) (l .i) (l .inv .1) (omega arith) (omega arith)
+          _ _ _ (input .input-at .ensures
+          ∙ ap (λ (n : ℕ). inputOf (begin .args .edition) (take (recordBytes (begin .args .edition)) (drop (l .i * n) (begin .args .bytes .now)))) (size .ensures)) (c .before .before .before .step .ensures) (c .before .word2 .ensures)),
     )
 
 same-length : tie.Need-same-length Inv-loop μ-loop
@@ -87,12 +126,20 @@ run-records-spec =
     loop-holds
     mul-input-at
     input-at-requires
-    step-requires
+    quiet-of-requires
+    finish-requires
     word-requires
     mul-out
     slice-write-out
     add-i
     loop-less
     loop-again
+    step-requires
+    word-requires-2
+    mul-out-2
+    slice-write-out-2
+    add-i-2
+    loop-less-2
+    loop-again-2
     same-length
     returns)
