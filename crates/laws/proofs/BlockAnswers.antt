@@ -21,6 +21,7 @@ use Rattle.rules.specs.declared.Register.the-variants.{Block}
 use Rattle.rules.specs.declared.Setting.{Setting}
 use Rattle.rules.specs.declared.Verdict.{Verdict}
 use Rattle.laws.specs.Block.{settingLocked, ofBlock}
+use Rattle.laws.specs.Refusals.{answerBy}
 use Rattle.laws.specs.InMap.{inMap}
 use Rattle.laws.proofs.Cases.{by-kind}
 use Rattle.laws.proofs.Content.{block-locked}
@@ -45,11 +46,6 @@ block-any-n n m r k s l e =
     ap (decode m) (sym (number-decode n r i) ∙ ap numberOf e) ∙ decode-number m (Block s k) l a
 
 -- ── the answer ──
-
--- what a verdict answers
-abbrev pub answerBy : Verdict → Answer → Answer
-answerBy Verdict.Accepted a = a
-answerBy (Verdict.Refused m) a = Answer.Refused m
 
 -- the verdict on a read of a register of the block, and on a write, by the block c and its stages b
 abbrev pub readVerdict : Setting → Verdict

@@ -10,8 +10,10 @@ use lib.ListN.{getD, length}
 use Rattle.rules.specs.Access.{malformed, noRegister, wrongWay, tooWide, sillyThreshold, barred, differs}
 use Rattle.rules.specs.Answer.{Case}
 use Rattle.rules.specs.declared.Access.{Access}
+use Rattle.rules.specs.declared.Answer.{Answer}
 use Rattle.rules.specs.declared.Handler.{Handler}
 use Rattle.rules.specs.declared.Refusal.{Refusal}
+use Rattle.rules.specs.declared.Verdict.{Verdict}
 
 -- m is the refusal of the first case in the list that holds
 pub record First (cs : List Case) (d : Case) (m : Refusal) : Type 0 where
@@ -38,3 +40,8 @@ AccessRefusal m = ((1 ≤ m) × (m ≤ 5)) ⊎ ((m ≡ 12) ⊎ (m ≡ 14))
 -- what an access may answer: a value of 32 bits, or the negated number of a refusal
 abbrev pub AccessNumber : ℤ → Type 0
 AccessNumber z = ((v : ℕ) × (v ≤ 4294967295) × (z ≡ pos v)) ⊎ ((m : ℕ) × AccessRefusal m × (z ≡ negℤ (pos m)))
+
+-- what a verdict answers: a where the access is accepted
+abbrev pub answerBy : Verdict → Answer → Answer
+answerBy Verdict.Accepted a = a
+answerBy (Verdict.Refused m) a = Answer.Refused m

@@ -4,18 +4,17 @@ use Prim.Native.Nat.{ℕ}
 use mathlib.Core.Path.{_≡_, refl, sym, ap, ap₂}
 use mathlib.Core.Bool.{Bool, true, false, not}
 use lib.Dec.{eqb}
+use Rattle.laws.specs.Refusals.{answerBy}
 use Rattle.rules.specs.Access.{value, inOrder, verdict, accessedBy, accessed}
 use Rattle.rules.specs.Answer.{firstOf}
 use Rattle.rules.specs.Map.{decode, isRegister, writeOnly}
 use Rattle.rules.specs.Stages.{stage}
-use Rattle.rules.specs.declared.Access.{Access}
 use Rattle.rules.specs.declared.Access.the-variants.{Nothing, Read}
-use Rattle.rules.specs.declared.Accessed.{Accessed}
 use Rattle.rules.specs.declared.Answer.{Answer}
 use Rattle.rules.specs.declared.Handler.{Handler}
 use Rattle.rules.specs.declared.Register.{Register}
 use Rattle.rules.specs.declared.Verdict.{Verdict}
-use Rattle.registers.specs.Same.{answerBy, readVerdict, readAnswer, unmoved}
+use Rattle.registers.specs.Same.{readVerdict, readAnswer, unmoved}
 use Rattle.registers.specs.declared.same.Same.{Same}
 use Rattle.registers.proofs.Accesses.{no-bits}
 use Rattle.registers.proofs.Restages.{none-dropped}
@@ -25,8 +24,8 @@ abbrev readBy : Bool → Bool → Verdict
 readBy none wrong = firstOf (inOrder false none wrong false false false false)
 
 module _ (h : Handler) where
-  pub read-answered : (q : Register) (v : Verdict) → readVerdict q ≡ v → answerBy v (value h q) ≡ readAnswer h q
-  read-answered q v e = ap (λ (t : Verdict). answerBy t (value h q)) (sym e)
+  pub read-answered : (q : Register) (v : Verdict) → readVerdict q ≡ v → answerBy v (Answer.Value (value h q)) ≡ readAnswer h q
+  read-answered q v e = ap (λ (t : Verdict). answerBy t (Answer.Value (value h q))) (sym e)
 
   pub nothing-same : unmoved h Answer.Done ≡ accessed h Nothing
   unfolding accessed verdict firstOf
@@ -41,7 +40,7 @@ module _ (h : Handler) where
   unfolding accessed verdict firstOf
   read-same r e = go (not (isRegister (decode (h .n) r))) (writeOnly (decode (h .n) r))
     where
-      go : (a b : Bool) → unmoved h (answerBy (readBy a b) (value h (decode (h .n) r))) ≡ accessedBy (readBy a b) h (Read r)
+      go : (a b : Bool) → unmoved h (answerBy (readBy a b) (Answer.Value (value h (decode (h .n) r)))) ≡ accessedBy (readBy a b) h (Read r)
       go true b = refl
       go false true = refl
       go false false =

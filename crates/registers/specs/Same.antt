@@ -1,7 +1,7 @@
 -- An access that leaves the state as it is.
 -- Assumes nothing.
-use Prim.Native.Nat.{ℕ}
-use mathlib.Core.Bool.{Bool, false, not}
+use mathlib.Core.Bool.{false, not}
+use Rattle.laws.specs.Refusals.{answerBy}
 use Rattle.rules.specs.Access.{value, inOrder}
 use Rattle.rules.specs.Answer.{firstOf}
 use Rattle.rules.specs.Map.{isRegister, writeOnly}
@@ -11,17 +11,13 @@ use Rattle.rules.specs.declared.Handler.{Handler}
 use Rattle.rules.specs.declared.Register.{Register}
 use Rattle.rules.specs.declared.Verdict.{Verdict}
 
--- the answer to a read of the value v, by its verdict
-abbrev pub answerBy : Verdict → ℕ → Answer
-answerBy Verdict.Accepted v = Answer.Value v
-answerBy (Verdict.Refused m) v = Answer.Refused m
-
 -- the verdict on a read
 abbrev pub readVerdict : Register → Verdict
 readVerdict q = firstOf (inOrder false (not (isRegister q)) (writeOnly q) false false false false)
 
+-- a read gives the value, or its refusal
 abbrev pub readAnswer : Handler → Register → Answer
-readAnswer h q = answerBy (readVerdict q) (value h q)
+readAnswer h q = answerBy (readVerdict q) (Answer.Value (value h q))
 
 -- step 1 with this answer, the state unchanged, no clear and nothing raised
 abbrev pub unmoved : Handler → Answer → Accessed
