@@ -117,7 +117,7 @@ pub fn configure(h: Handler, r: u16, v: u32) -> Handler {
 // What register r holds, and a space.
 pub fn show_value(h: Handler, r: u16) {
     print_number(
-        registers::read::value_of(
+        register_file::read::value_of(
             h,
             map::number::register_at(h.n, carry(Edition::Bytes24, r)),
         ) as u64,

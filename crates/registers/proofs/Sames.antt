@@ -17,7 +17,7 @@ use Rattle.rules.specs.declared.Verdict.{Verdict}
 use Rattle.registers.specs.Same.{readVerdict, readAnswer, unmoved}
 use Rattle.registers.specs.declared.same.Same.{Same}
 use Rattle.registers.proofs.Accesses.{no-bits}
-use Rattle.registers.proofs.Restages.{none-dropped}
+use Rattle.register_file.proofs.Restages.{none-dropped}
 
 -- the verdict on a read, by the two refusals that it can meet
 abbrev readBy : Bool → Bool → Verdict

@@ -1,13 +1,13 @@
 // "One tick", step 1: the access, on the state before any event of this tick.
-use crate::read::value_of;
-use crate::restage::drop_stage;
-use crate::restage::stage_value;
-use crate::stage::stage_of;
 use crate::verdict::verdict_of;
-use crate::write::stored;
 use map::column::is_shadowed;
 use map::number::register_at;
 use masks::class_bit;
+use register_file::read::value_of;
+use register_file::restage::drop_stage;
+use register_file::restage::stage_value;
+use register_file::stage::stage_of;
+use register_file::write::stored;
 use rules::Access;
 use rules::Accessed;
 use rules::Answer;

@@ -1,8 +1,8 @@
 // "One tick", step 1: an access that leaves the state as it is, none or a read of a register without a stage.
-use crate::read::value_of;
-use crate::stage::stage_of;
 use crate::verdict::read_verdict;
 use map::number::register_at;
+use register_file::read::value_of;
+use register_file::stage::stage_of;
 use rules::Access;
 use rules::Answer;
 use rules::Handler;

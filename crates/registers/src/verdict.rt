@@ -1,7 +1,5 @@
 // "One tick", step 1: the refusals of an access, in the order 5, 1, 2, 4, 14, 3, 12.
-use crate::read::value_of;
 use crate::silly::is_silly;
-use crate::stage::stage_of;
 use map::column::guard_of;
 use map::column::is_lock;
 use map::column::is_register;
@@ -9,6 +7,8 @@ use map::column::limit;
 use map::column::read_only;
 use map::column::write_only;
 use map::number::register_at;
+use register_file::read::value_of;
+use register_file::stage::stage_of;
 use rules::Access;
 use rules::Handler;
 use rules::Refusal;

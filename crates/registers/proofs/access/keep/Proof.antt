@@ -2,7 +2,7 @@
 -- Assumes nothing.
 use mathlib.Core.Path.{sym, _∙_}
 use mathlib.Core.Bool.{true, false}
-use Rattle.registers.proofs.Restages.{dropped-kept}
+use Rattle.register_file.proofs.Restages.{dropped-kept}
 use borrow.Author.Needs.{needs}
 use Rattle.registers.proofs.access.keep.Statement.{statement}
 use Rattle.registers.proofs.access.keep.Tie as tie

@@ -1,7 +1,7 @@
 -- `access::write` meets its contract.
 -- Assumes nothing.
 use mathlib.Core.Path.{sym, _∙_}
-use Rattle.registers.proofs.Restages.{first-written, later-written}
+use Rattle.register_file.proofs.Restages.{first-written, later-written}
 use borrow.Author.Needs.{needs}
 use Rattle.registers.proofs.access.write.Statement.{statement}
 use Rattle.registers.proofs.access.write.Tie as tie

@@ -3,7 +3,7 @@
 use mathlib.Core.Path.{_≡_}
 use native.Mathlib.Omega.{arith}
 use lib.ListN.{length}
-use Rattle.registers.proofs.Past.{past-silly}
+use Rattle.register_file.proofs.Past.{past-silly}
 use borrow.Author.Needs.{needs}
 use Rattle.registers.proofs.silly.locks_silly_block.Statement.{statement}
 use Rattle.registers.proofs.silly.locks_silly_block.Tie as tie
