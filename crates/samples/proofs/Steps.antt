@@ -20,14 +20,14 @@ use Rattle.rules.specs.declared.Field.{Field}
 use Rattle.rules.specs.declared.Handler.{Handler}
 use Rattle.rules.specs.declared.Wires.{Wires}
 use Rattle.samples.specs.Received.{ReceivedAll, wordsBy}
-use Rattle.samples.specs.Noted.{Noted, enabledIn}
-use Rattle.samples.specs.Gathered.{GatheredAll, amongWords}
+use Rattle.events.specs.Noted.{Noted, enabledIn}
+use Rattle.events.specs.Gathered.{GatheredAll, amongWords}
 use Rattle.samples.specs.Occurred.{OccurredAll, amongBits, raisedBy}
 use Rattle.samples.specs.Sampled.{SampledBy}
 use Rattle.samples.specs.declared.receive.Received.{Received}
-use Rattle.samples.specs.declared.gather.Gathered.{Gathered}
+use Rattle.events.specs.declared.gather.Gathered.{Gathered}
 use Rattle.samples.specs.declared.locals.Occurred.{Occurred}
-use Rattle.samples.proofs.Notes.{noted-by}
+use Rattle.events.proofs.Notes.{noted-by}
 
 -- the enabled alerts among those that the words of a rule name
 among : (f : ℕ → Bool) (ws en : List ℕ) (n i : ℕ) → n ≤ most → i < n → ws ≡ wordsBy (λ j. ltb j n && f j)

@@ -6,7 +6,7 @@ use mathlib.Core.List.{List}
 use lib.Dec.{eqb}
 use Rattle.bits.specs.Bits.{bit}
 use Rattle.rules.specs.State.{localCount}
-use Rattle.samples.specs.Noted.{Noted, enabledIn}
+use Rattle.events.specs.Noted.{Noted, enabledIn}
 use Rattle.samples.specs.declared.locals.Occurred.{Occurred}
 
 -- local alert j is raised: local 2, if an enabled alert has equal wires, and those that the mask of step 1 names

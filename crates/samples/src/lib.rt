@@ -1,12 +1,9 @@
 // Step 2 of a tick: the samples.
 mod receive; // receive.rt: wire pairs and arming, 64 alerts at a time
 pub mod rearm; // rearm.rt: arming alone
-mod note; // note.rt: what one event does
-mod places; // places.rt: the places of a word that are set
-mod gather; // gather.rt: events and enables of the alerts into causes and classes
-mod broken; // broken.rt: equal wires of enabled alerts
 mod locals; // locals.rt: the local alerts
 
+use events::gather::gather;
 use rules::Effects;
 use rules::Handler;
 use rules::Wires;
@@ -41,7 +38,7 @@ pub fn sample(g: Handler, w: Wires, fx: Effects) -> Sampled
     let en = alerts.en;
     let class = alerts.class;
     let before = alerts.cause;
-    let gathered = gather::gather(n, &events, &equal, &en, &class, before);
+    let gathered = gather(n, &events, &equal, &en, &class, before);
     let cause = gathered.cause;
     alerts.cause = cause;
     let raised = locals::raise(gathered.broken, fx.raises);

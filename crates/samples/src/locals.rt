@@ -1,5 +1,5 @@
 // Step 2, the local alerts: those that are raised and enabled occur.
-use crate::note;
+use events::note;
 use masks::num;
 ghost use mathlib.Core.Path.{_≡_};
 ghost use Rattle.bits.specs.Bits.{bitsOf};

@@ -1,24 +1,7 @@
 // Step 2, wire pairs and arming, 64 alerts at a time. Nothing here knows of EN or CLASS.
+use events::places::live;
 use rules::WORDS;
-ghost use Prim.Native.Nat.{ℕ, _+_, _<_};
-ghost use mathlib.Core.Path.{_≡_};
-ghost use lib.Dec.{ltb};
-ghost use Rattle.bits.specs.Bits.{place};
 ghost use Rattle.samples.specs.Received.{ReceivedWord, ReceivedAll};
-
-// The places of the alerts from b on that are below n.
-pub fn live(n: usize, b: usize) -> u64
-    ensures { λ r. ⌜ ((i : ℕ) → i < 64 → place r i ≡ ltb (b + i) n) ⌝ }
-{
-    let ones: u64 = 0xFFFF_FFFF_FFFF_FFFF;
-    if n <= b {
-        0
-    } else if n - b < 64 {
-        !(ones >> (n - b))
-    } else {
-        ones
-    }
-}
 
 // What the wires of 64 alerts tell: who is re-armed now, who had an event, whose wires are equal.
 pub struct Word {

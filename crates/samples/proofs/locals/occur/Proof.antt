@@ -8,9 +8,9 @@ use native.Mathlib.Omega.{arith}
 use borrow.Author.Needs.{needs}
 use Rattle.bits.specs.Bits.{bit}
 use Rattle.rules.specs.State.{localCount}
-use Rattle.samples.specs.Noted.{Noted}
+use Rattle.events.specs.Noted.{Noted}
 use Rattle.samples.specs.Occurred.{amongBits}
-use Rattle.samples.proofs.Notes.{noted-start, noted-long, noted-step}
+use Rattle.events.proofs.Notes.{noted-start, noted-long, noted-step}
 use Rattle.samples.proofs.locals.occur.Statement.{statement}
 use Rattle.samples.proofs.locals.occur.Tie as tie
 

@@ -16,7 +16,7 @@ use Rattle.bits.specs.Index.{anyTo}
 use Rattle.bits.proofs.IndexLaws.{is-each, at-each, length-each, each-ext, any-ext, any-skip}
 use Rattle.bits.proofs.WordLaws.{or-bitsOf}
 use Rattle.rules.specs.Samples.{marked}
-use Rattle.samples.specs.Noted.{Noted}
+use Rattle.events.specs.Noted.{Noted}
 
 and-none : (a b : Bool) → a ≡ false → (a && b) ≡ false
 and-none a b e = rw e

@@ -1,9 +1,9 @@
--- `receive::live` meets its contract, for a word with none, some and all of its alerts below n.
+-- `places::live` meets its contract, for a word with none, some and all of its alerts below n.
 -- Assumes nothing.
 use borrow.Author.Needs.{needs}
-use Rattle.samples.proofs.Pairs.{none-live, some-live, all-live}
-use Rattle.samples.proofs.receive.live.Statement.{statement}
-use Rattle.samples.proofs.receive.live.Tie as tie
+use Rattle.events.proofs.Live.{none-live, some-live, all-live}
+use Rattle.events.proofs.places.live.Statement.{statement}
+use Rattle.events.proofs.places.live.Tie as tie
 
 sub-if2 : tie.Need-sub-if2
 sub-if2 c = search needs

@@ -10,10 +10,10 @@ use lib.Dec.{ltb}
 use borrow.Author.Tests.{lt-ltb}
 use Rattle.bits.specs.Index.{anyTo, placeIn}
 use Rattle.bits.proofs.IndexLaws.{and-true, true-and, any-at, any-none}
-use Rattle.samples.specs.Noted.{enabledIn}
-use Rattle.samples.specs.Gathered.{amongWords}
-use Rattle.samples.specs.Places.{First}
-use Rattle.samples.proofs.Turns.{Left, counted, visited, counted-below, visited-here, visited-none, left-here, left-none, left-end}
+use Rattle.events.specs.Noted.{enabledIn}
+use Rattle.events.specs.Gathered.{amongWords}
+use Rattle.events.specs.Places.{First}
+use Rattle.events.proofs.Turns.{Left, counted, visited, counted-below, visited-here, visited-none, left-here, left-none, left-end}
 
 -- none of the alerts below i was found
 pub record Unbroken (n : ℕ) (ws en : List ℕ) (i : ℕ) : Type 0 where

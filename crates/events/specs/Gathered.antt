@@ -6,8 +6,8 @@ use mathlib.Core.Bool.{Bool, _&&_}
 use mathlib.Core.List.{List}
 use Rattle.bits.specs.Index.{anyTo, placeIn}
 use Rattle.rules.specs.State.{most}
-use Rattle.samples.specs.Noted.{Noted, enabledIn}
-use Rattle.samples.specs.declared.gather.Gathered.{Gathered}
+use Rattle.events.specs.Noted.{Noted, enabledIn}
+use Rattle.events.specs.declared.gather.Gathered.{Gathered}
 
 -- the enabled alerts among those that the words name
 abbrev pub amongWords : List ℕ → List ℕ → ℕ → Bool

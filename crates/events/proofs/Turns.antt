@@ -15,9 +15,9 @@ use Rattle.bits.specs.Index.{placeIn}
 use Rattle.bits.proofs.BitLaws.{bit-and, bit-none}
 use Rattle.bits.proofs.IndexLaws.{and-true}
 use Rattle.bits.proofs.WordLaws.{placeIn-at}
-use Rattle.samples.specs.Gathered.{amongWords}
-use Rattle.samples.specs.Noted.{enabledIn}
-use Rattle.samples.specs.Places.{First, Rest}
+use Rattle.events.specs.Gathered.{amongWords}
+use Rattle.events.specs.Noted.{enabledIn}
+use Rattle.events.specs.Places.{First, Rest}
 
 -- the alerts of word v below i have had their turn; of the others those with f are left
 pub record Left (f : ℕ → Bool) (v i left : ℕ) : Type 0 where

@@ -8,13 +8,13 @@ use native.Mathlib.Numerals.{add-one}
 use native.Mathlib.Omega.{arith}
 use borrow.Author.Needs.{needs}
 use Rattle.rules.specs.State.{most, words}
-use Rattle.samples.specs.Gathered.{amongWords}
-use Rattle.samples.specs.Noted.{Noted}
-use Rattle.samples.proofs.Notes.{noted-start, noted-long, noted-cut}
-use Rattle.samples.proofs.Noting.{noted-turn, noted-word}
-use Rattle.samples.proofs.Turns.{Left, counted, visited, counted-below, left-start, left-here, left-after}
-use Rattle.samples.proofs.gather.gather.Statement.{statement}
-use Rattle.samples.proofs.gather.gather.Tie as tie
+use Rattle.events.specs.Gathered.{amongWords}
+use Rattle.events.specs.Noted.{Noted}
+use Rattle.events.proofs.Notes.{noted-start, noted-long, noted-cut}
+use Rattle.events.proofs.Noting.{noted-turn, noted-word}
+use Rattle.events.proofs.Turns.{Left, counted, visited, counted-below, left-start, left-here, left-after}
+use Rattle.events.proofs.gather.gather.Statement.{statement}
+use Rattle.events.proofs.gather.gather.Tie as tie
 
 abbrev Inv-loop2 : tie.InvT-loop2
 Inv-loop2 n events equal en class cause₀ hits₀ v left₀ cause hits left =

@@ -3,8 +3,8 @@
 use mathlib.Core.Path.{sym}
 use lib.Seq.{set-getD}
 use borrow.Author.Needs.{needs}
-use Rattle.samples.proofs.note.mark.Statement.{statement}
-use Rattle.samples.proofs.note.mark.Tie as tie
+use Rattle.events.proofs.note.mark.Statement.{statement}
+use Rattle.events.proofs.note.mark.Tie as tie
 
 slice-write-causes : tie.Need-slice-write-causes
 slice-write-causes c = search needs

@@ -3,9 +3,9 @@
 use native.Mathlib.Omega.{arith}
 use borrow.Author.Needs.{needs}
 use lib.Count.{leading-le}
-use Rattle.samples.proofs.Firsts.{first-of}
-use Rattle.samples.proofs.places.first.Statement.{statement}
-use Rattle.samples.proofs.places.first.Tie as tie
+use Rattle.events.proofs.Firsts.{first-of}
+use Rattle.events.proofs.places.first.Statement.{statement}
+use Rattle.events.proofs.places.first.Tie as tie
 
 cast-result : tie.Need-cast-result
 cast-result c = omega (arith, leading-le 64 (c .args .w))

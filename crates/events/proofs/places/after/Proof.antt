@@ -5,9 +5,9 @@ use native.Mathlib.Omega.{arith}
 use lib.Pow.{pow-pos}
 use borrow.Author.Needs.{needs}
 use Rattle.bits.proofs.FirstLaws.{one-shl}
-use Rattle.samples.proofs.Firsts.{rest-of}
-use Rattle.samples.proofs.places.after.Statement.{statement}
-use Rattle.samples.proofs.places.after.Tie as tie
+use Rattle.events.proofs.Firsts.{rest-of}
+use Rattle.events.proofs.places.after.Statement.{statement}
+use Rattle.events.proofs.places.after.Tie as tie
 
 sub-result : tie.Need-sub-result
 sub-result c = search needs

@@ -1,14 +1,14 @@
 // Step 2, equal wires and enables: what raises local alert 2.
 use crate::places::after;
 use crate::places::first;
-use crate::receive::live;
+use crate::places::live;
 use rules::MOST;
 use rules::WORDS;
 ghost use Prim.Native.Nat.{_≤_};
 ghost use mathlib.Core.Path.{_≡_};
 ghost use Rattle.bits.specs.Index.{anyTo};
 ghost use Rattle.rules.specs.State.{most};
-ghost use Rattle.samples.specs.Gathered.{amongWords};
+ghost use Rattle.events.specs.Gathered.{amongWords};
 
 // Whether an enabled alert below n has equal wires. Only those with equal wires are looked at, and the first that is enabled ends the search.
 pub fn any_broken(n: usize, equal: &[u64; WORDS], en: &[u8; MOST]) -> bool

@@ -3,12 +3,12 @@ use crate::broken::any_broken;
 use crate::note;
 use crate::places::after;
 use crate::places::first;
-use crate::receive::live;
+use crate::places::live;
 use rules::MOST;
 use rules::WORDS;
 ghost use Prim.Native.Nat.{_≤_};
 ghost use Rattle.rules.specs.State.{most};
-ghost use Rattle.samples.specs.Gathered.{GatheredAll};
+ghost use Rattle.events.specs.Gathered.{GatheredAll};
 
 // The alerts' causes, the classes that their events are assigned to, and whether an enabled one has equal wires.
 pub struct Gathered {

@@ -10,10 +10,10 @@ use lib.Dec.{eqb}
 use lib.ListN.{getD, set}
 use Rattle.bits.specs.Bits.{bitsOf}
 use Rattle.rules.specs.Samples.{marked}
-use Rattle.samples.specs.Noted.{Noted, enabledIn}
-use Rattle.samples.specs.Places.{First}
-use Rattle.samples.proofs.Notes.{noted-skip, noted-step}
-use Rattle.samples.proofs.Turns.{Left, counted, visited, visited-here, visited-none, left-from, left-here, left-none, left-end}
+use Rattle.events.specs.Noted.{Noted, enabledIn}
+use Rattle.events.specs.Places.{First}
+use Rattle.events.proofs.Notes.{noted-skip, noted-step}
+use Rattle.events.proofs.Turns.{Left, counted, visited, visited-here, visited-none, left-from, left-here, left-none, left-end}
 
 module _ (n : ℕ) (ws en class before : List ℕ) (size v i left : ℕ) (t : Left (counted n ws) v i left) (cause : List ℕ) (hits : ℕ)
     (s : Noted (visited n ws en) class before size i cause hits) where

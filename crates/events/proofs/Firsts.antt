@@ -10,7 +10,7 @@ use lib.Dec.{ltb}
 use borrow.Author.Tests.{lt-ltb, le-ltb}
 use Rattle.bits.specs.Bits.{bit, place}
 use Rattle.bits.proofs.BitLaws.{bit-above}
-use Rattle.samples.specs.Places.{First, Rest}
+use Rattle.events.specs.Places.{First, Rest}
 use Rattle.bits.proofs.FirstLaws.{bit-top, bit-least, bit-low, low-less}
 
 -- the first place is the highest bit

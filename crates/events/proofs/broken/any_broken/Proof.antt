@@ -7,10 +7,10 @@ use native.Mathlib.Omega.{arith}
 use borrow.Author.Needs.{needs}
 use borrow.Author.Tests.{ne-eqb, eq-eqb}
 use Rattle.rules.specs.State.{words}
-use Rattle.samples.proofs.Turns.{Left, counted, counted-below, left-start, left-here, left-after}
-use Rattle.samples.proofs.Unbroken.{Unbroken, unbroken-start, unbroken-turn, unbroken-word, unbroken-end, broken-turn}
-use Rattle.samples.proofs.broken.any_broken.Statement.{statement}
-use Rattle.samples.proofs.broken.any_broken.Tie as tie
+use Rattle.events.proofs.Turns.{Left, counted, counted-below, left-start, left-here, left-after}
+use Rattle.events.proofs.Unbroken.{Unbroken, unbroken-start, unbroken-turn, unbroken-word, unbroken-end, broken-turn}
+use Rattle.events.proofs.broken.any_broken.Statement.{statement}
+use Rattle.events.proofs.broken.any_broken.Tie as tie
 
 abbrev Inv-loop2 : tie.InvT-loop2
 Inv-loop2 n equal en v left₀ left = (i : ℕ) × Left (counted n equal) v i left × Unbroken n equal en i
