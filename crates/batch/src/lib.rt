@@ -6,6 +6,7 @@ use handler::tick::step;
 use rules::Answer;
 use rules::Edition;
 use rules::Handler;
+use rules::Links;
 use rules::Receivers;
 use rules::Refusal;
 use state::valid::is_valid;
@@ -53,9 +54,11 @@ fn run_records(edition: Edition, h: Handler, bytes: &[u8], out: &mut [u64], coun
             let answer = quiet.answer;
             out[i] = word(output, answer);
             let armed = quiet.armed;
-            let receivers = Receivers { armed };
+            let links = Links {
+                receivers: Receivers { armed },
+            };
             let classes = end.classes;
-            g.receivers = receivers;
+            g.links = links;
             g.classes = classes;
             g.interrupts.state = end.state;
             i += 1;

@@ -12,18 +12,19 @@ use Rattle.bits.specs.Bits.{bit, place}
 use Rattle.class_rules.specs.Class.{stateOf}
 use Rattle.class_rules.specs.declared.ClassState.the-variants.{Idle}
 use Rattle.laws.proofs.Cases.{by-kind, by-setting}
-use Rattle.laws.proofs.Quiet.{quiet-tick, quiet-waits}
+use Rattle.laws.proofs.Quiet.{rest-silent, quiet-tick, quiet-waits}
 use Rattle.laws.proofs.Refusal7.{ticked-handler}
 use Rattle.laws.proofs.Step1.{clears-if}
 use Rattle.laws.proofs.Written.{ticked-answer}
 use Rattle.laws.specs.InMap.{inMap}
-use Rattle.laws.specs.Quiet.{AtRest, runs}
+use Rattle.laws.specs.Quiet.{AtRest, Silent, runs}
 use Rattle.laws.specs.RegisterFile.{commits, plain}
 use Rattle.laws.specs.StageFile.{names}
 use Rattle.rules.specs.Access.{value, verdict, accepts, accepted, isClrOf, writesClr, accessedBy, accessed, answerTo, clears}
 use Rattle.rules.specs.Answer.{number}
 use Rattle.rules.specs.Map.{numberOf}
 use Rattle.rules.specs.State.{words, classCount, classAt}
+use Rattle.rules.specs.Tick.{hears}
 use Rattle.rules.specs.Valid.{valid}
 use Rattle.rules.specs.declared.Access.{Access}
 use Rattle.rules.specs.declared.Access.the-variants.{Write}
@@ -75,6 +76,10 @@ wants-accepted h a t w = go (verdict h (a .access)) (ap (λ (x : Answer). is (nu
     go Verdict.Accepted x = refl
     go (Verdict.Refused m) x = absurd (false≢true (sym (refused-not m (a .wanted)) ∙ x))
 
+-- a tick of the boot that gets the answer that is wanted hears nothing: all wires at (0,1), and no differing write
+boot-silent : (h : Handler) (a : Ask) → valid h ≡ true → wants h a ≡ true → Silent (hears h (inputOf a))
+boot-silent h a t w = rest-silent h (inputOf a) t (at-rest (a .access)) (wants-accepted h a t w)
+
 -- a plain register is no CLR
 plain-clr : (k : ℕ) (q : Register) → plain q ≡ true → isClrOf k q ≡ false
 plain-clr k =
@@ -110,7 +115,7 @@ module _ (h f : Handler) (w : Kept h f) (q : Register) (v : ℕ) (k : Fit (h .n)
         record {
           kept = reach-kept h f x w;
           holds = ap (λ (e : Handler). value e o) (ticked-handler f (inputOf x) (w .good))
-              ∙ quiet-tick f (inputOf x) (w .good) (at-rest (x .access)) (wants-accepted f x (w .good) g) (no-clear (x .access) c) o in-o r m ∙ s .holds;
+              ∙ quiet-tick f (inputOf x) (w .good) (boot-silent f x (w .good) g) (no-clear (x .access) c) o in-o r m ∙ s .holds;
           staged = reach-stage f (w .good) o in-o x y ∙ s .staged;
         }
 
@@ -126,7 +131,7 @@ module _ (h f : Handler) (w : Kept h f) (q : Register) (v : ℕ) (k : Fit (h .n)
       → bit (f .interrupts .state) j ≡ false → stateOf (classAt f j .state) ≡ Idle → stateOf (classAt (reach f x) j .state) ≡ Idle
   idle-by x j l g c m b s =
       ap (λ (e : Handler). stateOf (classAt e j .state)) (ticked-handler f (inputOf x) (w .good))
-      ∙ quiet-waits f (inputOf x) (w .good) (at-rest (x .access)) (wants-accepted f x (w .good) g) (no-clear (x .access) c) j l m b s
+      ∙ quiet-waits f (inputOf x) (w .good) (boot-silent f x (w .good) g) (no-clear (x .access) c) j l m b s
 
   pub idle-write : (j : ℕ) → j < classCount → wants f (write (numberOf q) v) ≡ true → (numberOf q ≡ numberOf IntrState → ⊥)
       → bit (f .interrupts .state) j ≡ false → stateOf (classAt f j .state) ≡ Idle → stateOf (classAt (reach f (write (numberOf q) v)) j .state) ≡ Idle

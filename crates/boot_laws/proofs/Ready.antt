@@ -16,23 +16,23 @@ use Rattle.laws.proofs.Frame.{after-n}
 use Rattle.laws.proofs.KeepsValid.{ticked-valid}
 use Rattle.laws.proofs.RegisterFile.{acted-n}
 use Rattle.laws.proofs.Refusal7.{ticked-handler}
-use Rattle.laws.proofs.StateLaws.{armed-sampled}
+use Rattle.laws.proofs.Arming.{happens-in, after-armed}
 use Rattle.laws.proofs.ValidLaws.{facts}
 use Rattle.laws.proofs.Written.{new-valid}
 use Rattle.laws.specs.Quiet.{AtRest}
 use Rattle.rules.proofs.Scenes.{rules}
-use Rattle.rules.specs.Access.{acted, effects}
+use Rattle.rules.specs.Access.{acted}
 use Rattle.rules.specs.Run.{run, ticks}
 use Rattle.rules.specs.Samples.{positive, negative, happens, armedAfter, rearmed}
 use Rattle.rules.specs.Scenes.{raise, none}
 use Rattle.rules.specs.State.{most, words, armed, newHandler}
-use Rattle.rules.specs.Tick.{stepped, after, ticked}
+use Rattle.rules.specs.Tick.{ticked}
 use Rattle.rules.specs.Valid.{valid}
 use Rattle.rules.specs.declared.Access.{Access}
 use Rattle.rules.specs.declared.Handler.{Handler}
 use Rattle.rules.specs.declared.Input.{Input}
 use Rattle.rules.specs.declared.Wires.{Wires}
-use Rattle.boot_laws.specs.FromBoot.{FirstEvent, FromBoot}
+use Rattle.boot_laws.specs.FromBoot.{FirstEvent}
 use Rattle.policy.specs.Install.{rest}
 use Rattle.policy.specs.Plan.{isA, locks, boot}
 use Rattle.policy.specs.Table.{alertCount, markAt}
@@ -49,14 +49,13 @@ rest-arms g w i r b l =
     ∙ ap (λ (p : Bool). armedAfter (armed g i) p (negative w i)) (r .low i b) ∙ ap (λ (m : Bool). armedAfter (armed g i) false m) (r .high i b)
 
 tick-arms : (f : Handler) (x : Access) (i : ℕ) → valid f ≡ true → i < f .n → armed (ticked f (rest x) .handler) i ≡ true
-unfolding after stepped
 tick-arms f x i t l =
     let g : Handler = acted f x in
     let n : g .n ≡ f .n = acted-n f x in
     let m : f .n ≤ most = facts f t .n in
     let b : i < g .n = subst (λ (k : ℕ). i < k) (sym n) l in
     ap (λ (y : Handler). armed y i) (ticked-handler f (rest x) t)
-    ∙ armed-sampled g (rest x .sample .alerts) (effects f x) i (omega arith)
+    ∙ after-armed f (rest x) i (omega arith)
     ∙ rest-arms g (rest x .sample .alerts) i (at-rest x) (omega arith) b
 
 -- valid, as many alerts, and alert i re-armed
@@ -70,14 +69,17 @@ unfolding newHandler
 new-ready n i l =
     ap (λ (x : ℕ). place x (i % 64)) (getD-replicate words (i / 64) (2 ^ 64 - 1) 0 (omega arith)) ∙ bit-ones 64 (63 - i % 64) (omega arith)
 
-pub boot-arms : (l : Lifecycle) (n i : ℕ) → 0 < n → n ≤ most → i < n → armed (boot l (newHandler n) .handler) i ≡ true
+boot-armed : (l : Lifecycle) (n i : ℕ) → 0 < n → n ≤ most → i < n → Armed n i (boot l (newHandler n) .handler)
 unfolding newHandler
-boot-arms l n i z m b =
+boot-armed l n i z m b =
     boot-rests (Armed n i) (λ g x a. record {
       good = ticked-valid g (rest x) (a .good);
       size = ap (λ (y : Handler). y .n) (ticked-handler g (rest x) (a .good)) ∙ after-n g (rest x) ∙ a .size;
       ready = tick-arms g x i (a .good) (subst (λ (k : ℕ). i < k) (sym (a .size)) b);
-    }) l (newHandler n) (record { good = new-valid n z m; size = refl; ready = new-ready n i (omega arith) }) .ready
+    }) l (newHandler n) (record { good = new-valid n z m; size = refl; ready = new-ready n i (omega arith) })
+
+pub boot-arms : (l : Lifecycle) (n i : ℕ) → 0 < n → n ≤ most → i < n → armed (boot l (newHandler n) .handler) i ≡ true
+boot-arms l n i z m b = boot-armed l n i z m b .ready
 
 -- ── the corollary is met ──
 
@@ -92,7 +94,8 @@ module _ (l : Lifecycle) (n : ℕ) (c : locks l ≡ true) (k : isA (markAt l 14)
         idle = from-boot l n ys c a b .idle;
         is-alert = omega arith;
         marked = k;
-        occurs = ap (λ (x : Bool). happens x true false) (boot-arms l n 14 (omega arith) b (omega arith));
+        occurs = let d = boot-armed l n 14 (omega arith) b (omega arith) in
+            happens-in h (raise 14 none) 14 (omega (arith, d .size)) (omega (arith, d .size)) ∙ ap (λ (x : Bool). happens x true false) (d .ready);
         unclear = refl;
       }
 

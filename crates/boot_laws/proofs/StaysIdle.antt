@@ -18,13 +18,12 @@ use Rattle.escalation.proofs.Going.{step-place}
 use Rattle.escalation.proofs.Ticks.{input, at-next}
 use Rattle.escalation.proofs.Ticks
 use Rattle.escalation.specs.Escalation.{stateIn, Starts, Escalated, Demand3}
-use Rattle.escalation.specs.List.{IsTick, before, inputAt, givenAt, classRead, met}
+use Rattle.escalation.specs.List.{IsTick, before, inputAt, givenAt, classRead}
 use Rattle.laws.proofs.Content.{after-class, acted-place}
 use Rattle.rules.specs.Access.{clears}
 use Rattle.rules.specs.Run.{run}
-use Rattle.rules.specs.Samples.{happens, positive, negative}
-use Rattle.rules.specs.State.{most, armed, newHandler}
-use Rattle.rules.specs.Tick.{after}
+use Rattle.rules.specs.State.{most, newHandler}
+use Rattle.rules.specs.Tick.{happensIn, after, signalsIn}
 use Rattle.rules.specs.Valid.{valid}
 use Rattle.rules.specs.declared.Handler.{Handler}
 use Rattle.rules.specs.declared.Input.{Input}
@@ -51,12 +50,12 @@ idles q b m i t e = rw i (rw (rw i at e) (late (enabled b) (q .interrupt)))
     late false y = refl
 
 -- one tick
-tick-idles : (g : Handler) (x : Input) → stateIn g 0 ≡ Idle → classRead g x 0 .timeout ≡ 0 → starts (met g x 0) (classRead g x 0) ≡ false
+tick-idles : (g : Handler) (x : Input) → stateIn g 0 ≡ Idle → classRead g x 0 .timeout ≡ 0 → starts (signalsIn g x 0) (classRead g x 0) ≡ false
     → stateIn (after g x) 0 ≡ Idle
 tick-idles g x i t e =
     ap (λ (c : Class). stateOf (c .state)) (after-class g x 0 (omega arith))
-    ∙ ap (λ (p : Place). p .state) (step-place (met g x 0) (classRead g x 0))
-    ∙ idles (met g x 0) (classRead g x 0) (stateOf (classRead g x 0 .state)) (ap stateOf (acted-place g (x .access) 0 (omega arith) .0) ∙ i) t e
+    ∙ ap (λ (p : Place). p .state) (step-place (signalsIn g x 0) (classRead g x 0))
+    ∙ idles (signalsIn g x 0) (classRead g x 0) (stateOf (classRead g x 0 .state)) (ap stateOf (acted-place g (x .access) 0 (omega arith) .0) ∙ i) t e
 
 -- ── after the boot of a new handler, along any list ──
 
@@ -73,7 +72,7 @@ module _ (l : Lifecycle) (n : ℕ) (c : locks l ≡ true) (a : alertCount ≤ n)
 
   -- class A starts in tick i, counted from 0
   abbrev startsIn : ℕ → Bool
-  startsIn i = starts (met (Ticks.at h xs i) (input xs i) 0) (classRead (Ticks.at h xs i) (input xs i) 0)
+  startsIn i = starts (signalsIn (Ticks.at h xs i) (input xs i) 0) (classRead (Ticks.at h xs i) (input xs i) 0)
 
   idle-to : (i : ℕ) → i ≤ length xs → ((j : ℕ) → j < i → startsIn j ≡ false) → stateIn (Ticks.at h xs i) 0 ≡ Idle
   unfolding run
@@ -84,7 +83,7 @@ module _ (l : Lifecycle) (n : ℕ) (c : locks l ≡ true) (a : alertCount ≤ n)
       (timeout-is l c h good (boot-stands l (newHandler n) ok) (take i xs) (input xs i)) (e i (omega arith))
 
   is-first : (first s i : ℕ) → IsTick first xs s → ((j : ℕ) → j < s - first → startsIn j ≡ false) → i < alertCount → isA (markAt l i) ≡ true
-      → happens (armed (before first h xs s) i) (positive (inputAt first xs s .sample .alerts) i) (negative (inputAt first xs s .sample .alerts) i) ≡ true
+      → happensIn (before first h xs s) (inputAt first xs s) i ≡ true
       → clears (before first h xs s) (inputAt first xs s .access) 0 ≡ false → FirstEvent l (before first h xs s) (inputAt first xs s) i
   is-first first s i t e k m o u =
       let r : s - first ≤ length xs = let d = t .from in let f = t .to in omega arith in
@@ -93,13 +92,13 @@ module _ (l : Lifecycle) (n : ℕ) (c : locks l ≡ true) (a : alertCount ≤ n)
   -- the first event of an alert marked A starts it: no start came before tick s of the list, and in it an alert marked A has an event with no
   -- accepted clear of class A
   pub first-starts : (first s i : ℕ) → IsTick first xs s → ((j : ℕ) → j < s - first → startsIn j ≡ false) → i < alertCount → isA (markAt l i) ≡ true
-      → happens (armed (before first h xs s) i) (positive (inputAt first xs s .sample .alerts) i) (negative (inputAt first xs s .sample .alerts) i) ≡ true
+      → happensIn (before first h xs s) (inputAt first xs s) i ≡ true
       → clears (before first h xs s) (inputAt first xs s .access) 0 ≡ false → Starts (before first h xs s) (inputAt first xs s) 0
   first-starts first s i t e k m o u = from-boot l n xs c a b .start first s i t (is-first first s i t e k m o u)
 
   -- and demand 3 holds of it from that tick on
   pub first-escalates : (first s i : ℕ) → IsTick first xs s → ((j : ℕ) → j < s - first → startsIn j ≡ false) → i < alertCount → isA (markAt l i) ≡ true
-      → happens (armed (before first h xs s) i) (positive (inputAt first xs s .sample .alerts) i) (negative (inputAt first xs s .sample .alerts) i) ≡ true
+      → happensIn (before first h xs s) (inputAt first xs s) i ≡ true
       → clears (before first h xs s) (inputAt first xs s .access) 0 ≡ false → (v : ℕ) → s ≤ v → IsTick first xs v
       → Escalated (classRead (before first h xs s) (inputAt first xs s) 0) s v (givenAt first h xs v) 0
   first-escalates first s i t e k m o u = from-boot l n xs c a b .escalation first s i t (is-first first s i t e k m o u)

@@ -8,21 +8,19 @@ use Rattle.class_rules.specs.declared.ClassState.the-variants.{Idle}
 use Rattle.escalation.specs.Escalation.{stateIn, Starts, Escalated, Demand3}
 use Rattle.escalation.specs.List.{IsTick, before, inputAt, givenAt, classRead}
 use Rattle.rules.specs.Access.{clears}
-use Rattle.rules.specs.Samples.{happens, positive, negative}
-use Rattle.rules.specs.State.{armed}
+use Rattle.rules.specs.Tick.{happensIn}
 use Rattle.rules.specs.declared.Handler.{Handler}
 use Rattle.rules.specs.declared.Input.{Input}
 use Rattle.policy.specs.Plan.{isA}
 use Rattle.policy.specs.Table.{alertCount, markAt}
 use Rattle.policy.specs.declared.Lifecycle.{Lifecycle}
 
--- in the tick of state g and input x, while class A is Idle, an alert marked A has an event, and no clear of class A is accepted: "Pair (1,0) on a
--- re-armed alert is an event"
+-- in the tick of state g and input x, while class A is Idle, an alert marked A has an event, and no clear of class A is accepted
 pub record FirstEvent (l : Lifecycle) (g : Handler) (x : Input) (i : ℕ) : Type 0 where
   pub idle : stateIn g 0 ≡ Idle
   pub is-alert : i < alertCount
   pub marked : isA (markAt l i) ≡ true
-  pub occurs : happens (armed g i) (positive (x .sample .alerts) i) (negative (x .sample .alerts) i) ≡ true
+  pub occurs : happensIn g x i ≡ true
   pub unclear : clears g (x .access) 0 ≡ false
 
 -- h is the state after the boot, xs are the inputs of the ticks that follow, numbered from any first number

@@ -16,14 +16,13 @@ use Rattle.class_rules.specs.declared.Class.{Class}
 use Rattle.class_rules.specs.declared.ClassState.the-variants.{Phase0}
 use Rattle.class_rules.specs.declared.Place.{Place}
 use Rattle.laws.proofs.Content.{after-class, event-enabled, acted-place}
-use Rattle.rules.specs.Access.{acted, effects}
 use Rattle.rules.specs.State.{classCount}
-use Rattle.rules.specs.Tick.{after}
+use Rattle.rules.specs.Tick.{after, signalsIn}
 use Rattle.rules.specs.Valid.{valid}
 use Rattle.rules.specs.declared.Handler.{Handler}
 use Rattle.rules.specs.declared.Input.{Input}
 use Rattle.escalation.specs.Escalation.{stateIn, StartIs, Demand3}
-use Rattle.escalation.specs.List.{IsTick, before, inputAt, givenAt, classRead, met}
+use Rattle.escalation.specs.List.{IsTick, before, inputAt, givenAt, classRead}
 use Rattle.escalation.proofs.Escalation.{escalates}
 use Rattle.escalation.proofs.Going.{step-place}
 use Rattle.escalation.proofs.Locks.{locks, stages, no-clear}
@@ -35,26 +34,26 @@ module _ (g : Handler) (x : Input) (k : ℕ) (small : k < classCount) where
   read-state : stateOf (classRead g x k .state) ≡ stateIn g k
   read-state = ap stateOf (acted-place g (x .access) k small .0)
 
-  reached : stateIn (after g x) k ≡ moved (met g x k) (classRead g x k) .state
+  reached : stateIn (after g x) k ≡ moved (signalsIn g x k) (classRead g x k) .state
   reached =
       ap (λ (c : Class). stateOf (c .state)) (after-class g x k small)
-      ∙ ap (λ (w : Place). w .state) (step-place (met g x k) (classRead g x k))
+      ∙ ap (λ (w : Place). w .state) (step-place (signalsIn g x k) (classRead g x k))
 
   start-is : StartIs g x k (after g x)
   start-is = record {
     move = (there, back);
-    line = λ e. has-line (met g x k) (classRead g x k) _ (event-enabled (acted g (x .access)) (x .sample .alerts) (effects g (x .access)) k) e;
-    reason = λ e. ⊎-elim (λ t. inl t) (λ r. inr (sym read-state ∙ r .0, r .1, r .2)) (reason (met g x k) (classRead g x k) _ e);
+    line = λ e. has-line (signalsIn g x k) (classRead g x k) _ (event-enabled g x k) e;
+    reason = λ e. ⊎-elim (λ t. inl t) (λ r. inr (sym read-state ∙ r .0, r .1, r .2)) (reason (signalsIn g x k) (classRead g x k) _ e);
   }
     where
-      there : starts (met g x k) (classRead g x k) ≡ true → Unstarted (stateIn g k) × (stateIn (after g x) k ≡ Phase0)
+      there : starts (signalsIn g x k) (classRead g x k) ≡ true → Unstarted (stateIn g k) × (stateIn (after g x) k ≡ Phase0)
       there e = (
-        rw read-state at (unstarted (met g x k) (classRead g x k) _ e),
-        reached ∙ ap (λ (w : Place). w .state) (to-phase (met g x k) (classRead g x k) _ e),
+        rw read-state at (unstarted (signalsIn g x k) (classRead g x k) _ e),
+        reached ∙ ap (λ (w : Place). w .state) (to-phase (signalsIn g x k) (classRead g x k) _ e),
       )
 
-      back : Unstarted (stateIn g k) × (stateIn (after g x) k ≡ Phase0) → starts (met g x k) (classRead g x k) ≡ true
-      back b = is-start (met g x k) (classRead g x k) _ (rw read-state (b .0)) (sym reached ∙ b .1)
+      back : Unstarted (stateIn g k) × (stateIn (after g x) k ≡ Phase0) → starts (signalsIn g x k) (classRead g x k) ≡ true
+      back b = is-start (signalsIn g x k) (classRead g x k) _ (rw read-state (b .0)) (sym reached ∙ b .1)
 
 pub demand3 : (h : Handler) (xs : List Input) → valid h ≡ true → Demand3 h xs
 demand3 h xs v = record { start = start; escalation = escalates h xs v; locks = locks h xs v; stages = stages h xs v; no-clear = no-clear h xs v }

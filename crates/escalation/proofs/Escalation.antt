@@ -23,7 +23,7 @@ use Rattle.laws.specs.InMap.{settingExists}
 use Rattle.rules.specs.Access.{value, locked, settingValue, acted}
 use Rattle.rules.specs.Map.{guard}
 use Rattle.rules.specs.State.{classCount, classAt}
-use Rattle.rules.specs.Tick.{lines, after}
+use Rattle.rules.specs.Tick.{lines, after, signalsIn}
 use Rattle.rules.specs.Valid.{valid}
 use Rattle.rules.specs.declared.Access.{Access}
 use Rattle.rules.specs.declared.Handler.{Handler}
@@ -33,7 +33,7 @@ use Rattle.rules.specs.declared.Setting.{Setting}
 use Rattle.rules.specs.declared.Setting.the-variants.{Ctrl, ClrRegwen, PhaseCyc}
 use Rattle.rules.specs.declared.Ticked.{Ticked}
 use Rattle.escalation.specs.Escalation.{OfPhase, Starts, DrivenByOther, Line, Escalated}
-use Rattle.escalation.specs.List.{IsTick, before, inputAt, givenAt, classRead, met}
+use Rattle.escalation.specs.List.{IsTick, before, inputAt, givenAt, classRead}
 use Rattle.escalation.proofs.Going.{Going, going-starts, going-steps, of-phase, going-drives}
 use Rattle.escalation.proofs.Phases.{placeOf, At, in-terminal, count-phase, count-terminal}
 use Rattle.escalation.proofs.Ticks
@@ -69,15 +69,15 @@ module _ (g : Handler) (v : valid g ≡ true) (k : ℕ) (small : k < classCount)
   unfolding locked guard value
   going-tick x c d i =
       subst (Going c (suc d)) (sym (after-class g x k small))
-      (going-steps c (classRead g x k) d (met g x k)
-      (signal-clear g (x .access) (acted g (x .access)) (x .sample .alerts) k ∙ no-clear g (x .access) k (eq-eqb _ 0 (i .clrwen)))
+      (going-steps c (classRead g x k) d (signalsIn g x k)
+      (signal-clear g x k ∙ no-clear g (x .access) k (eq-eqb _ 0 (i .clrwen)))
       (going-access (x .access) c d i))
 
   -- a start
   going-first : (x : Input) → Starts g x k → Going (classRead g x k) 0 (classAt (after g x) k)
   going-first x s =
       subst (Going (classRead g x k) 0) (sym (after-class g x k small))
-      (going-starts (met g x k) (classRead g x k) (s .is-start) (s .is-locked) (s .has-lock))
+      (going-starts (signalsIn g x k) (classRead g x k) (s .is-start) (s .is-locked) (s .has-lock))
 
 -- ── the list: j ticks have run, and tick i is that of the start ──
 

@@ -8,7 +8,6 @@ use mathlib.Core.List.{List, [], _∷_}
 use native.Mathlib.Omega.{arith}
 use borrow.Author.Tests.{eq-eqb, eqb-true, lt-ltb}
 use lib.Dec.{eqb}
-use lib.ListN.{length, take}
 use Rattle.bits.proofs.IndexLaws.{and-true, true-and}
 use Rattle.bits.specs.Bits.{bit}
 use Rattle.class_rules.specs.Class.{en}
@@ -17,20 +16,20 @@ use Rattle.class_rules.specs.declared.Class.{Class}
 use Rattle.class_rules.specs.declared.Signals.{Signals}
 use Rattle.laws.proofs.Cases.{by-kind}
 use Rattle.laws.proofs.Content.{after-class, acted-class-own}
-use Rattle.laws.proofs.KeepsValid.{after-valid, made-valid, run-valid}
+use Rattle.laws.proofs.KeepsValid.{after-valid}
 use Rattle.laws.proofs.MapLaws.{number-eq}
 use Rattle.laws.proofs.Refusal7.{ticked-handler}
 use Rattle.laws.proofs.Refusals.{unrefused}
 use Rattle.laws.proofs.RegisterFile.{acted-value, stores-accepted, accepted-in-map, target-in-map}
 use Rattle.laws.proofs.ValidLaws.{facts}
-use Rattle.laws.specs.Block.{blockWritten, blockAccepts, blockFirst}
+use Rattle.laws.specs.Block.{blockWritten, blockAccepts}
 use Rattle.laws.specs.RegisterFile.{target, newValue, writes, stores, commits, committed}
 use Rattle.rules.specs.Access.{value, locked, accepted, acted, withSetting, silly, locksSilly}
 use Rattle.rules.specs.Map.{decode, guard, numberOf}
 use Rattle.rules.specs.Run.{run}
 use Rattle.rules.specs.Stages.{classStages}
-use Rattle.rules.specs.State.{classCount, classAt, made, newHandler}
-use Rattle.rules.specs.Tick.{after, ticked}
+use Rattle.rules.specs.State.{classCount, classAt}
+use Rattle.rules.specs.Tick.{after, signalsIn}
 use Rattle.rules.specs.Valid.{valid}
 use Rattle.rules.specs.declared.Access.{Access}
 use Rattle.rules.specs.declared.Access.the-variants.{Nothing, Read, Write, Malformed}
@@ -40,7 +39,7 @@ use Rattle.rules.specs.declared.Register.{Register}
 use Rattle.rules.specs.declared.Register.the-variants.{Block}
 use Rattle.rules.specs.declared.Setting.{Setting}
 use Rattle.rules.specs.declared.Setting.the-variants.{Ctrl, AccumThresh}
-use Rattle.escalation.specs.List.{classRead, met}
+use Rattle.escalation.specs.List.{classRead}
 use Rattle.escalation.proofs.Escalation.{keeps}
 
 -- a class that is not locked with EN 1 and ACCUM_THRESH 65535
@@ -145,7 +144,7 @@ module _ (g : Handler) (v : valid g ≡ true) (k : ℕ) (small : k < classCount)
 
   -- the tick
   after-sound : (x : Input) → Sound c → Sound (classAt (after g x) k)
-  after-sound x s = subst Sound (sym (after-class g x k small)) (step-sound (met g x k) (classRead g x k) (acted-sound (x .access) s))
+  after-sound x s = subst Sound (sym (after-class g x k small)) (step-sound (signalsIn g x k) (classRead g x k) (acted-sound (x .access) s))
 
 -- the list
 pub run-sound : (g : Handler) → valid g ≡ true → (k : ℕ) → k < classCount → Sound (classAt g k) → (xs : List Input) → Sound (classAt (run g xs) k)

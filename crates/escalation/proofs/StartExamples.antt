@@ -17,7 +17,7 @@ use Rattle.rules.proofs.Scenes.{rules, settings, station}
 use Rattle.rules.specs.Access.{clears}
 use Rattle.rules.specs.Run.{run, ticks}
 use Rattle.rules.specs.State.{classCount, classAt}
-use Rattle.rules.specs.Tick.{ticked}
+use Rattle.rules.specs.Tick.{ticked, signalsIn}
 use Rattle.rules.specs.Valid.{valid}
 use Rattle.rules.specs.declared.Handler.{Handler}
 use Rattle.rules.specs.declared.Input.{Input}
@@ -25,7 +25,7 @@ use Rattle.rules.specs.declared.Register.the-variants.{Block}
 use Rattle.rules.specs.declared.Setting.{Setting}
 use Rattle.rules.specs.declared.Setting.the-variants.{Clr}
 use Rattle.escalation.specs.Escalation.{stateIn, StartIs, Starts}
-use Rattle.escalation.specs.List.{IsTick, before, inputAt, givenAt, classRead, met}
+use Rattle.escalation.specs.List.{IsTick, before, inputAt, givenAt, classRead}
 use Rattle.escalation.proofs.Demand3.{demand3}
 
 -- ── scenes: two alerts, of which the last is enabled, in class k ──
@@ -67,7 +67,7 @@ by-trigger = record { is-class = omega arith; is-start = refl; is-locked = refl;
 abbrev pub waiting : Handler
 waiting = run (post 3 (locked 9 1 nines)) (raise 1 none ∷ [])
 
-pub by-timeout : Starts waiting (rest none) 3 × (stateIn waiting 3 ≡ Timeout) × (trigger (met waiting (rest none) 3) (classRead waiting (rest none) 3) ≡ false)
+pub by-timeout : Starts waiting (rest none) 3 × (stateIn waiting 3 ≡ Timeout) × (trigger (signalsIn waiting (rest none) 3) (classRead waiting (rest none) 3) ≡ false)
 unfolding rules
 by-timeout = (record { is-class = omega arith; is-start = refl; is-locked = refl; has-en = refl; has-lock = refl }, refl, refl)
 
@@ -109,7 +109,7 @@ module _ (first k t : ℕ) (h : Handler) (xs : List Input) (v : valid h ≡ true
   read = classRead g (inputAt first xs t) k
 
   abbrev meets : Signals
-  meets = met g (inputAt first xs t) k
+  meets = signalsIn g (inputAt first xs t) k
 
   is : StartIs g (inputAt first xs t) k (givenAt first h xs t .handler)
   is = demand3 h xs v .start first k t small tick
@@ -167,7 +167,7 @@ all-reach = (
 )
 
 -- and a tick that takes it from Timeout to Phase 0, which computing shows, is a start
-is-start : starts (met waiting clearing 3) (classRead waiting clearing 3) ≡ true
+is-start : starts (signalsIn waiting clearing 3) (classRead waiting clearing 3) ≡ true
 unfolding rules
 is-start = start-is waiting clearing 3 refl (omega arith) .move .1 (inr refl, cleared .0)
 
@@ -195,6 +195,6 @@ by-last-line = (record { is-class = omega arith; is-start = refl; is-locked = re
 abbrev lineless : Handler
 lineless = post 2 (shut (settings 0x3903 0 0 nines))
 
-no-start : starts (met lineless (raise 1 none) 2) (classRead lineless (raise 1 none) 2) ≡ false
+no-start : starts (signalsIn lineless (raise 1 none) 2) (classRead lineless (raise 1 none) 2) ≡ false
 unfolding rules
 no-start = refl

@@ -1,7 +1,7 @@
 -- Request (vii)'s two laws at work, each hypothesis written out: a claim that said less would not do here.
 -- Assumes nothing.
 use Prim.Native.Nat.{ℕ, zero, suc, _+_, _≤_, _<_}
-use mathlib.Core.Path.{_≡_, refl, sym, subst}
+use mathlib.Core.Path.{_≡_, refl}
 use mathlib.Core.Logic.{_≢_, _⊎_}
 use mathlib.Core.Bool.{true, false, cond}
 use mathlib.Core.List.{List}
@@ -13,10 +13,11 @@ use Rattle.class_rules.specs.declared.ClassState.the-variants.{Idle, Timeout}
 use Rattle.rules.specs.Access.{clears}
 use Rattle.rules.specs.Run.{run}
 use Rattle.rules.specs.State.{classAt, made}
+use Rattle.rules.specs.Tick.{signalsIn}
 use Rattle.rules.specs.declared.Handler.{Handler}
 use Rattle.rules.specs.declared.Input.{Input}
 use Rattle.escalation.specs.Escalation.{stateIn}
-use Rattle.escalation.specs.List.{noInput, classRead, met}
+use Rattle.escalation.specs.List.{noInput, classRead}
 use Rattle.escalation.specs.Threshold.{eventsIn}
 use Rattle.escalation.proofs.Threshold.{threshold}
 
@@ -37,12 +38,12 @@ module _ (n k i : ℕ) (small : k < 4) (xs : List Input) where
   -- in the d ticks that follow it has `events d`
   abbrev events : ℕ → ℕ
   events zero = 0
-  events (suc d) = cond (met (at (i + d)) (input (i + d)) k .event) (suc (events d)) (events d)
+  events (suc d) = cond (signalsIn (at (i + d)) (input (i + d)) k .event) (suc (events d)) (events d)
 
   -- from Idle as from Timeout
   starts-in-time : (d : ℕ) → classAt (at i) k .regwen ≡ 0 → (stateIn (at i) k ≡ Idle) ⊎ (stateIn (at i) k ≡ Timeout) → i + d ≤ length xs
       → ((j : ℕ) → i ≤ j → j < i + d → clears (at j) (input j .access) k ≡ false) → events d ≡ 65535
-      → (j : ℕ) × (i ≤ j) × (j < i + d) × (starts (met (at j) (input j) k) (classRead (at j) (input j) k) ≡ true)
+      → (j : ℕ) × (i ≤ j) × (j < i + d) × (starts (signalsIn (at j) (input j) k) (classRead (at j) (input j) k) ≡ true)
   starts-in-time d shut unstarted l none many =
       threshold n xs .start k i d (record { is-class = small; locked = shut; unstarted = unstarted }) l none (omega (arith, counted d, many))
     where

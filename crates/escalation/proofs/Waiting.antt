@@ -21,16 +21,16 @@ use Rattle.class_rules.specs.declared.ClassState.the-variants.{Idle, Timeout}
 use Rattle.class_rules.specs.declared.Place.{Place}
 use Rattle.class_rules.specs.declared.Signals.{Signals}
 use Rattle.laws.proofs.Content.{after-class, signal-clear, event-enabled, acted-place}
-use Rattle.rules.specs.Access.{value, locked, acted, effects}
+use Rattle.rules.specs.Access.{value, locked}
 use Rattle.rules.specs.Map.{guard}
 use Rattle.rules.specs.State.{classCount, classAt}
-use Rattle.rules.specs.Tick.{after}
+use Rattle.rules.specs.Tick.{after, signalsIn}
 use Rattle.rules.specs.Valid.{valid}
 use Rattle.rules.specs.declared.Handler.{Handler}
 use Rattle.rules.specs.declared.Input.{Input}
 use Rattle.rules.specs.declared.Setting.{Setting}
 use Rattle.rules.specs.declared.Setting.the-variants.{Ctrl, AccumThresh}
-use Rattle.escalation.specs.List.{classRead, met}
+use Rattle.escalation.specs.List.{classRead}
 use Rattle.escalation.specs.Threshold.{eventsIn, StartsAt, Waiting, NoClear}
 use Rattle.escalation.proofs.Escalation.{keeps}
 use Rattle.escalation.proofs.Going.{step-place}
@@ -129,12 +129,12 @@ module _ (g : Handler) (v : valid g ≡ true) (k : ℕ) (small : k < classCount)
         below = w .below;
       }
 
-  waits-tick : (c : Class) (m : ℕ) → (en c ≡ true → c .thresh < 65535) → met g x k .clear ≡ false → starts (met g x k) (classRead g x k) ≡ false
-      → Waits c m (classAt g k) → Waits c (cond (met g x k .event) (suc m) m) (classAt (after g x) k)
+  waits-tick : (c : Class) (m : ℕ) → (en c ≡ true → c .thresh < 65535) → signalsIn g x k .clear ≡ false → starts (signalsIn g x k) (classRead g x k) ≡ false
+      → Waits c m (classAt g k) → Waits c (cond (signalsIn g x k .event) (suc m) m) (classAt (after g x) k)
   waits-tick c m safe nc ns w =
-      subst (Waits c (cond (met g x k .event) (suc m) m)) (sym (after-class g x k small))
-      (waits-step c (classRead g x k) m (met g x k) safe nc
-      (event-enabled (acted g (x .access)) (x .sample .alerts) (effects g (x .access)) k) ns (waits-access c m w))
+      subst (Waits c (cond (signalsIn g x k .event) (suc m) m)) (sym (after-class g x k small))
+      (waits-step c (classRead g x k) m (signalsIn g x k) safe nc
+      (event-enabled g x k) ns (waits-access c m w))
 
 -- ── the list ──
 
@@ -144,12 +144,12 @@ Found h xs k i d = (j : ℕ) × (i ≤ j) × (j < i + d) × StartsAt h xs k j
 
 module _ (h : Handler) (xs : List Input) (v : valid h ≡ true) (k : ℕ) (small : k < classCount) where
   waits-next : (c : Class) (m j : ℕ) → (en c ≡ true → c .thresh < 65535) → j < length xs
-      → met (Ticks.at h xs j) (input xs j) k .clear ≡ false
-      → starts (met (Ticks.at h xs j) (input xs j) k) (classRead (Ticks.at h xs j) (input xs j) k) ≡ false
+      → signalsIn (Ticks.at h xs j) (input xs j) k .clear ≡ false
+      → starts (signalsIn (Ticks.at h xs j) (input xs j) k) (classRead (Ticks.at h xs j) (input xs j) k) ≡ false
       → Waits c m (classAt (Ticks.at h xs j) k)
-      → Waits c (cond (met (Ticks.at h xs j) (input xs j) k .event) (suc m) m) (classAt (Ticks.at h xs (suc j)) k)
+      → Waits c (cond (signalsIn (Ticks.at h xs j) (input xs j) k .event) (suc m) m) (classAt (Ticks.at h xs (suc j)) k)
   waits-next c m j safe l nc ns w =
-      subst (λ (f : Handler). Waits c (cond (met (Ticks.at h xs j) (input xs j) k .event) (suc m) m) (classAt f k)) (sym (at-next h xs v j l))
+      subst (λ (f : Handler). Waits c (cond (signalsIn (Ticks.at h xs j) (input xs j) k .event) (suc m) m) (classAt f k)) (sym (at-next h xs v j l))
       (waits-tick (Ticks.at h xs j) (at-valid h xs v j) k small (input xs j) c m safe nc ns w)
 
   -- by d ticks after the first i it has started, or it still waits, every event counted
@@ -157,7 +157,7 @@ module _ (h : Handler) (xs : List Input) (v : valid h ≡ true) (k : ℕ) (small
       → Waits c 0 (classAt (Ticks.at h xs i) k) → Found h xs k i d ⊎ Waits c (eventsIn h xs k i d) (classAt (Ticks.at h xs (i + d)) k)
   waits c i zero safe l nc w = inr (subst (λ (n : ℕ). Waits c 0 (classAt (Ticks.at h xs n) k)) (sym (add-zero i)) w)
   waits c i (suc d) safe l nc w =
-      ⊎-elim (λ (f : Found h xs k i d). inl (f .0, f .1, (let z = f .2 in omega arith), f .3)) (λ y. now y (starts (met g x k) (classRead g x k)) refl)
+      ⊎-elim (λ (f : Found h xs k i d). inl (f .0, f .1, (let z = f .2 in omega arith), f .3)) (λ y. now y (starts (signalsIn g x k) (classRead g x k)) refl)
       (waits c i d safe (omega arith) (λ j a b. nc j a (omega arith)) w)
     where
       g : Handler
@@ -166,10 +166,10 @@ module _ (h : Handler) (xs : List Input) (v : valid h ≡ true) (k : ℕ) (small
       x : Input
       x = input xs (i + d)
 
-      clear : met g x k .clear ≡ false
-      clear = signal-clear g (x .access) (acted g (x .access)) (x .sample .alerts) k ∙ nc (i + d) (omega arith) (omega arith)
+      clear : signalsIn g x k .clear ≡ false
+      clear = signal-clear g x k ∙ nc (i + d) (omega arith) (omega arith)
 
-      now : Waits c (eventsIn h xs k i d) (classAt g k) → (t : Bool) → starts (met g x k) (classRead g x k) ≡ t
+      now : Waits c (eventsIn h xs k i d) (classAt g k) → (t : Bool) → starts (signalsIn g x k) (classRead g x k) ≡ t
           → Found h xs k i (suc d) ⊎ Waits c (eventsIn h xs k i (suc d)) (classAt (Ticks.at h xs (i + suc d)) k)
       now y true e = inl (i + d, omega arith, omega arith, e)
       now y false e =

@@ -14,12 +14,13 @@ use Rattle.class_rules.specs.Step.{trigger, due, starts}
 use Rattle.class_rules.specs.declared.Class.{Class}
 use Rattle.class_rules.specs.declared.ClassState.{ClassState}
 use Rattle.class_rules.specs.declared.ClassState.the-variants.{Idle, Timeout, Phase0, Terminal}
-use Rattle.escalation.specs.List.{IsTick, before, inputAt, givenAt, noInput, classRead, met}
+use Rattle.escalation.specs.List.{IsTick, before, inputAt, givenAt, noInput, classRead}
 use Rattle.rules.specs.Access.{value, locked, clears}
 use Rattle.rules.specs.Map.{decode, numberOf}
 use Rattle.rules.specs.Run.{run}
 use Rattle.rules.specs.Stages.{stage}
 use Rattle.rules.specs.State.{classCount, classAt}
+use Rattle.rules.specs.Tick.{signalsIn}
 use Rattle.rules.specs.declared.Handler.{Handler}
 use Rattle.rules.specs.declared.Input.{Input}
 use Rattle.rules.specs.declared.Register.the-variants.{Block}
@@ -48,19 +49,19 @@ stateIn h k = stateOf (classAt h k .state)
 -- count at or above TIMEOUT_CYC": g and x are the tick's state and input, after is the state that it reaches
 pub record StartIs (g : Handler) (x : Input) (k : ℕ) (after : Handler) : Type 0 where
   pub move :
-      (starts (met g x k) (classRead g x k) ≡ true)
+      (starts (signalsIn g x k) (classRead g x k) ≡ true)
       ↔ (((stateIn g k ≡ Idle) ⊎ (stateIn g k ≡ Timeout)) × (stateIn after k ≡ Phase0))
   -- request (i): "a start now has an enabled line"
-  pub line : starts (met g x k) (classRead g x k) ≡ true → (e : ℕ) × (e < 4) × (lineEnable (classRead g x k) e ≡ true)
+  pub line : starts (signalsIn g x k) (classRead g x k) ≡ true → (e : ℕ) × (e < 4) × (lineEnable (classRead g x k) e ≡ true)
   pub reason :
-      starts (met g x k) (classRead g x k) ≡ true
-      → (trigger (met g x k) (classRead g x k) ≡ true)
-      ⊎ ((stateIn g k ≡ Timeout) × (due (met g x k) (classRead g x k) ≡ true) × (classRead g x k .timeout ≤ classRead g x k .count))
+      starts (signalsIn g x k) (classRead g x k) ≡ true
+      → (trigger (signalsIn g x k) (classRead g x k) ≡ true)
+      ⊎ ((stateIn g k ≡ Timeout) × (due (signalsIn g x k) (classRead g x k) ≡ true) × (classRead g x k .timeout ≤ classRead g x k .count))
 
 -- it starts, the class being locked with EN and LOCK: all "read after step 1 of tick s"
 pub record Starts (g : Handler) (x : Input) (k : ℕ) : Type 0 where
   pub is-class : k < classCount
-  pub is-start : starts (met g x k) (classRead g x k) ≡ true
+  pub is-start : starts (signalsIn g x k) (classRead g x k) ≡ true
   pub is-locked : classRead g x k .regwen ≡ 0
   pub has-en : en (classRead g x k) ≡ true
   pub has-lock : lock (classRead g x k) ≡ true

@@ -4,11 +4,10 @@ use Prim.Native.Nat.{ℕ, _+_, _-_, _≤_, _<_}
 use mathlib.Core.List.{List, []}
 use lib.ListN.{getD, length, take}
 use Rattle.class_rules.specs.declared.Class.{Class}
-use Rattle.class_rules.specs.declared.Signals.{Signals}
-use Rattle.rules.specs.Access.{acted, effects}
+use Rattle.rules.specs.Access.{acted}
 use Rattle.rules.specs.Run.{run, ticks}
 use Rattle.rules.specs.State.{classAt, newHandler}
-use Rattle.rules.specs.Tick.{signals, noOutput}
+use Rattle.rules.specs.Tick.{noOutput}
 use Rattle.rules.specs.declared.Access.{Access}
 use Rattle.rules.specs.declared.Answer.{Answer}
 use Rattle.rules.specs.declared.Handler.{Handler}
@@ -40,9 +39,6 @@ givenAt first h xs t = getD (ticks h xs) (t - first) noTick
 
 -- ── in the tick of state g and input x ──
 
--- class k as read after step 1, and what it meets in steps 3 and 4
+-- class k as read after step 1; what it meets in steps 3 and 4 is `signalsIn` of the rules
 abbrev pub classRead : Handler → Input → ℕ → Class
 classRead g x k = classAt (acted g (x .access)) k
-
-abbrev pub met : Handler → Input → ℕ → Signals
-met g x k = signals (acted g (x .access)) (x .sample .alerts) (effects g (x .access)) k

@@ -10,10 +10,11 @@ use Rattle.class_rules.specs.Class.{en}
 use Rattle.class_rules.specs.Step.{starts}
 use Rattle.class_rules.specs.declared.ClassState.the-variants.{Idle, Timeout}
 use Rattle.escalation.specs.Escalation.{stateIn}
-use Rattle.escalation.specs.List.{noInput, classRead, met}
+use Rattle.escalation.specs.List.{noInput, classRead}
 use Rattle.rules.specs.Access.{clears}
 use Rattle.rules.specs.Run.{run}
 use Rattle.rules.specs.State.{classCount, classAt, made}
+use Rattle.rules.specs.Tick.{signalsIn}
 use Rattle.rules.specs.declared.Handler.{Handler}
 use Rattle.rules.specs.declared.Input.{Input}
 
@@ -21,11 +22,11 @@ use Rattle.rules.specs.declared.Input.{Input}
 abbrev pub eventsIn : Handler → List Input → ℕ → ℕ → ℕ → ℕ
 eventsIn h xs k i zero = 0
 eventsIn h xs k i (suc d) =
-    cond (met (run h (take (i + d) xs)) (getD xs (i + d) noInput) k .event) (suc (eventsIn h xs k i d)) (eventsIn h xs k i d)
+    cond (signalsIn (run h (take (i + d) xs)) (getD xs (i + d) noInput) k .event) (suc (eventsIn h xs k i d)) (eventsIn h xs k i d)
 
 -- class k starts to escalate in the tick that follows the first j
 abbrev pub StartsAt : Handler → List Input → ℕ → ℕ → Type 0
-StartsAt h xs k j = starts (met (run h (take j xs)) (getD xs j noInput) k) (classRead (run h (take j xs)) (getD xs j noInput) k) ≡ true
+StartsAt h xs k j = starts (signalsIn (run h (take j xs)) (getD xs j noInput) k) (classRead (run h (take j xs)) (getD xs j noInput) k) ≡ true
 
 -- class k is locked, and Idle or in Timeout after a tick: i ticks have run
 pub record Waiting (h : Handler) (xs : List Input) (k i : ℕ) : Type 0 where

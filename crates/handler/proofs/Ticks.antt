@@ -6,9 +6,9 @@ use mathlib.Core.List.{List}
 use Rattle.bits.specs.Bits.{bitsOf}
 use Rattle.class_rules.specs.declared.Class.{Class}
 use Rattle.rules.specs.Access.{accessed, acted, answerTo, effects}
-use Rattle.rules.specs.Samples.{assigned, sampled}
-use Rattle.rules.specs.State.{most}
-use Rattle.rules.specs.Tick.{interrupts, lines, outputOf, after, tick}
+use Rattle.rules.specs.Samples.{heard, assigned, sampled}
+use Rattle.rules.specs.State.{most, withLinks}
+use Rattle.rules.specs.Tick.{linksAfter, interrupts, lines, outputOf, hears, after, tick}
 use Rattle.rules.specs.declared.Access.{Access}
 use Rattle.rules.specs.declared.Accessed.{Accessed}
 use Rattle.rules.specs.declared.Answer.{Answer}
@@ -16,7 +16,6 @@ use Rattle.rules.specs.declared.Handler.{Handler}
 use Rattle.rules.specs.declared.Input.{Input}
 use Rattle.rules.specs.declared.Output.{Output}
 use Rattle.rules.specs.declared.Ticked.{Ticked}
-use Rattle.rules.specs.declared.Wires.{Wires}
 use Rattle.laws.proofs.RegisterFile.{acted-n}
 use Rattle.samples.specs.Sampled.{SampledBy}
 use Rattle.samples.specs.declared.Sampled.{Sampled}
@@ -35,16 +34,15 @@ ends a g = record { handler = g; answer = a; output = outputOf g }
 
 -- the five calls of a tick: a is step 1, s step 2, i and cs are INTR_STATE and the classes after steps 3 and 4, o is step 5
 module _ (h : Handler) (x : Input) (a : Accessed) (s : Sampled) (i : ℕ) (cs : List Class) (o : Output) where
-  pub tick-by : a ≡ accessed h (x .access) → SampledBy (a .handler) (x .sample .alerts) (a .effects) s
+  pub tick-by : a ≡ accessed h (x .access) → SampledBy (a .handler) (x .sample) (a .effects) s
       → i ≡ interruptsBy (s .handler .classes) (s .handler .interrupts .state) (s .assigned)
       → cs ≡ classesBy (s .handler .classes) (s .handler .interrupts .state) (s .assigned) (a .effects .clears)
       → o ≡ record { interrupts = interruptsOn i (s .handler .interrupts .enable); lines = linesOn cs }
       → _≡_ {A = Ticked} (record { handler = withStepped cs i (s .handler); answer = a .answer; output = o }) (tick h x)
-  unfolding acted answerTo effects after tick outputOf interrupts lines interruptsOn linesOn
+  unfolding acted answerTo effects hears after tick outputOf interrupts lines interruptsOn linesOn
   tick-by ea es ei ec eo =
-      let w : Wires = x .sample .alerts in
       ap (λ (p : Output). record { handler = withStepped cs i (s .handler); answer = a .answer; output = p }) eo
       ∙ ap₂ (λ (j : ℕ) (ds : List Class). ends (a .answer) (withStepped ds j (s .handler))) ei ec
       ∙ ap₂ (λ (g : Handler) (m : ℕ). ends (a .answer) (joined g m (a .effects .clears))) (es .handler) (es .assigns)
-      ∙ ap (λ (b : Accessed). ends (b .answer) (joined (sampled (b .handler) w (b .effects)) (bitsOf 4 (assigned (b .handler) w (b .effects))) (b .effects .clears))) ea
-      ∙ ap (ends (answerTo h (x .access))) (stepped-by (acted h (x .access)) w (effects h (x .access)))
+      ∙ ap (λ (b : Accessed). ends (b .answer) (joined (withLinks (linksAfter (heard (b .handler) (x .sample) (b .effects))) (sampled (b .handler) (heard (b .handler) (x .sample) (b .effects)))) (bitsOf 4 (assigned (b .handler) (heard (b .handler) (x .sample) (b .effects)))) (b .effects .clears))) ea
+      ∙ ap (λ (g : Handler). ends (answerTo h (x .access)) (withLinks (linksAfter (hears h x)) g)) (stepped-by (acted h (x .access)) (hears h x) (effects h (x .access)))

@@ -26,7 +26,7 @@ ended h armed a f =
       handler =
           record {
             n = h .n;
-            receivers = record { armed = armed };
+            links = record { receivers = record { armed = armed } };
             classes = f .classes;
             alerts = h .alerts;
             locals = h .locals;

@@ -38,7 +38,7 @@ pub fn quiet_of(h: Handler, x: Input) -> Quiet
     ensures { λ r. ⌜ (r .holds ≡ true → ended h (r .armed) (r .answer) (finishedBy (h .classes) (h .interrupts .state) (h .interrupts .enable)) ≡ tick h x) ⌝ }
 {
     let sent = x.access;
-    let before = h.receivers.armed;
+    let before = h.links.receivers.armed;
     let rearmed = rearm(h.n, before, x.sample.alerts);
     let same = same_after(h, sent);
     let armed = rearmed.armed;

@@ -33,7 +33,7 @@ pub fn step(h: Handler, x: Input) -> Ticked
     ensures { λ r. ⌜ r ≡ tick h x ⌝ }
 {
     let sent = x.access;
-    let wires = x.sample.alerts;
+    let wires = x.sample;
     let accessed = access(h, sent);
     let g = accessed.handler;
     let answer = accessed.answer;

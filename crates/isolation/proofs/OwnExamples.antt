@@ -10,13 +10,14 @@ use Rattle.rules.proofs.Scenes.{rules, station, zeros}
 use Rattle.rules.specs.Map.{numberOf}
 use Rattle.rules.specs.Scenes.{raise, bothHigh, none, write}
 use Rattle.rules.specs.State.{withInterrupts}
+use Rattle.rules.specs.Tick.{eventIn}
 use Rattle.rules.specs.declared.Access.{Access}
 use Rattle.rules.specs.declared.Field.{Field}
 use Rattle.rules.specs.declared.Handler.{Handler}
 use Rattle.rules.specs.declared.Register.the-variants.{IntrState, IntrEnable, IntrTest, Local, Alert, Block}
 use Rattle.rules.specs.declared.Setting.{Setting}
 use Rattle.rules.specs.declared.Setting.the-variants.{Ctrl, Clr, AccumThresh}
-use Rattle.isolation.specs.OwnAccess.{hasEvent, own, changesState, changesEnable}
+use Rattle.isolation.specs.OwnAccess.{own, changesState, changesEnable}
 
 -- a locked class 2 with EN and all lines; alert 0 is enabled in it, and alert 1 in class 1, which has EN 0; INTR_STATE and INTR_ENABLE are 5
 abbrev class-2 : Class
@@ -81,8 +82,8 @@ tested = refl
 
 -- ── a class event: the rules' own, of an enabled class ──
 
-events : (map (λ k. hasEvent h (raise 0 none) k) (0 ∷ 1 ∷ 2 ∷ 3 ∷ []) ≡ false ∷ false ∷ true ∷ false ∷ [])
-    × (map (λ k. hasEvent h (raise 1 none) k) (0 ∷ 1 ∷ 2 ∷ 3 ∷ []) ≡ replicate 4 false)
-    × (map (λ k. hasEvent h (bothHigh 0 none) k) (0 ∷ 1 ∷ 2 ∷ 3 ∷ []) ≡ replicate 4 false)
+events : (map (λ k. eventIn h (raise 0 none) k) (0 ∷ 1 ∷ 2 ∷ 3 ∷ []) ≡ false ∷ false ∷ true ∷ false ∷ [])
+    × (map (λ k. eventIn h (raise 1 none) k) (0 ∷ 1 ∷ 2 ∷ 3 ∷ []) ≡ replicate 4 false)
+    × (map (λ k. eventIn h (bothHigh 0 none) k) (0 ∷ 1 ∷ 2 ∷ 3 ∷ []) ≡ replicate 4 false)
 unfolding rules
 events = (refl, refl, refl)

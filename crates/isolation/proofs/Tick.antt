@@ -6,20 +6,19 @@ use mathlib.Core.Path.{_≡_, refl, sym, ap, ap₂, _∙_}
 use mathlib.Core.Bool.{Bool, true, false, false≢true, _||_, xor}
 use Rattle.bits.specs.Bits.{bit}
 use Rattle.class_rules.specs.Step.{classStep}
-use Rattle.escalation.specs.List.{met}
 use Rattle.laws.proofs.Content.{after-class, after-bit}
-use Rattle.laws.proofs.Frame.{stepped-stages}
+use Rattle.laws.proofs.Frame.{after-stages}
 use Rattle.laws.proofs.InterruptBits.{after-enable}
 use Rattle.laws.specs.Block.{namesBlock}
-use Rattle.rules.specs.Access.{acted, answerTo, effects, clears}
+use Rattle.rules.specs.Access.{acted, answerTo, clears}
 use Rattle.rules.specs.Stages.{classStages}
 use Rattle.rules.specs.State.{most, classCount, classAt}
-use Rattle.rules.specs.Tick.{interruptNow, signals, after}
+use Rattle.rules.specs.Tick.{interruptNow, signals, after, signalsIn, eventIn}
 use Rattle.rules.specs.declared.Handler.{Handler}
 use Rattle.rules.specs.declared.Input.{Input}
 use Rattle.rules.specs.declared.Stages.{Stages}
 use Rattle.isolation.specs.Isolation.{SameTick}
-use Rattle.isolation.specs.OwnAccess.{hasEvent, changesEnable}
+use Rattle.isolation.specs.OwnAccess.{changesEnable}
 use Rattle.isolation.proofs.Own.{Both, both, same-acted, same-staged, same-clears, same-answer}
 
 -- bits that were equal and changed alike are equal
@@ -43,9 +42,8 @@ pub record Equal (k : ℕ) (g f : Handler) : Type 0 where
   pub bit-k : bit (g .interrupts .state) k ≡ bit (f .interrupts .state) k
 
 -- steps 2 to 5 leave the stages
-after-stages : (g : Handler) (x : Input) (k : ℕ) → classStages (after g x .stages) k ≡ classStages (acted g (x .access) .stages) k
-unfolding after
-after-stages g x k = ap (λ (s : Stages). classStages s k) (stepped-stages (acted g (x .access)) (x .sample .alerts) (effects g (x .access)))
+block-stages : (g : Handler) (x : Input) (k : ℕ) → classStages (after g x .stages) k ≡ classStages (acted g (x .access) .stages) k
+block-stages g x k = ap (λ (s : Stages). classStages s k) (after-stages g x)
 
 module _ (k : ℕ) (g : Handler) (x : Input) (f : Handler) (y : Input) (l : k < classCount) (m : f .n ≤ most)
     (q : Equal k g f) (t : SameTick k g x f y) where
@@ -62,18 +60,18 @@ module _ (k : ℕ) (g : Handler) (x : Input) (f : Handler) (y : Input) (l : k < 
       }
 
   -- what the class meets in steps 3 and 4
-  pub equal-met : met g x k ≡ met f y k
+  pub equal-met : signalsIn g x k ≡ signalsIn f y k
   unfolding signals interruptNow clears
   equal-met =
       ap₂ (λ (b e : Bool). record { event = e; interrupt = b || e; clear = clears g (x .access) k }) (equal-read .bit-k) (t .same-event)
-      ∙ ap (λ (c : Bool). record { event = hasEvent f y k; interrupt = bit (acted f (y .access) .interrupts .state) k || hasEvent f y k; clear = c })
+      ∙ ap (λ (c : Bool). record { event = eventIn f y k; interrupt = bit (acted f (y .access) .interrupts .state) k || eventIn f y k; clear = c })
       (same-clears g f k l (q .class) (q .stages) (x .access) (y .access) ways)
 
   pub equal-after : Equal k (after g x) (after f y)
   equal-after =
       record {
         class = after-class g x k l ∙ ap₂ classStep equal-met (equal-read .class) ∙ sym (after-class f y k l);
-        stages = after-stages g x k ∙ equal-read .stages ∙ sym (after-stages f y k);
+        stages = block-stages g x k ∙ equal-read .stages ∙ sym (block-stages f y k);
         bit-k = after-bit g x k l ∙ ap₂ _||_ (equal-read .bit-k) (t .same-event) ∙ sym (after-bit f y k l);
       }
 

@@ -14,12 +14,12 @@ use Rattle.escalation.specs.List.{noInput}
 use Rattle.rules.specs.Run.{run}
 use Rattle.rules.specs.Stages.{classStages}
 use Rattle.rules.specs.State.{classAt}
-use Rattle.rules.specs.Tick.{ticked}
+use Rattle.rules.specs.Tick.{ticked, eventIn}
 use Rattle.rules.specs.declared.Access.{Access}
 use Rattle.rules.specs.declared.Handler.{Handler}
 use Rattle.rules.specs.declared.Input.{Input}
 use Rattle.isolation.specs.Isolation.{Alike, AlikeEnable}
-use Rattle.isolation.specs.OwnAccess.{hasEvent, own, changesState, changesEnable}
+use Rattle.isolation.specs.OwnAccess.{own, changesState, changesEnable}
 
 -- an event or none, the access to its block, a change of its bit of INTR_STATE by software or none
 pub record Got : Type 0 where
@@ -28,7 +28,7 @@ pub record Got : Type 0 where
   pub change : Bool
 
 abbrev pub got : ℕ → Handler → Input → Got
-got k g x = record { has-event = hasEvent g x k; access = own g (x .access) k; change = changesState g (x .access) k }
+got k g x = record { has-event = eventIn g x k; access = own g (x .access) k; change = changesState g (x .access) k }
 
 -- what a view of the state before a tick and of its input gives, for each tick of a run
 unfoldable pub along : {A : Type 0} → (Handler → Input → A) → Handler → List Input → List A

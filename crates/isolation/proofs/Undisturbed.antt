@@ -1,40 +1,41 @@
 -- Request (x), for the owner: from one state, and with all else equal, the tenant does not move the owner's class.
 -- Assumes nothing.
-use Prim.Native.Nat.{ℕ, zero, suc, _-_, _≤_, _<_}
+use Prim.Native.Nat.{ℕ, _*_, zero, suc, _-_, _≤_, _<_}
 use mathlib.Core.Path.{_≡_, refl, sym, ap, ap₂, _∙_}
 use mathlib.Core.Logic.{_⊎_, inl, inr}
-use mathlib.Core.Bool.{Bool, true, false, cond, _&&_, _||_, xor, and-false}
+use mathlib.Core.Bool.{Bool, true, false, cond, _&&_, _||_, xor}
 use mathlib.Core.List.{List}
 use native.Mathlib.Omega.{arith}
 use borrow.Author.Tests.{lt-ltb, not-true}
 use lib.Dec.{eqb, ltb}
 use lib.ListN.{length}
 use Rattle.bits.specs.Bits.{bit}
-use Rattle.bits.specs.Index.{anyTo}
+use Rattle.bits.specs.Index.{anyTo, placeIn}
 use Rattle.bits.proofs.IndexLaws.{any-ext}
 use Rattle.class_rules.specs.Step.{classEvent, starts}
 use Rattle.escalation.proofs.Ticks
 use Rattle.escalation.proofs.Ticks.{input, at-next}
 use Rattle.escalation.specs.List.{IsTick, before, inputAt}
-use Rattle.laws.proofs.Arming.{after-armed}
+use Rattle.laws.proofs.Arming.{happens-in, after-armed}
 use Rattle.laws.proofs.Cases.{by-kind}
-use Rattle.laws.proofs.Frame.{stepped-frame, after-stage, after-n}
+use Rattle.laws.proofs.Frame.{after-still, after-stage, after-n}
 use Rattle.laws.proofs.InterruptBits.{after-enable}
 use Rattle.laws.proofs.Raises.{no-local}
 use Rattle.laws.proofs.RegisterFile.{acted-n}
 use Rattle.laws.proofs.ValidLaws.{facts}
 use Rattle.laws.specs.Block.{ofBlock}
-use Rattle.rules.specs.Access.{value, named, acted, effects}
+use Rattle.rules.specs.Access.{value, named, acted}
 use Rattle.rules.specs.Map.{decode, fieldRow}
 use Rattle.rules.specs.Run.{run}
 use Rattle.rules.specs.Samples.{happens, positive, negative, alertEvent, rearmed, assigned, armedAfter}
 use Rattle.rules.specs.State.{classCount, alert, armed}
-use Rattle.rules.specs.Tick.{event, after}
+use Rattle.rules.specs.Tick.{event, hears, happensIn, after}
 use Rattle.rules.specs.Valid.{valid}
 use Rattle.rules.specs.declared.Access.{Access}
 use Rattle.rules.specs.declared.Access.the-variants.{Nothing, Read, Write, Malformed}
 use Rattle.rules.specs.declared.Field.{Field}
 use Rattle.rules.specs.declared.Handler.{Handler}
+use Rattle.rules.specs.declared.Heard.{Heard}
 use Rattle.rules.specs.declared.Input.{Input}
 use Rattle.rules.specs.declared.Register.{Register}
 use Rattle.rules.specs.declared.Register.the-variants.{Alert}
@@ -68,9 +69,9 @@ same-own k g f Malformed e = refl
 -- ── step 2, of the states g and f after step 1 ──
 
 -- an alert that is disabled or assigned to another class gives class k no event
-no-event : (k : ℕ) (g : Handler) (w : Wires) (i : ℕ) → alertReaches k g i ≡ false → (alertEvent g w i && eqb (alert g Field.Class i) k) ≡ false
+no-event : (k : ℕ) (g : Handler) (v : Heard) (i : ℕ) → alertReaches k g i ≡ false → (alertEvent g v i && eqb (alert g Field.Class i) k) ≡ false
 unfolding alertEvent
-no-event k g w i e = go (ltb i (g .n)) (happens (armed g i) (positive w i) (negative w i)) (eqb (alert g Field.En i) 1) (eqb (alert g Field.Class i) k) e
+no-event k g v i e = go (ltb i (g .n)) (placeIn (v .events) i) (eqb (alert g Field.En i) 1) (eqb (alert g Field.Class i) k) e
   where
     go : (a b c d : Bool) → (c && d) ≡ false → ((a && (b && c)) && d) ≡ false
     go true true c d e = e
@@ -80,27 +81,28 @@ no-event k g w i e = go (ltb i (g .n)) (happens (armed g i) (positive w i) (nega
 module _ (k : ℕ) (his : ℕ → Bool) (g f : Handler) (w u : Wires) (s : Shared k his g f)
     (pos : (i : ℕ) → i < g .n → his i ≡ false → positive w i ≡ positive u i) (neg : (i : ℕ) → i < g .n → his i ≡ false → negative w i ≡ negative u i) where
   -- an alert that is not the tenant's
-  same-alert : (i : ℕ) → his i ≡ false → i < g .n → alertEvent g w i ≡ alertEvent f u i
-  unfolding alertEvent
-  same-alert i e l =
-      ap₂ (λ (n : ℕ) (v : ℕ). ltb i n && (happens (armed g i) (positive w i) (negative w i) && eqb v 1)) (s .n) (s .fields Field.En i e l refl)
-      ∙ ap (λ (a : Bool). ltb i (f .n) && (happens a (positive w i) (negative w i) && eqb (alert f Field.En i) 1)) (s .arms i e l)
-      ∙ ap₂ (λ (p m : Bool). ltb i (f .n) && (happens (armed f i) p m && eqb (alert f Field.En i) 1)) (pos i l e) (neg i l e)
-
   same-rearmed : (i : ℕ) → his i ≡ false → i < g .n → rearmed g w i ≡ rearmed f u i
   unfolding rearmed
   same-rearmed i e l =
       ap₂ (λ (n : ℕ) (a : Bool). cond (ltb i n) (armedAfter a (positive w i) (negative w i)) a) (s .n) (s .arms i e l)
       ∙ ap₂ (λ (p m : Bool). cond (ltb i (f .n)) (armedAfter (armed f i) p m) (armed f i)) (pos i l e) (neg i l e)
 
-  -- where none of the tenant's is assigned to class k, the same alerts' events are
+-- where none of the tenant's is assigned to class k, and the others' events are the same, the same alerts' events are
+module _ (k : ℕ) (his : ℕ → Bool) (g f : Handler) (v w : Heard) (s : Shared k his g f)
+    (events : (i : ℕ) → his i ≡ false → i < g .n → placeIn (v .events) i ≡ placeIn (w .events) i) where
+  same-alert : (i : ℕ) → his i ≡ false → i < g .n → alertEvent g v i ≡ alertEvent f w i
+  unfolding alertEvent
+  same-alert i e l =
+      ap₂ (λ (n : ℕ) (c : ℕ). ltb i n && (placeIn (v .events) i && eqb c 1)) (s .n) (s .fields Field.En i e l refl)
+      ∙ ap (λ (b : Bool). ltb i (f .n) && (b && eqb (alert f Field.En i) 1)) (events i e l)
+
   alerts-same : ((i : ℕ) → i < g .n → his i ≡ true → alertReaches k g i ≡ false) → ((i : ℕ) → i < f .n → his i ≡ true → alertReaches k f i ≡ false)
-      → (i : ℕ) → i < g .n → (alertEvent g w i && eqb (alert g Field.Class i) k) ≡ (alertEvent f u i && eqb (alert f Field.Class i) k)
+      → (i : ℕ) → i < g .n → (alertEvent g v i && eqb (alert g Field.Class i) k) ≡ (alertEvent f w i && eqb (alert f Field.Class i) k)
   alerts-same apart-g apart-f i l = go (his i) refl
     where
-      go : (b : Bool) → his i ≡ b → (alertEvent g w i && eqb (alert g Field.Class i) k) ≡ (alertEvent f u i && eqb (alert f Field.Class i) k)
+      go : (b : Bool) → his i ≡ b → (alertEvent g v i && eqb (alert g Field.Class i) k) ≡ (alertEvent f w i && eqb (alert f Field.Class i) k)
       go true e =
-          no-event k g w i (apart-g i l e) ∙ sym (no-event k f u i (apart-f i (omega (arith, s .n)) e))
+          no-event k g v i (apart-g i l e) ∙ sym (no-event k f w i (apart-f i (omega (arith, s .n)) e))
       go false e = ap₂ (λ (t : Bool) (c : ℕ). t && eqb c k) (same-alert i e l) (s .fields Field.Class i e l refl)
 
 -- ── one tick of each run ──
@@ -129,16 +131,23 @@ module _ (k : ℕ) (his : ℕ → Bool) (g : Handler) (x : Input) (f : Handler) 
       go (inl e) = same-own k g f (x .access) (s .n) ∙ ap (λ (a : Access). own f a k) e
       go (inr e) = tenant-own k his g (x .access) (e .0) ∙ sym (tenant-own k his f (y .access) (e .1))
 
-  same-assigned : assigned g1 (x .sample .alerts) (effects g (x .access)) k ≡ assigned f1 (y .sample .alerts) (effects f (y .access)) k
-  unfolding assigned
+  events : (i : ℕ) → his i ≡ false → i < g1 .n → happensIn g x i ≡ happensIn f y i
+  events i e m =
+      let j : i < g .n = omega (arith, acted-n g (x .access)) in
+      happens-in g x i (s .small) j ∙ ap₂ (λ (p m : Bool). happens (armed g i) p m) (t .pos i j e) (t .neg i j e)
+      ∙ ap (λ (a : Bool). happens a (positive (y .sample .alerts) i) (negative (y .sample .alerts) i)) (s .arms i e j)
+      ∙ sym (happens-in f y i (f-small k his g f s) (omega (arith, s .n)))
+
+  same-assigned : assigned g1 (hears g x) k ≡ assigned f1 (hears f y) k
+  unfolding assigned hears
   same-assigned =
       ap₂ _||_
-      (any-ext (λ i. alertEvent g1 (x .sample .alerts) i && eqb (alert g1 Field.Class i) k) (λ i. alertEvent f1 (y .sample .alerts) i && eqb (alert f1 Field.Class i) k) (g1 .n)
-      (alerts-same k his g1 f1 (x .sample .alerts) (y .sample .alerts) read pos neg
+      (any-ext (λ i. alertEvent g1 (hears g x) i && eqb (alert g1 Field.Class i) k) (λ i. alertEvent f1 (hears f y) i && eqb (alert f1 Field.Class i) k) (g1 .n)
+      (alerts-same k his g1 f1 (hears g x) (hears f y) read events
       (λ i m. t .apart .0 .alerts i (omega (arith, acted-n g (x .access)))) (λ i m. t .apart .1 .alerts i (omega (arith, acted-n f (y .access)))))
-      ∙ ap (λ (n : ℕ). anyTo (λ i. alertEvent f1 (y .sample .alerts) i && eqb (alert f1 Field.Class i) k) n) (read .n))
-      (no-local g (x .access) g1 (x .sample .alerts) k (t .apart .0 .local-2) (t .apart .0 .local-5)
-      ∙ sym (no-local f (y .access) f1 (y .sample .alerts) k (t .apart .1 .local-2) (t .apart .1 .local-5)))
+      ∙ ap (λ (n : ℕ). anyTo (λ i. alertEvent f1 (hears f y) i && eqb (alert f1 Field.Class i) k) n) (read .n))
+      (no-local g (x .access) g1 (x .sample) k (t .apart .0 .local-2) (t .apart .0 .local-5)
+      ∙ sym (no-local f (y .access) f1 (y .sample) k (t .apart .1 .local-2) (t .apart .1 .local-5)))
 
   -- class k is treated alike
   pub tick-alike : SameTick k g x f y
@@ -162,9 +171,8 @@ module _ (k : ℕ) (his : ℕ → Bool) (g : Handler) (x : Input) (f : Handler) 
   change-enable = ap₂ xor (s .enable-k) (read .enable-k)
 
   frame : (h : Handler) (z : Input) (d : Field) (i : ℕ) → i < h .n → fieldRow d .moves ≡ false → alert (after h z) d i ≡ alert (acted h (z .access)) d i
-  unfolding after value
-  frame h z d i m e =
-      stepped-frame (acted h (z .access)) (z .sample .alerts) (effects h (z .access)) (Alert d i) (lt-ltb i (acted h (z .access) .n) (omega (arith, acted-n h (z .access)))) e
+  unfolding value
+  frame h z d i m e = after-still h z (Alert d i) (lt-ltb i (h .n) m) e
 
   pub shared-after : Shared k his (after g x) (after f y)
   shared-after =

@@ -15,11 +15,11 @@ use Rattle.escalation.proofs.Ticks.{input}
 use Rattle.escalation.specs.List.{IsTick, before, inputAt, givenAt, noInput, noTick}
 use Rattle.laws.proofs.Runs.{ticks-at}
 use Rattle.laws.specs.Block.{ofBlock}
-use Rattle.rules.specs.Access.{named, acted, effects}
+use Rattle.rules.specs.Access.{named, acted}
 use Rattle.rules.specs.Run.{run, ticks}
 use Rattle.rules.specs.Stages.{classStages}
 use Rattle.rules.specs.State.{classAt}
-use Rattle.rules.specs.Tick.{event, ticked}
+use Rattle.rules.specs.Tick.{ticked, eventIn}
 use Rattle.rules.specs.Valid.{valid}
 use Rattle.rules.specs.declared.Access.{Access}
 use Rattle.rules.specs.declared.ClassStages.{ClassStages}
@@ -35,7 +35,7 @@ use Rattle.isolation.proofs.Traces.{Got, along, alike-by, enable-by}
 abbrev pub gotten : ℕ → Handler → Input → Got
 gotten k g x =
     record {
-      has-event = event (acted g (x .access)) (x .sample .alerts) (effects g (x .access)) k;
+      has-event = eventIn g x k;
       access = cond (ofBlock k (named g (x .access))) (x .access) Access.Nothing;
       change = xor (bit (g .interrupts .state) k) (bit (acted g (x .access) .interrupts .state) k);
     }

@@ -11,12 +11,13 @@ use lib.Dec.{eqb}
 use lib.ListN.{length}
 use Rattle.bits.specs.Bits.{bit}
 use Rattle.class_rules.specs.Step.{starts}
-use Rattle.escalation.specs.List.{IsTick, before, inputAt, givenAt, met, classRead}
+use Rattle.escalation.specs.List.{IsTick, before, inputAt, givenAt, classRead}
 use Rattle.laws.proofs.Cases.{by-kind}
 use Rattle.laws.specs.Block.{ofBlock}
 use Rattle.rules.specs.Access.{named, acted}
 use Rattle.rules.specs.Samples.{positive, negative}
 use Rattle.rules.specs.State.{local, alert}
+use Rattle.rules.specs.Tick.{signalsIn}
 use Rattle.rules.specs.Valid.{valid}
 use Rattle.rules.specs.declared.Access.{Access}
 use Rattle.rules.specs.declared.Field.{Field}
@@ -110,8 +111,8 @@ module _ (k : ℕ) (his : ℕ → Bool) (first : ℕ) (h : Handler) (xs ys : Lis
   claim = undisturbed k his first h xs ys l v n only
 
   module _ (t : ℕ) (m : IsTick first xs t) where
-    starts-alike : starts (met (before first h xs t) (inputAt first xs t) k) (classRead (before first h xs t) (inputAt first xs t) k)
-        ≡ starts (met (before first h ys t) (inputAt first ys t) k) (classRead (before first h ys t) (inputAt first ys t) k)
+    starts-alike : starts (signalsIn (before first h xs t) (inputAt first xs t) k) (classRead (before first h xs t) (inputAt first xs t) k)
+        ≡ starts (signalsIn (before first h ys t) (inputAt first ys t) k) (classRead (before first h ys t) (inputAt first ys t) k)
     starts-alike = claim .start t m
 
     shows-alike : shown k (givenAt first h xs t) ≡ shown k (givenAt first h ys t)

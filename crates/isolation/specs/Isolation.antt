@@ -13,19 +13,20 @@ use Rattle.escalation.specs.List.{IsTick, before, inputAt, givenAt}
 use Rattle.rules.specs.Access.{value}
 use Rattle.rules.specs.Stages.{classStages, stage}
 use Rattle.rules.specs.State.{classAt}
+use Rattle.rules.specs.Tick.{eventIn}
 use Rattle.rules.specs.declared.Handler.{Handler}
 use Rattle.rules.specs.declared.Input.{Input}
 use Rattle.rules.specs.declared.Register.the-variants.{Block}
 use Rattle.rules.specs.declared.Setting.{Setting}
 use Rattle.rules.specs.declared.Ticked.{Ticked}
-use Rattle.isolation.specs.OwnAccess.{hasEvent, isOwn, own, changesState, changesEnable}
+use Rattle.isolation.specs.OwnAccess.{isOwn, own, changesState, changesEnable}
 
 -- ── class k is treated alike ──
 
 -- in the tick of state g and input x, and in that of state f and input y
 pub record SameTick (k : ℕ) (g : Handler) (x : Input) (f : Handler) (y : Input) : Type 0 where
   -- "the same class events"
-  pub same-event : hasEvent g x k ≡ hasEvent f y k
+  pub same-event : eventIn g x k ≡ eventIn f y k
   -- "the same accesses to its own block"
   pub same-access : own g (x .access) k ≡ own f (y .access) k
   -- "the same changes by software of its interrupt bits": INTR_STATE

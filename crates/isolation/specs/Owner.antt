@@ -8,10 +8,11 @@ use mathlib.Core.Bool.{Bool, true, false, not, _&&_}
 use mathlib.Core.List.{List}
 use lib.Dec.{eqb}
 use Rattle.class_rules.specs.Step.{starts}
-use Rattle.escalation.specs.List.{IsTick, before, inputAt, givenAt, classRead, met}
+use Rattle.escalation.specs.List.{IsTick, before, inputAt, givenAt, classRead}
 use Rattle.rules.specs.Access.{acted, named}
 use Rattle.rules.specs.Samples.{positive, negative}
 use Rattle.rules.specs.State.{local, alert}
+use Rattle.rules.specs.Tick.{signalsIn}
 use Rattle.rules.specs.declared.Access.{Access}
 use Rattle.rules.specs.declared.Field.{Field}
 use Rattle.rules.specs.declared.Handler.{Handler}
@@ -71,7 +72,7 @@ OnlyTenant k his first h xs ys =
 
 -- its escalation starts in the tick of state g and input x
 abbrev pub startsIn : ℕ → Handler → Input → Bool
-startsIn k g x = starts (met g x k) (classRead g x k)
+startsIn k g x = starts (signalsIn g x k) (classRead g x k)
 
 pub record Undisturbed (k first : ℕ) (h : Handler) (xs ys : List Input) : Type 0 where
   -- class k's escalation starts in the same tick

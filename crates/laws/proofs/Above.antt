@@ -5,7 +5,7 @@ use mathlib.Core.Path.{_≡_, refl, sym, ap, _∙_, subst}
 use mathlib.Core.Bool.{Bool, true, false, _&&_}
 use mathlib.Core.List.{List, [], _∷_}
 use native.Mathlib.Omega.{arith}
-use borrow.Author.Tests.{le-ltb, ltb-true, lt-ltb, eqb-true, ne-eqb}
+use borrow.Author.Tests.{ltb-true, lt-ltb, eqb-true, ne-eqb}
 use lib.Dec.{eqb, ltb}
 use lib.ListN.{getD, getD-replicate}
 use Rattle.bits.proofs.BitLaws.{bit-ones}
@@ -16,10 +16,11 @@ use Rattle.rules.specs.Access.{store, fieldStored, named, acted, effects}
 use Rattle.rules.specs.Batch.{batch, batchOf, batchInputs, batchVerdict}
 use Rattle.rules.specs.Map.{decode, numberOf, isRegister}
 use Rattle.rules.specs.Run.{run}
-use Rattle.rules.specs.Samples.{alertEvent, rearmed, sampled}
+use Rattle.bits.specs.Index.{placeIn}
+use Rattle.rules.specs.Samples.{alertEvent, sampled}
 use Rattle.rules.specs.Stages.{stageIn, stage}
-use Rattle.rules.specs.State.{most, words, alert, alertColumn, armed, withStages, newHandler, badCount, made}
-use Rattle.rules.specs.Tick.{stepped, after, tick, ticked}
+use Rattle.rules.specs.State.{most, words, alert, alertColumn, armed, withStages, withLinks, newHandler, badCount, made}
+use Rattle.rules.specs.Tick.{hears, stepped, linksAfter, after, tick, ticked}
 use Rattle.rules.specs.Valid.{valid}
 use Rattle.rules.specs.declared.Access.{Access}
 use Rattle.rules.specs.declared.Access.the-variants.{Nothing, Read, Write, Malformed}
@@ -28,14 +29,14 @@ use Rattle.rules.specs.declared.Effects.{Effects}
 use Rattle.rules.specs.declared.Field.{Field}
 use Rattle.rules.specs.declared.Edition.{Edition}
 use Rattle.rules.specs.declared.Handler.{Handler}
+use Rattle.rules.specs.declared.Heard.{Heard}
 use Rattle.rules.specs.declared.Input.{Input}
 use Rattle.rules.specs.declared.Made.{Made}
-use Rattle.rules.specs.declared.Receivers.{Receivers}
+use Rattle.rules.specs.declared.Links.{Links}
 use Rattle.rules.specs.declared.Register.{Register}
 use Rattle.rules.specs.declared.Register.the-variants.{Alert}
 use Rattle.rules.specs.declared.Stages.{Stages}
 use Rattle.rules.specs.declared.Ticked.{Ticked}
-use Rattle.rules.specs.declared.Wires.{Wires}
 use Rattle.laws.specs.Above.{SameAbove, EntriesNew, atReset}
 use Rattle.laws.specs.InMap.{inMap}
 use Rattle.laws.specs.Columns.{sameField}
@@ -47,15 +48,16 @@ use Rattle.laws.proofs.Step1.{acted-is}
 use Rattle.laws.proofs.KeepsValid.{new-stage}
 use Rattle.laws.proofs.StageFile.{in-most, stage-other}
 use Rattle.laws.proofs.StageLaws.{number-none}
-use Rattle.laws.proofs.StateLaws.{alert-store, alert-sampled, armed-sampled}
+use Rattle.laws.proofs.StateLaws.{alert-store, alert-sampled}
+use Rattle.laws.proofs.Heard.{heard-above}
 
--- a state with the same N, alerts, receivers and stages
-kept : (h g : Handler) → g .n ≡ h .n → g .alerts ≡ h .alerts → g .receivers ≡ h .receivers → g .stages ≡ h .stages → SameAbove h g
+-- a state with the same N, alerts, links and stages
+kept : (h g : Handler) → g .n ≡ h .n → g .alerts ≡ h .alerts → g .links ≡ h .links → g .stages ≡ h .stages → SameAbove h g
 kept h g n a r s =
     record {
       n = n;
       alerts = λ f i l b. ap (λ (x : Alerts). getD (alertColumn f x) i 0) a;
-      receivers = λ i l b. ap (λ (x : Receivers). placeIn (x .armed) i) r;
+      receivers = λ i l b. ap (λ (x : Links). placeIn (x .receivers .armed) i) r;
       stages = λ f i l b. ap (λ (x : Stages). stageIn x (Alert f i)) s;
     }
 
@@ -135,39 +137,36 @@ acted-above h x =
 
 -- ── steps 2 to 4: samples at N and above count for nothing ──
 
-module _ (g : Handler) (w : Wires) (fx : Effects) where
-  no-event : (i : ℕ) → g .n ≤ i → alertEvent g w i ≡ true → ⊥
+module _ (g : Handler) (v : Heard) (fx : Effects) where
+  no-event : (i : ℕ) → g .n ≤ i → alertEvent g v i ≡ true → ⊥
   unfolding alertEvent
   no-event i l e = omega (arith, ltb-true i (g .n) (and-true (ltb i (g .n)) _ e .0))
 
-  sampled-alerts : (f : Field) (i : ℕ) → g .n ≤ i → i < most → alert (sampled g w fx) f i ≡ alert g f i
+  sampled-alerts : (f : Field) (i : ℕ) → g .n ≤ i → i < most → alert (sampled g v) f i ≡ alert g f i
   sampled-alerts f i l b =
-      alert-sampled g w fx f i b
-      ∙ pick (λ (m : ℕ). m ≡ alert g f i) (sameField Field.Cause f && alertEvent g w i) 1 (alert g f i)
-      (λ e. absurd (no-event i l (and-true (sameField Field.Cause f) (alertEvent g w i) e .1))) (λ _. refl)
+      alert-sampled g v f i b
+      ∙ pick (λ (m : ℕ). m ≡ alert g f i) (sameField Field.Cause f && alertEvent g v i) 1 (alert g f i)
+      (λ e. absurd (no-event i l (and-true (sameField Field.Cause f) (alertEvent g v i) e .1))) (λ _. refl)
 
-  rearmed-above : (i : ℕ) → g .n ≤ i → rearmed g w i ≡ armed g i
-  unfolding rearmed
-  rearmed-above i l = rw (le-ltb i (g .n) l)
-
-  stepped-above : SameAbove g (stepped g w fx)
+  stepped-above : SameAbove g (stepped g v fx)
   unfolding stepped sampled
-  stepped-above =
-      record {
-        n = refl;
-        alerts = sampled-alerts;
-        receivers = λ i l b. armed-sampled g w fx i b ∙ rearmed-above i l;
-        stages = λ f i l b. refl;
-      }
+  stepped-above = record { n = refl; alerts = sampled-alerts; receivers = λ i l b. refl; stages = λ f i l b. refl }
+
+-- links that leave the receivers there
+linked-above : (h g : Handler) (x : Links) → SameAbove h g
+    → ((i : ℕ) → h .n ≤ i → i < words * 64 → placeIn (x .receivers .armed) i ≡ armed h i) → SameAbove h (withLinks x g)
+linked-above h g x a r = record { n = a .n; alerts = a .alerts; receivers = r; stages = a .stages }
 
 -- ── ticks ──
 
 -- steps 1 to 4
 pub after-above : (h : Handler) (x : Input) → SameAbove h (after h x)
-unfolding after
+unfolding hears after
 after-above h x =
     let g : Handler = acted h (x .access) in
-    then h g (stepped g (x .sample .alerts) (effects h (x .access))) (acted-above h (x .access)) (stepped-above g (x .sample .alerts) (effects h (x .access)))
+    then h g (after h x) (acted-above h (x .access))
+    (linked-above g (stepped g (hears h x) (effects h (x .access))) (linksAfter (hears h x)) (stepped-above g (hears h x) (effects h (x .access)))
+    (heard-above g (x .sample) (effects h (x .access))))
 
 -- a tick, refused or not
 pub ticked-above : (h : Handler) (x : Input) → SameAbove h (ticked h x .handler)

@@ -24,7 +24,7 @@ pub record Untouched (h g : Handler) (i : ℕ) : Type 0 where
   pub en : getD (g .alerts .en) i 0 ≡ getD (h .alerts .en) i 0
   pub class : getD (g .alerts .class) i 0 ≡ getD (h .alerts .class) i 0
   pub cause : getD (g .alerts .cause) i 0 ≡ getD (h .alerts .cause) i 0
-  pub armed : placeIn (g .receivers .armed) i ≡ placeIn (h .receivers .armed) i
+  pub armed : placeIn (g .links .receivers .armed) i ≡ placeIn (h .links .receivers .armed) i
   pub en-stage : getD (g .stages .alerts .en) i 0 ≡ getD (h .stages .alerts .en) i 0
   pub class-stage : getD (g .stages .alerts .class) i 0 ≡ getD (h .stages .alerts .class) i 0
 
@@ -53,7 +53,7 @@ at-reset : (n i : ℕ) → i < 248
     × (getD (made n .handler .alerts .en) i 0 ≡ 0)
     × (getD (made n .handler .alerts .class) i 0 ≡ 0)
     × (getD (made n .handler .alerts .cause) i 0 ≡ 0)
-    × (placeIn (made n .handler .receivers .armed) i ≡ true)
+    × (placeIn (made n .handler .links .receivers .armed) i ≡ true)
     × (getD (made n .handler .stages .alerts .en) i 0 ≡ 0)
     × (getD (made n .handler .stages .alerts .class) i 0 ≡ 0)
 unfolding stageIn

@@ -19,16 +19,14 @@ use Rattle.rules.specs.Map.{decode, isRegister, settingBits, settingRow, bits, 
 use Rattle.rules.specs.Samples as samples
 use Rattle.rules.specs.Stages.{classStages, stageIn}
 use Rattle.rules.specs.State.{classCount, classAt}
-use Rattle.rules.specs.Tick.{event, interruptNow, signals, stepped, lines, after}
+use Rattle.rules.specs.Tick.{event, interruptNow, signals, stepped, lines, hears, eventIn, signalsIn, after}
 use Rattle.rules.specs.declared.Access.{Access}
 use Rattle.rules.specs.declared.Access.the-variants.{Nothing, Read, Write, Malformed}
-use Rattle.rules.specs.declared.Effects.{Effects}
 use Rattle.rules.specs.declared.Handler.{Handler}
 use Rattle.rules.specs.declared.Input.{Input}
 use Rattle.rules.specs.declared.Register.{Register}
 use Rattle.rules.specs.declared.Register.the-variants.{Block}
 use Rattle.rules.specs.declared.Setting.{Setting}
-use Rattle.rules.specs.declared.Wires.{Wires}
 use Rattle.laws.specs.Block.{classStored, settingLocked, blockAccepts, blockFirst, blockWritten, blockClears, ofBlock, writesBlock, Unmoved}
 use Rattle.laws.specs.RegisterFile.{stores}
 use Rattle.laws.proofs.Clears.{clears-by}
@@ -44,26 +42,26 @@ use Rattle.laws.proofs.Step1.{acted-is, clears-if}
 -- class k after the tick: its step, by its signals, from what the access left
 pub after-class : (h : Handler) (x : Input) (k : ℕ) → k < classCount
     → classAt (after h x) k
-    ≡ classStep (signals (acted h (x .access)) (x .sample .alerts) (effects h (x .access)) k) (classAt (acted h (x .access)) k)
+    ≡ classStep (signalsIn h x k) (classAt (acted h (x .access)) k)
 unfolding after
-after-class h x k l = stepped-class (acted h (x .access)) (x .sample .alerts) (effects h (x .access)) k l
+after-class h x k l = stepped-class (acted h (x .access)) (hears h x) (effects h (x .access)) k l
 
 -- an accepted clear of it, as step 1 found it
-pub signal-clear : (h : Handler) (x : Access) (g : Handler) (w : Wires) (k : ℕ) → signals g w (effects h x) k .clear ≡ clears h x k
+pub signal-clear : (h : Handler) (x : Input) (k : ℕ) → signalsIn h x k .clear ≡ clears h (x .access) k
 unfolding signals clears
-signal-clear h x g w k = refl
+signal-clear h x k = refl
 
 -- an event is of an enabled class
-pub event-enabled : (g : Handler) (w : Wires) (fx : Effects) (k : ℕ) → signals g w fx k .event ≡ true → enabled (classAt g k) ≡ true
+pub event-enabled : (h : Handler) (x : Input) (k : ℕ) → signalsIn h x k .event ≡ true → enabled (classAt (acted h (x .access)) k) ≡ true
 unfolding signals event
-event-enabled g w fx k e = and-true (samples.assigned g w fx k) (enabled (classAt g k)) e .1
+event-enabled h x k e = and-true (samples.assigned (acted h (x .access)) (hears h x) k) (enabled (classAt (acted h (x .access)) k)) e .1
 
 -- its interrupt bit: as the access left it, or set by an event
 pub after-bit : (h : Handler) (x : Input) (k : ℕ) → k < classCount
     → bit (after h x .interrupts .state) k
-    ≡ (bit (acted h (x .access) .interrupts .state) k || event (acted h (x .access)) (x .sample .alerts) (effects h (x .access)) k)
+    ≡ (bit (acted h (x .access) .interrupts .state) k || eventIn h x k)
 unfolding after stepped interruptNow
-after-bit h x k l = bit-bitsOf 4 (interruptNow (acted h (x .access)) (x .sample .alerts) (effects h (x .access))) k l
+after-bit h x k l = bit-bitsOf 4 (interruptNow (acted h (x .access)) (hears h x)) k l
 
 -- a line is on where a class drives it
 pub line-is : (h : Handler) (e : ℕ) → e < 4 → (bit (lines h) e ≡ true) ↔ ((k : ℕ) × (k < classCount) × (drives (classAt h k) e ≡ true))

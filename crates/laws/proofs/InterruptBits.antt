@@ -5,13 +5,13 @@ use mathlib.Core.Path.{_≡_, refl}
 use mathlib.Core.Bool.{_&&_}
 use Rattle.bits.specs.Bits.{bit}
 use Rattle.bits.proofs.BitLaws.{bit-bitsOf}
-use Rattle.rules.specs.Access.{value, acted, effects}
+use Rattle.rules.specs.Access.{value, acted}
 use Rattle.rules.specs.State.{classCount}
 use Rattle.rules.specs.Tick.{interrupts, after}
 use Rattle.rules.specs.declared.Handler.{Handler}
 use Rattle.rules.specs.declared.Input.{Input}
 use Rattle.rules.specs.declared.Register.the-variants.{IntrEnable}
-use Rattle.laws.proofs.Frame.{stepped-frame}
+use Rattle.laws.proofs.Frame.{after-still}
 
 -- step 5: the interrupt of class k is its bit of INTR_STATE and of INTR_ENABLE
 pub interrupt-is : (h : Handler) (k : ℕ) → k < classCount → bit (interrupts h) k ≡ (bit (h .interrupts .state) k && bit (h .interrupts .enable) k)
@@ -20,5 +20,5 @@ interrupt-is h k l = bit-bitsOf 4 (λ k. bit (h .interrupts .state) k && bit (h 
 
 -- only step 1 changes INTR_ENABLE
 pub after-enable : (h : Handler) (x : Input) → after h x .interrupts .enable ≡ acted h (x .access) .interrupts .enable
-unfolding after value
-after-enable h x = stepped-frame (acted h (x .access)) (x .sample .alerts) (effects h (x .access)) IntrEnable refl refl
+unfolding value
+after-enable h x = after-still h x IntrEnable refl refl

@@ -18,20 +18,21 @@ use Rattle.rules.specs.Map.{fieldBits}
 use Rattle.rules.specs.Run.{run}
 use Rattle.rules.specs.Samples.{sampled, marked, alertEvent, occurs}
 use Rattle.rules.specs.Stages.{settingStage, noClassStages, stageIn, stage}
-use Rattle.rules.specs.State.{most, localCount, classCount, local, alert, classAt, resetClass, newHandler, badCount, made}
-use Rattle.rules.specs.Tick.{signals, stepped, after, tick, ticked}
+use Rattle.rules.specs.State.{most, localCount, classCount, local, alert, classAt, resetClass, withLinks, newHandler, badCount, made}
+use Rattle.rules.specs.Tick.{signals, stepped, linksAfter, hears, after, tick, ticked}
 use Rattle.rules.specs.Valid.{valid}
 use Rattle.rules.specs.declared.Field.{Field}
 use Rattle.rules.specs.declared.Edition.{Edition}
 use Rattle.rules.specs.declared.Effects.{Effects}
 use Rattle.rules.specs.declared.Handler.{Handler}
+use Rattle.rules.specs.declared.Heard.{Heard}
 use Rattle.rules.specs.declared.Input.{Input}
+use Rattle.rules.specs.declared.Links.{Links}
 use Rattle.rules.specs.declared.Made.{Made}
 use Rattle.rules.specs.declared.Register.{Register}
 use Rattle.rules.specs.declared.Register.the-variants.{Local, Alert}
 use Rattle.rules.specs.declared.Setting.{Setting}
 use Rattle.rules.specs.declared.Ticked.{Ticked}
-use Rattle.rules.specs.declared.Wires.{Wires}
 use Rattle.laws.specs.Columns.{sameField}
 use Rattle.laws.specs.Facts.{ClassValid, Valid}
 use Rattle.laws.specs.InMap.{inMap, settingExists}
@@ -51,29 +52,36 @@ marked-fits Field.En on x l = l
 marked-fits Field.Class on x l = l
 marked-fits Field.Cause on x l = pick (λ n. n < 2) on 1 x (λ _. omega arith) (λ _. l)
 
-stepped-facts : (g : Handler) (w : Wires) (fx : Effects) → Valid g → Valid (stepped g w fx)
+stepped-facts : (g : Handler) (v : Heard) (fx : Effects) → Valid g → Valid (stepped g v fx)
 unfolding stepped sampled
-stepped-facts g w fx t =
+stepped-facts g v fx t =
     record {
       n = t .n;
       state = bitsOf-lt 4 _;
       enable = t .enable;
-      locals = λ f j b. rw (local-sampled g w fx f j b) (marked-fits f (occurs g w fx j) (local g f j) (t .locals f j b));
-      alerts = λ f i b. rw (alert-sampled g w fx f i (omega (arith, t .n))) (marked-fits f (alertEvent g w i) (alert g f i) (t .alerts f i b));
-      classes = λ k b. rw (at-each classCount (λ j. classStep (signals g w fx j) (classAt g j)) k noClass b) (step-valid (signals g w fx k) (classAt g k) (t .classes k b));
+      locals = λ f j b. rw (local-sampled g v f j b) (marked-fits f (occurs g v j) (local g f j) (t .locals f j b));
+      alerts = λ f i b. rw (alert-sampled g v f i (omega (arith, t .n))) (marked-fits f (alertEvent g v i) (alert g f i) (t .alerts f i b));
+      classes = λ k b. rw (at-each classCount (λ j. classStep (signals g v fx j) (classAt g j)) k noClass b) (step-valid (signals g v fx k) (classAt g k) (t .classes k b));
       stages = t .stages;
     }
 
 -- steps 2 to 4 keep a state valid, whatever the wires and the clears
-pub stepped-valid : (g : Handler) (w : Wires) (fx : Effects) → valid g ≡ true → valid (stepped g w fx) ≡ true
-stepped-valid g w fx e = is-valid (stepped g w fx) (stepped-facts g w fx (facts g e))
+pub stepped-valid : (g : Handler) (v : Heard) (fx : Effects) → valid g ≡ true → valid (stepped g v fx) ≡ true
+stepped-valid g v fx e = is-valid (stepped g v fx) (stepped-facts g v fx (facts g e))
+
+-- links of any bits are links
+pub linked-valid : (l : Links) (g : Handler) → valid (withLinks l g) ≡ valid g
+unfolding valid
+linked-valid l g = refl
 
 -- ── ticks ──
 
 -- steps 1 to 4
 pub after-valid : (h : Handler) (x : Input) → valid h ≡ true → valid (after h x) ≡ true
 unfolding after
-after-valid h x e = stepped-valid (acted h (x .access)) (x .sample .alerts) (effects h (x .access)) (acted-valid h (x .access) e)
+after-valid h x e =
+    linked-valid (linksAfter (hears h x)) (stepped (acted h (x .access)) (hears h x) (effects h (x .access)))
+    ∙ stepped-valid (acted h (x .access)) (hears h x) (effects h (x .access)) (acted-valid h (x .access) e)
 
 -- a tick
 pub ticked-valid : (h : Handler) (x : Input) → valid h ≡ true → valid (ticked h x .handler) ≡ true

@@ -8,6 +8,7 @@ pub mod Refusals
 pub mod RegisterFile
 pub mod StageFile
 pub mod StateLaws
+pub mod Heard
 pub mod StageLaws
 pub mod StateNumber
 pub mod StageFits

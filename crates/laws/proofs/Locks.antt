@@ -11,22 +11,22 @@ use Rattle.rules.specs.Access.{value, locked, bars, verdict, accepts, accepted,
 use Rattle.rules.specs.Map.{decode, numberOf, isRegister, guard, isLock, isShadowed}
 use Rattle.rules.specs.Stages.{stage, isOpen}
 use Rattle.rules.specs.State.{most, classCount}
-use Rattle.rules.specs.Tick.{stepped, after}
+use Rattle.rules.specs.Tick.{hears, stepped, after}
 use Rattle.rules.specs.declared.Access.{Access}
 use Rattle.rules.specs.declared.Effects.{Effects}
 use Rattle.rules.specs.declared.Handler.{Handler}
+use Rattle.rules.specs.declared.Heard.{Heard}
 use Rattle.rules.specs.declared.Input.{Input}
 use Rattle.rules.specs.declared.Register.{Register}
 use Rattle.rules.specs.declared.Register.the-variants.{Local, Alert, Block}
 use Rattle.rules.specs.declared.Setting.the-variants.{ClrRegwen}
 use Rattle.rules.specs.declared.Verdict.{Verdict}
-use Rattle.rules.specs.declared.Wires.{Wires}
 use Rattle.laws.specs.InMap.{inMap}
 use Rattle.laws.specs.Frame.{movesItself}
 use Rattle.laws.specs.StageFile.{names, stageGiven, stageBy}
 use Rattle.laws.specs.RegisterFile.{target, newValue, writes, stores}
 use Rattle.laws.proofs.Cases.{pick, by-kind, by-field, by-setting}
-use Rattle.laws.proofs.Frame.{stepped-frame, clrwen-falls, after-stage}
+use Rattle.laws.proofs.Frame.{stepped-frame, clrwen-falls, after-value, after-stage}
 use Rattle.laws.proofs.MapLaws.{number-eq}
 use Rattle.laws.proofs.RegisterFile.{target-in-map, accepted-in-map, stores-accepted, acted-value, acted-n}
 use Rattle.laws.proofs.Refusals.{unrefused}
@@ -210,28 +210,28 @@ still =
     P : Register → Type 0
     P q = isRegister (guard q) ≡ true → (movesItself q ≡ false) ⊎ ((k : ℕ) × (q ≡ Block ClrRegwen k))
 
-module _ (g : Handler) (w : Wires) (fx : Effects) where
+module _ (g : Handler) (v : Heard) (fx : Effects) where
   -- steps 2 to 4 leave it where it is locked
   abbrev Kept : Register → Type 0
-  Kept q = inMap (g .n) q ≡ true → locked g q ≡ true → value (stepped g w fx) q ≡ value g q
+  Kept q = inMap (g .n) q ≡ true → locked g q ≡ true → value (stepped g v fx) q ≡ value g q
 
   -- a 0 in CLR_REGWEN stays
   clrwen-keeps : (k : ℕ) → Kept (Block ClrRegwen k)
   unfolding guard
   clrwen-keeps k a e =
       ⊎-elim (λ s. s) (λ z. z ∙ sym (locked-guard g (Block ClrRegwen k) e .1))
-      (clrwen-falls g w fx k (ltb-true k classCount (and-true (ltb k classCount) true a .0)))
+      (clrwen-falls g v fx k (ltb-true k classCount (and-true (ltb k classCount) true a .0)))
 
   -- so steps 2 to 4 leave what is locked
   stepped-keeps : (q : Register) → Kept q
   stepped-keeps q a e =
-      ⊎-elim (λ (m : movesItself q ≡ false). stepped-frame g w fx q a m)
+      ⊎-elim (λ (m : movesItself q ≡ false). stepped-frame g v fx q a m)
       (λ (c : (k : ℕ) × (q ≡ Block ClrRegwen k)). subst Kept (sym (c .1)) (clrwen-keeps (c .0)) a e) (still q (locked-guard g q e .0))
 
   -- a locked register keeps its value and stays locked
   pub stepped-locked : (q : Register) → inMap (g .n) q ≡ true → locked g q ≡ true
-      → (locked (stepped g w fx) q ≡ true) × (value (stepped g w fx) q ≡ value g q)
-  stepped-locked q = stays g (stepped g w fx) stepped-keeps q
+      → (locked (stepped g v fx) q ≡ true) × (value (stepped g v fx) q ≡ value g q)
+  stepped-locked q = stays g (stepped g v fx) stepped-keeps q
 
 -- ── the tick ──
 
@@ -243,10 +243,10 @@ after-left h x q m a e = subst (StageLeft (stage h q)) (sym (after-stage h x q))
 -- whatever comes in, a locked register keeps its value and stays locked in a tick
 pub after-locked : (h : Handler) (x : Input) (q : Register) → h .n ≤ most → inMap (h .n) q ≡ true → locked h q ≡ true
     → (locked (after h x) q ≡ true) × (value (after h x) q ≡ value h q)
-unfolding after
+unfolding locked
 after-locked h x q m a e =
     let s = acted-locked h (x .access) q m a e in
     let t =
-    stepped-locked (acted h (x .access)) (x .sample .alerts) (effects h (x .access)) q
+    stepped-locked (acted h (x .access)) (hears h x) (effects h (x .access)) q
     (ap (λ (n : ℕ). inMap n q) (acted-n h (x .access)) ∙ a) (s .0) in
-    (t .0, t .1 ∙ s .1)
+    (ap (λ (n : ℕ). isRegister (guard q) && eqb n 0) (after-value h x (guard q)) ∙ t .0, after-value h x q ∙ t .1 ∙ s .1)

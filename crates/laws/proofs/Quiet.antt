@@ -1,4 +1,4 @@
--- A tick with all wires at (0,1) whose access is accepted and clears nothing: no event comes.
+-- A tick in which step 2 hears nothing and no clear is accepted; all wires at (0,1) and an accepted access make it so.
 -- Assumes nothing.
 use Prim.Native.Nat.{ℕ, _≤_, _<_}
 use mathlib.Core.Path.{_≡_, refl, sym, ap, ap₂, _∙_}
@@ -16,27 +16,29 @@ use Rattle.class_rules.specs.declared.ClassState.{ClassState}
 use Rattle.class_rules.specs.declared.ClassState.the-variants.{Idle}
 use Rattle.class_rules.specs.declared.Signals.{Signals}
 use Rattle.rules.specs.Access.{value, verdict, accepts, accepted, accessedBy, accessed, acted, effects, clears}
-use Rattle.rules.specs.Samples.{equal, negative, alertEnabled, alertEvent, alertBroken, raised, occurs, assigned, marked}
+use Rattle.rules.specs.Samples.{equal, negative, alertEnabled, happened, alertBroken, raised, heard, alertEvent, occurs, assigned, marked}
 use Rattle.rules.specs.State.{most, localCount, classCount, local, alert, armed, classAt}
-use Rattle.rules.specs.Tick.{event, interruptNow, signals, stepped, after}
+use Rattle.rules.specs.Tick.{hears, event, interruptNow, signals, stepped, after}
 use Rattle.rules.specs.Valid.{valid}
 use Rattle.rules.specs.declared.Access.{Access}
 use Rattle.rules.specs.declared.Effects.{Effects}
 use Rattle.rules.specs.declared.Field.{Field}
 use Rattle.rules.specs.declared.Handler.{Handler}
+use Rattle.rules.specs.declared.Heard.{Heard}
 use Rattle.rules.specs.declared.Input.{Input}
 use Rattle.rules.specs.declared.Register.{Register}
+use Rattle.rules.specs.declared.Sample.{Sample}
 use Rattle.rules.specs.declared.Register.the-variants.{IntrState, Local, Alert, Block}
 use Rattle.rules.specs.declared.Setting.the-variants.{AccumCnt}
 use Rattle.rules.specs.declared.Verdict.{Verdict}
-use Rattle.rules.specs.declared.Wires.{Wires}
 use Rattle.laws.specs.Frame.{movesItself}
 use Rattle.laws.specs.InMap.{inMap}
-use Rattle.laws.specs.Quiet.{AtRest, runs}
+use Rattle.laws.specs.Quiet.{AtRest, Silent, runs}
 use Rattle.laws.specs.RegisterFile.{commits}
 use Rattle.laws.proofs.Cases.{by-kind, by-field, by-setting}
 use Rattle.laws.proofs.Content.{acted-place}
-use Rattle.laws.proofs.Frame.{stepped-class, stepped-frame}
+use Rattle.laws.proofs.Frame.{stepped-class, stepped-frame, after-value}
+use Rattle.laws.proofs.Heard.{heard-event, heard-raise}
 use Rattle.laws.proofs.KeepsAccess.{acted-valid}
 use Rattle.laws.proofs.RegisterFile.{acted-n, acted-other}
 use Rattle.laws.proofs.StateLaws.{alert-sampled, local-sampled}
@@ -62,39 +64,59 @@ idles s c x y d =
     ap (λ (m : ClassState). stateOf (stateNumber (movedFrom m s c .state))) d
     ∙ simp (x, y, and-no (enabled c))
 
--- ── steps 2 to 4 of the state g, with wires at rest, nothing raised and nothing cleared ──
+-- ── no event, no equal wires, and nothing raised by step 1: step 2 hears nothing ──
 
-module _ (g : Handler) (w : Wires) (fx : Effects) (m : g .n ≤ most) (r : AtRest w) (z : fx .raises ≡ 0) where
-  no-event : (i : ℕ) → i < most → alertEvent g w i ≡ false
-  unfolding alertEvent
-  no-event i l =
-      ap (λ (b : Bool). ltb i (g .n) && ((armed g i && (b && not (negative w i))) && alertEnabled g i)) (r .low i l)
-      ∙ ap (λ (b : Bool). ltb i (g .n) && (b && alertEnabled g i)) (and-no (armed g i)) ∙ and-no (ltb i (g .n))
+module _ (g : Handler) (s : Sample) (fx : Effects) (m : g .n ≤ most) (z : fx .raises ≡ 0) where
+  none-raised : ((i : ℕ) → i < most → alertBroken g (s .alerts) i ≡ false) → (j : ℕ) → raised g (s .alerts) fx j ≡ false
+  unfolding raised
+  none-raised b j =
+      ap₂ (λ (b c : Bool). (eqb j 2 && b) || c) (any-none (alertBroken g (s .alerts)) (g .n) (λ i l. b i (omega arith))) (ap (λ (x : ℕ). bit x j) z ∙ bit-none j)
+      ∙ ap (λ (b : Bool). b || false) (and-no (eqb j 2))
 
-  none-broken : (i : ℕ) → i < most → alertBroken g w i ≡ false
+  pub silent-by : ((i : ℕ) → i < most → happened g (s .alerts) i ≡ false) → ((i : ℕ) → i < most → alertBroken g (s .alerts) i ≡ false)
+      → Silent (heard g s fx)
+  silent-by a b =
+      record {
+        events = λ i l. heard-event g s fx i (omega arith) ∙ a i l;
+        raises = λ j l. heard-raise g s fx j l ∙ none-raised b j;
+      }
+
+-- as with all wires at (0,1)
+module _ (g : Handler) (s : Sample) (r : AtRest (s .alerts)) where
+  none-happened : (i : ℕ) → i < most → happened g (s .alerts) i ≡ false
+  unfolding happened
+  none-happened i l =
+      ap (λ (b : Bool). ltb i (g .n) && (armed g i && (b && not (negative (s .alerts) i)))) (r .low i l)
+      ∙ ap (λ (b : Bool). ltb i (g .n) && b) (and-no (armed g i)) ∙ and-no (ltb i (g .n))
+
+  none-broken : (i : ℕ) → i < most → alertBroken g (s .alerts) i ≡ false
   unfolding alertBroken
   none-broken i l =
       ap₂ (λ (b c : Bool). ltb i (g .n) && (equal b c && alertEnabled g i)) (r .low i l) (r .high i l) ∙ and-no (ltb i (g .n))
 
-  none-occurs : (j : ℕ) → occurs g w fx j ≡ false
-  unfolding occurs raised
-  none-occurs j =
-      ap₂ (λ (b c : Bool). ((eqb j 2 && b) || c) && eqb (local g Field.En j) 1)
-      (any-none (alertBroken g w) (g .n) (λ i l. none-broken i (omega arith))) (ap (λ (x : ℕ). bit x j) z ∙ bit-none j)
-      ∙ ap (λ (b : Bool). (b || false) && eqb (local g Field.En j) 1) (and-no (eqb j 2))
+-- ── steps 2 to 4 of the state g, where step 2 hears nothing ──
 
-  none-assigned : (k : ℕ) → assigned g w fx k ≡ false
+module _ (g : Handler) (v : Heard) (m : g .n ≤ most) (q : Silent v) where
+  pub no-event : (i : ℕ) → i < most → alertEvent g v i ≡ false
+  unfolding alertEvent
+  no-event i l = ap (λ (b : Bool). ltb i (g .n) && (b && alertEnabled g i)) (q .events i l) ∙ and-no (ltb i (g .n))
+
+  pub none-occurs : (j : ℕ) → j < localCount → occurs g v j ≡ false
+  unfolding occurs
+  none-occurs j l = ap (λ (b : Bool). b && eqb (local g Field.En j) 1) (q .raises j l)
+
+  pub none-assigned : (k : ℕ) → assigned g v k ≡ false
   unfolding assigned
   none-assigned k =
       ap₂ _||_ (any-none _ (g .n) (λ i l. ap (λ (b : Bool). b && eqb (alert g Field.Class i) k) (no-event i (omega arith))))
-      (any-none _ localCount (λ j l. ap (λ (b : Bool). b && eqb (local g Field.Class j) k) (none-occurs j)))
+      (any-none _ localCount (λ j l. ap (λ (b : Bool). b && eqb (local g Field.Class j) k) (none-occurs j l)))
 
   -- no class has an event
-  pub quiet-event : (k : ℕ) → event g w fx k ≡ false
+  pub quiet-event : (k : ℕ) → event g v k ≡ false
   unfolding event
   quiet-event k = ap (λ (b : Bool). classEvent b (classAt g k)) (none-assigned k)
 
-  quiet-bit : (k : ℕ) → interruptNow g w fx k ≡ bit (g .interrupts .state) k
+  quiet-bit : (k : ℕ) → interruptNow g v k ≡ bit (g .interrupts .state) k
   unfolding interruptNow
   quiet-bit k = ap (λ (b : Bool). bit (g .interrupts .state) k || b) (quiet-event k) ∙ or-no (bit (g .interrupts .state) k)
     where
@@ -102,49 +124,50 @@ module _ (g : Handler) (w : Wires) (fx : Effects) (m : g .n ≤ most) (r : AtRes
       or-no true = refl
       or-no false = refl
 
-  quiet-state : g .interrupts .state < 16 → value (stepped g w fx) IntrState ≡ value g IntrState
-  unfolding stepped value
-  quiet-state l = sym (is-bitsOf 4 (g .interrupts .state) (interruptNow g w fx) l (λ k h. sym (quiet-bit k)))
+  module _ (fx : Effects) where
+    quiet-state : g .interrupts .state < 16 → value (stepped g v fx) IntrState ≡ value g IntrState
+    unfolding stepped value
+    quiet-state l = sym (is-bitsOf 4 (g .interrupts .state) (interruptNow g v) l (λ k h. sym (quiet-bit k)))
 
-  quiet-cause : (i : ℕ) → i < most → value (stepped g w fx) (Alert Field.Cause i) ≡ value g (Alert Field.Cause i)
-  unfolding stepped value
-  quiet-cause i l = alert-sampled g w fx Field.Cause i l ∙ ap (λ (b : Bool). marked b (alert g Field.Cause i)) (no-event i l)
+    quiet-cause : (i : ℕ) → i < most → value (stepped g v fx) (Alert Field.Cause i) ≡ value g (Alert Field.Cause i)
+    unfolding stepped value
+    quiet-cause i l = alert-sampled g v Field.Cause i l ∙ ap (λ (b : Bool). marked b (alert g Field.Cause i)) (no-event i l)
 
-  quiet-local : (j : ℕ) → j < localCount → value (stepped g w fx) (Local Field.Cause j) ≡ value g (Local Field.Cause j)
-  unfolding stepped value
-  quiet-local j l = local-sampled g w fx Field.Cause j l ∙ ap (λ (b : Bool). marked b (local g Field.Cause j)) (none-occurs j)
+    quiet-local : (j : ℕ) → j < localCount → value (stepped g v fx) (Local Field.Cause j) ≡ value g (Local Field.Cause j)
+    unfolding stepped value
+    quiet-local j l = local-sampled g v Field.Cause j l ∙ ap (λ (b : Bool). marked b (local g Field.Cause j)) (none-occurs j l)
 
-  quiet-count : (k : ℕ) → k < classCount → bit (fx .clears) k ≡ false → value (stepped g w fx) (Block AccumCnt k) ≡ value g (Block AccumCnt k)
-  unfolding value classStep signals
-  quiet-count k l c =
-      ap (λ (x : Class). x .accum) (stepped-class g w fx k l)
-      ∙ uncounted (signals g w fx k) (classAt g k) c (quiet-event k)
+    quiet-count : (k : ℕ) → k < classCount → bit (fx .clears) k ≡ false → value (stepped g v fx) (Block AccumCnt k) ≡ value g (Block AccumCnt k)
+    unfolding value classStep signals
+    quiet-count k l c =
+        ap (λ (x : Class). x .accum) (stepped-class g v fx k l)
+        ∙ uncounted (signals g v fx k) (classAt g k) c (quiet-event k)
 
-  -- every register but STATE, ESC_CNT and CLR_REGWEN is as before
-  pub quiet-frame : g .interrupts .state < 16 → ((k : ℕ) → k < classCount → bit (fx .clears) k ≡ false)
-      → (q : Register) → inMap (g .n) q ≡ true → runs q ≡ false → value (stepped g w fx) q ≡ value g q
-  quiet-frame s c =
-      by-kind P (λ a e. quiet-state s) (still _ refl) (still _ refl)
-      (λ f j. by-field (λ f. P (Local f j)) (still _ refl) (still _ refl) (still _ refl) (λ a e. quiet-local j (ltb-true j localCount a)) f)
-      (λ f i. by-field (λ f. P (Alert f i)) (still _ refl) (still _ refl) (still _ refl)
-      (λ a e. quiet-cause i (omega (arith, ltb-true i (g .n) a))) f)
-      (λ t k. by-setting (λ t. P (Block t k)) (still _ refl) (still _ refl) (λ a. running) (still _ refl)
-      (λ a e. let l = ltb-true k classCount (and-true (ltb k classCount) true a .0) in quiet-count k l (c k l)) (still _ refl) (still _ refl)
-      (λ p. still _ refl) (λ a. running) (λ a. running) t) (still _ refl)
-    where
-      P : Register → Type 0
-      P q = inMap (g .n) q ≡ true → runs q ≡ false → value (stepped g w fx) q ≡ value g q
+    -- every register but STATE, ESC_CNT and CLR_REGWEN is as before
+    pub quiet-frame : g .interrupts .state < 16 → ((k : ℕ) → k < classCount → bit (fx .clears) k ≡ false)
+        → (q : Register) → inMap (g .n) q ≡ true → runs q ≡ false → value (stepped g v fx) q ≡ value g q
+    quiet-frame s c =
+        by-kind P (λ a e. quiet-state s) (still _ refl) (still _ refl)
+        (λ f j. by-field (λ f. P (Local f j)) (still _ refl) (still _ refl) (still _ refl) (λ a e. quiet-local j (ltb-true j localCount a)) f)
+        (λ f i. by-field (λ f. P (Alert f i)) (still _ refl) (still _ refl) (still _ refl)
+        (λ a e. quiet-cause i (omega (arith, ltb-true i (g .n) a))) f)
+        (λ t k. by-setting (λ t. P (Block t k)) (still _ refl) (still _ refl) (λ a. running) (still _ refl)
+        (λ a e. let l = ltb-true k classCount (and-true (ltb k classCount) true a .0) in quiet-count k l (c k l)) (still _ refl) (still _ refl)
+        (λ p. still _ refl) (λ a. running) (λ a. running) t) (still _ refl)
+      where
+        P : Register → Type 0
+        P q = inMap (g .n) q ≡ true → runs q ≡ false → value (stepped g v fx) q ≡ value g q
 
-      still : (q : Register) → movesItself q ≡ false → P q
-      still q t a e = stepped-frame g w fx q a t
+        still : (q : Register) → movesItself q ≡ false → P q
+        still q t a e = stepped-frame g v fx q a t
 
-  -- an Idle class whose interrupt bit is 0 stays Idle
-  pub quiet-idle : (k : ℕ) → k < classCount → bit (g .interrupts .state) k ≡ false → stateOf (classAt g k .state) ≡ Idle
-      → stateOf (classAt (stepped g w fx) k .state) ≡ Idle
-  unfolding signals
-  quiet-idle k l b e =
-      ap (λ (c : Class). stateOf (c .state)) (stepped-class g w fx k l)
-      ∙ idles (signals g w fx k) (classAt g k) (quiet-event k) (quiet-bit k ∙ b) e
+    -- an Idle class whose interrupt bit is 0 stays Idle
+    pub quiet-idle : (k : ℕ) → k < classCount → bit (g .interrupts .state) k ≡ false → stateOf (classAt g k .state) ≡ Idle
+        → stateOf (classAt (stepped g v fx) k .state) ≡ Idle
+    unfolding signals
+    quiet-idle k l b e =
+        ap (λ (c : Class). stateOf (c .state)) (stepped-class g v fx k l)
+        ∙ idles (signals g v fx k) (classAt g k) (quiet-event k) (quiet-bit k ∙ b) e
 
 -- ── the tick ──
 
@@ -157,7 +180,16 @@ accepted-raises h x e = go (verdict h x) e
     go Verdict.Accepted e = refl
     go (Verdict.Refused n) e = absurd (false≢true e)
 
-module _ (h : Handler) (x : Input) (t : valid h ≡ true) (r : AtRest (x .sample .alerts)) (a : accepted h (x .access) ≡ true)
+-- so all wires at (0,1) and an accepted access make a silent tick
+pub rest-silent : (h : Handler) (x : Input) → valid h ≡ true → AtRest (x .sample .alerts) → accepted h (x .access) ≡ true → Silent (hears h x)
+unfolding hears
+rest-silent h x t r a =
+    let g : Handler = acted h (x .access) in
+    silent-by g (x .sample) (effects h (x .access)) (facts g (acted-valid h (x .access) t) .n) (accepted-raises h (x .access) a)
+    (none-happened g (x .sample) r) (none-broken g (x .sample) r)
+
+-- a silent tick that clears nothing
+module _ (h : Handler) (x : Input) (t : valid h ≡ true) (silent : Silent (hears h x))
     (c : (k : ℕ) → k < classCount → clears h (x .access) k ≡ false) where
   abbrev g : Handler
   g = acted h (x .access)
@@ -167,9 +199,10 @@ module _ (h : Handler) (x : Input) (t : valid h ≡ true) (r : AtRest (x .sample
 
   -- what the access does not write is as before, but for STATE, ESC_CNT and CLR_REGWEN
   pub quiet-tick : (q : Register) → inMap (h .n) q ≡ true → runs q ≡ false → commits h (x .access) q ≡ false → value (after h x) q ≡ value h q
-  unfolding after clears
+  unfolding clears
   quiet-tick q i e d =
-      quiet-frame g (x .sample .alerts) (effects h (x .access)) bound r (accepted-raises h (x .access) a)
+      after-value h x q
+      ∙ quiet-frame g (hears h x) bound silent (effects h (x .access))
       (facts g (acted-valid h (x .access) t) .state) c q (ap (λ (n : ℕ). inMap n q) (acted-n h (x .access)) ∙ i) e
       ∙ acted-other h (x .access) q (facts h t .n) i d
 
@@ -178,6 +211,6 @@ module _ (h : Handler) (x : Input) (t : valid h ≡ true) (r : AtRest (x .sample
       → stateOf (classAt h k .state) ≡ Idle → stateOf (classAt (after h x) k .state) ≡ Idle
   unfolding after value
   quiet-waits k l d b s =
-      quiet-idle g (x .sample .alerts) (effects h (x .access)) bound r (accepted-raises h (x .access) a) k l
+      quiet-idle g (hears h x) bound silent (effects h (x .access)) k l
       (ap (λ (y : ℕ). bit y k) (acted-other h (x .access) IntrState (facts h t .n) refl d) ∙ b)
       (ap stateOf (acted-place h (x .access) k l .0) ∙ s)

@@ -10,13 +10,15 @@ use Rattle.bits.specs.Bits.{bit}
 use Rattle.bits.specs.Index.{anyTo}
 use Rattle.rules.specs.Access.{verdict, accessedBy, accessed, effects}
 use Rattle.rules.specs.Answer.{refusalNumber}
-use Rattle.rules.specs.Samples.{alertBroken, raised, occurs}
+use Rattle.rules.specs.Samples.{alertBroken, raised, heard, occurs}
 use Rattle.rules.specs.State.{localCount, local}
 use Rattle.rules.specs.declared.Access.{Access}
 use Rattle.rules.specs.declared.Field.{Field}
 use Rattle.rules.specs.declared.Handler.{Handler}
+use Rattle.rules.specs.declared.Heard.{Heard}
+use Rattle.rules.specs.declared.Sample.{Sample}
 use Rattle.rules.specs.declared.Verdict.{Verdict}
-use Rattle.rules.specs.declared.Wires.{Wires}
+use Rattle.laws.proofs.Heard.{heard-raise}
 
 -- an access raises local 5, or none
 pub raises-either : (h : Handler) (x : Access) (j : ℕ) (P : Bool → Type 0) → P (bit 0 j) → P (bit (2 ^ 5) j) → P (bit (effects h x .raises) j)
@@ -31,46 +33,49 @@ raises-either h x j P a b = go (verdict h x)
     go Verdict.Accepted = a
     go (Verdict.Refused m) = at (eqb (refusalNumber m) 12)
 
--- ── class k, by the state g after step 1 and the wires w ──
+-- ── class k, by the state g after step 1 and the sample s ──
 
-module _ (h : Handler) (x : Access) (g : Handler) (w : Wires) (k : ℕ) where
+module _ (h : Handler) (x : Access) (g : Handler) (s : Sample) (k : ℕ) where
+  abbrev v : Heard
+  v = heard g s (effects h x)
+
   -- local alert j is disabled or assigned to another class
   abbrev Elsewhere : ℕ → Type 0
   Elsewhere j = (eqb (local g Field.En j) 1 && eqb (local g Field.Class j) k) ≡ false
 
   abbrev none : ℕ → Type 0
-  none j = (occurs g w (effects h x) j && eqb (local g Field.Class j) k) ≡ false
+  none j = (occurs g v j && eqb (local g Field.Class j) k) ≡ false
 
   -- such a one does not occur in class k
   off : (j : ℕ) → Elsewhere j → none j
   unfolding occurs
-  off j e = go (raised g w (effects h x) j)
+  off j e = go (bit (v .raises) j)
     where
       go : (r : Bool) → ((r && eqb (local g Field.En j) 1) && eqb (local g Field.Class j) k) ≡ false
       go true = e
       go false = refl
 
   -- nor does one that is not raised
-  still : (j : ℕ) → raised g w (effects h x) j ≡ false → none j
+  still : (j : ℕ) → bit (v .raises) j ≡ false → none j
   unfolding occurs
   still j e = ap (λ (r : Bool). (r && eqb (local g Field.En j) 1) && eqb (local g Field.Class j) k) e
 
-  unraised : (j : ℕ) → eqb j 2 ≡ false → bit 0 j ≡ false → bit (2 ^ 5) j ≡ false → none j
+  unraised : (j : ℕ) → j < localCount → eqb j 2 ≡ false → bit 0 j ≡ false → bit (2 ^ 5) j ≡ false → none j
   unfolding raised
-  unraised j d a b =
-      still j (ap (λ (t : Bool). (t && anyTo (alertBroken g w) (g .n)) || bit (effects h x .raises) j) d ∙ raises-either h x j (λ t. t ≡ false) a b)
+  unraised j l d a b =
+      still j (heard-raise g s (effects h x) j l ∙ ap (λ (t : Bool). (t && anyTo (alertBroken g (s .alerts)) (g .n)) || bit (effects h x .raises) j) d ∙ raises-either h x j (λ t. t ≡ false) a b)
 
   -- where local 2 and local 5 are elsewhere, none occurs in class k
-  pub no-local : Elsewhere 2 → Elsewhere 5 → anyTo (λ j. occurs g w (effects h x) j && eqb (local g Field.Class j) k) localCount ≡ false
+  pub no-local : Elsewhere 2 → Elsewhere 5 → anyTo (λ j. occurs g v j && eqb (local g Field.Class j) k) localCount ≡ false
   unfolding bit
-  no-local two five = any-none (λ j. occurs g w (effects h x) j && eqb (local g Field.Class j) k) localCount each
+  no-local two five = any-none (λ j. occurs g v j && eqb (local g Field.Class j) k) localCount each
     where
       each : (j : ℕ) → j < localCount → none j
-      each zero l = unraised 0 refl refl refl
-      each (suc zero) l = unraised 1 refl refl refl
+      each zero l = unraised 0 l refl refl refl
+      each (suc zero) l = unraised 1 l refl refl refl
       each (suc (suc zero)) l = off 2 two
-      each (suc (suc (suc zero))) l = unraised 3 refl refl refl
-      each (suc (suc (suc (suc zero)))) l = unraised 4 refl refl refl
+      each (suc (suc (suc zero))) l = unraised 3 l refl refl refl
+      each (suc (suc (suc (suc zero)))) l = unraised 4 l refl refl refl
       each (suc (suc (suc (suc (suc zero))))) l = off 5 five
-      each (suc (suc (suc (suc (suc (suc zero)))))) l = unraised 6 refl refl refl
+      each (suc (suc (suc (suc (suc (suc zero)))))) l = unraised 6 l refl refl refl
       each (suc (suc (suc (suc (suc (suc (suc j))))))) l = absurd (omega arith)

@@ -14,8 +14,9 @@ use Rattle.rules.specs.Access.{value, silly, bars, unlike, accessCases, verdict
 use Rattle.rules.specs.Answer.{refusalNumber, number, Case, firstOf}
 use Rattle.rules.specs.Map.{decode, isRegister, bits, readOnly}
 use Rattle.rules.specs.Stages.{dropped}
-use Rattle.rules.specs.State.{withStages}
-use Rattle.rules.specs.Tick.{stepped, outputOf, noOutput, after, tick, ticked}
+use Rattle.rules.specs.State.{withStages, withLinks}
+use Rattle.rules.specs.Samples.{heard}
+use Rattle.rules.specs.Tick.{stepped, linksAfter, outputOf, hears, noOutput, after, tick, ticked}
 use Rattle.rules.specs.Valid.{valid}
 use Rattle.rules.specs.declared.Access.{Access}
 use Rattle.rules.specs.declared.Answer.{Answer}
@@ -194,6 +195,10 @@ raises-none m = go (eqb (refusalNumber m) 3) (eqb (refusalNumber m) 12)
     go false true d = absurd (false≢true (sym d))
     go false false d = refl
 
+-- steps 2 to 4 of the state g
+abbrev stepsOn : Handler → Sample → Effects → Handler
+stepsOn g s fx = withLinks (linksAfter (heard g s fx)) (stepped g (heard g s fx) fx)
+
 module _ (h : Handler) where
   -- no access
   acted-nothing : acted h Access.Nothing ≡ h
@@ -206,15 +211,15 @@ module _ (h : Handler) where
 
   module _ (x : Access) (s : Sample) (m : Refusal) (e : verdict h x ≡ Verdict.Refused m) where
     -- a refused access is as none on the state without the stage that it drops, but for local 5
-    pub refused-after : after h (record { access = x; sample = s }) ≡ stepped (kept m h x) (s .alerts) (record { clears = 0; raises = raisedBy m })
-    unfolding after
-    refused-after = ap₂ (λ (g : Handler) (fx : Effects). stepped g (s .alerts) fx) (acted-refused h x m e) (effects-refused h x m e)
+    pub refused-after : after h (record { access = x; sample = s }) ≡ stepsOn (kept m h x) s (record { clears = 0; raises = raisedBy m })
+    unfolding hears after
+    refused-after = ap₂ (λ (g : Handler) (fx : Effects). stepsOn g s fx) (acted-refused h x m e) (effects-refused h x m e)
 
     -- one refused with 1, 2, 4 or 5 is as none, in the state after the tick
     pub refused-as-none : drops m ≡ false → after h (record { access = x; sample = s }) ≡ after h (record { access = Access.Nothing; sample = s })
-    unfolding after
+    unfolding hears after
     refused-as-none d =
-        ap₂ (λ (g : Handler) (fx : Effects). stepped g (s .alerts) fx) (refused-keeps h x m e d ∙ sym acted-nothing)
+        ap₂ (λ (g : Handler) (fx : Effects). stepsOn g s fx) (refused-keeps h x m e d ∙ sym acted-nothing)
         (effects-refused h x m e ∙ ap (λ (a : ℕ). record { clears = 0; raises = a }) (raises-none m d) ∙ sym effects-nothing)
 
     -- and its outputs
@@ -243,10 +248,10 @@ module _ (h : Handler) where
 pub locked-after : (h : Handler) (x : Access) (s : Sample) → verdict h x ≡ Verdict.Refused Refusal.Locked
     → after h (record { access = x; sample = s })
     ≡ after (withStages (dropped (named h x) (h .stages)) h) (record { access = Access.Nothing; sample = s })
-unfolding after
+unfolding hears after
 locked-after h x s e =
     let g : Handler = withStages (dropped (named h x) (h .stages)) h in
-    ap₂ (λ (k : Handler) (fx : Effects). stepped k (s .alerts) fx) (acted-refused h x Refusal.Locked e ∙ sym (acted-nothing g))
+    ap₂ (λ (k : Handler) (fx : Effects). stepsOn k s fx) (acted-refused h x Refusal.Locked e ∙ sym (acted-nothing g))
     (effects-refused h x Refusal.Locked e ∙ sym (effects-nothing g))
 
 -- ── the numbers that come back ──

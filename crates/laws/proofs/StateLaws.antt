@@ -1,24 +1,20 @@
 -- What the state holds by index after a store and after the samples.
 -- Assumes nothing.
-use Prim.Native.Nat.{ℕ, _+_, _*_, _/_, _%_, _<_}
+use Prim.Native.Nat.{ℕ, _<_}
 use mathlib.Core.Path.{_≡_, refl, ap, _∙_}
 use mathlib.Core.Bool.{Bool, true, false, cond, _&&_}
 use mathlib.Core.List.{List}
-use native.Mathlib.Omega.{arith}
 use borrow.Author.Tests.{eqb-true}
 use lib.Dec.{eqb}
 use lib.ListN.{getD}
-use Rattle.bits.proofs.BitLaws.{place-word64}
 use Rattle.bits.proofs.IndexLaws.{at-each}
-use Rattle.bits.specs.Bits.{place, wordOf}
 use Rattle.rules.specs.Access.{store, fieldStored}
-use Rattle.rules.specs.Samples.{sampled, alertEvent, occurs, rearmed, marked}
-use Rattle.rules.specs.State.{most, words, localCount, fieldIndex, local, alert, armed, localColumn, alertColumn, put}
-use Rattle.rules.specs.declared.Effects.{Effects}
+use Rattle.rules.specs.Samples.{sampled, alertEvent, occurs, marked}
+use Rattle.rules.specs.State.{most, localCount, fieldIndex, local, alert, localColumn, alertColumn, put}
 use Rattle.rules.specs.declared.Field.{Field}
 use Rattle.rules.specs.declared.Handler.{Handler}
+use Rattle.rules.specs.declared.Heard.{Heard}
 use Rattle.rules.specs.declared.Register.the-variants.{Local, Alert}
-use Rattle.rules.specs.declared.Wires.{Wires}
 use Rattle.laws.specs.Columns.{sameField}
 use Rattle.laws.proofs.ColumnLaws.{at-put, field-eq, local-column, alert-column}
 
@@ -53,29 +49,19 @@ module _ (h : Handler) (f : Field) (i v : ℕ) (g : Field) (j : ℕ) where
 
 -- ── the samples: CAUSE is set where there is an event, and all else is as it was ──
 
-module _ (g : Handler) (w : Wires) (fx : Effects) where
+module _ (g : Handler) (v : Heard) where
   -- register f of alert i
-  pub alert-sampled : (f : Field) (i : ℕ) → i < most → alert (sampled g w fx) f i ≡ marked (sameField Field.Cause f && alertEvent g w i) (alert g f i)
+  pub alert-sampled : (f : Field) (i : ℕ) → i < most → alert (sampled g v) f i ≡ marked (sameField Field.Cause f && alertEvent g v i) (alert g f i)
   unfolding sampled
   alert-sampled Field.Regwen i l = refl
   alert-sampled Field.En i l = refl
   alert-sampled Field.Class i l = refl
-  alert-sampled Field.Cause i l = at-each most (λ j. marked (alertEvent g w j) (alert g Field.Cause j)) i 0 l
+  alert-sampled Field.Cause i l = at-each most (λ j. marked (alertEvent g v j) (alert g Field.Cause j)) i 0 l
 
   -- register f of local alert i
-  pub local-sampled : (f : Field) (i : ℕ) → i < localCount → local (sampled g w fx) f i ≡ marked (sameField Field.Cause f && occurs g w fx i) (local g f i)
+  pub local-sampled : (f : Field) (i : ℕ) → i < localCount → local (sampled g v) f i ≡ marked (sameField Field.Cause f && occurs g v i) (local g f i)
   unfolding sampled
   local-sampled Field.Regwen i l = refl
   local-sampled Field.En i l = refl
   local-sampled Field.Class i l = refl
-  local-sampled Field.Cause i l = at-each localCount (λ j. marked (occurs g w fx j) (local g Field.Cause j)) i 0 l
-
-  -- the receiver of alert i, of those that have a bit
-  pub armed-sampled : (i : ℕ) → i < 64 * words → armed (sampled g w fx) i ≡ rearmed g w i
-  unfolding sampled
-  armed-sampled i l =
-      let d : i / 64 < words = omega arith in
-      let m : i % 64 < 64 = omega arith in
-      let e : i / 64 * 64 + i % 64 ≡ i = omega arith in
-      ap (λ (x : ℕ). place x (i % 64)) (at-each words (λ v. wordOf 64 (λ b. rearmed g w (v * 64 + b))) (i / 64) 0 d)
-      ∙ place-word64 (λ b. rearmed g w (i / 64 * 64 + b)) (i % 64) m ∙ ap (rearmed g w) e
+  local-sampled Field.Cause i l = at-each localCount (λ j. marked (occurs g v j) (local g Field.Cause j)) i 0 l

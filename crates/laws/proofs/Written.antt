@@ -11,7 +11,7 @@ use Rattle.bits.proofs.IndexLaws.{and-true}
 use Rattle.bits.specs.Bits.{fits}
 use Rattle.class_rules.specs.Class.{noClass}
 use Rattle.class_rules.specs.declared.Class.{Class}
-use Rattle.rules.specs.Access.{value, locked, silly, bars, verdict, accepts, accepted, isFirst, unlike, inOrder, accessedBy, accessed, acted, answerTo, effects}
+use Rattle.rules.specs.Access.{value, locked, silly, bars, verdict, accepts, accepted, isFirst, unlike, inOrder, accessedBy, accessed, acted, answerTo}
 use Rattle.rules.specs.Answer.{firstOf}
 use Rattle.rules.specs.Map.{decode, numberOf, isRegister, bits, readOnly, guard, isShadowed}
 use Rattle.rules.specs.Stages.{stage}
@@ -34,10 +34,10 @@ use Rattle.laws.specs.InMap.{inMap}
 use Rattle.laws.specs.RegisterFile.{target, newValue, stores, plain}
 use Rattle.laws.specs.StageFile.{stageBy}
 use Rattle.laws.proofs.Cases.{by-kind, by-field, by-setting}
-use Rattle.laws.proofs.Frame.{stepped-frame, after-stage}
+use Rattle.laws.proofs.Frame.{after-still, after-stage}
 use Rattle.laws.proofs.KeepsValid.{made-valid}
 use Rattle.laws.proofs.Refusal7.{ticked-good}
-use Rattle.laws.proofs.RegisterFile.{accepted-in-map, stores-accepted, acted-target, acted-n, plain-takes}
+use Rattle.laws.proofs.RegisterFile.{accepted-in-map, stores-accepted, acted-target, plain-takes}
 use Rattle.laws.proofs.StageFile.{in-most, acted-stage}
 
 -- ── the tick that writes v at number r ──
@@ -53,13 +53,12 @@ module _ (h : Handler) (s : Sample) (r v : ℕ) (q : Register) (m : h .n ≤ mos
 
   -- a register that reads as what is written and does not move by itself holds v, where the write commits
   pub after-written : stores h r v ≡ true → plain q ≡ true → movesItself q ≡ false → value written q ≡ v
-  unfolding after
   after-written e f t =
       let p = plain-takes q f in
       let a : inMap (h .n) q ≡ true = ap (inMap (h .n)) (sym d) ∙ accepted-in-map h r v (stores-accepted h r v e) in
       let w : value (acted h (Write r v)) (target q) ≡ newValue q (value h (target q)) v =
       subst (λ (p : Register). value (acted h (Write r v)) (target p) ≡ newValue p (value h (target p)) v) d (acted-target h r v m e) in
-      stepped-frame (acted h (Write r v)) (s .alerts) (effects h (Write r v)) q (ap (λ (n : ℕ). inMap n q) (acted-n h (Write r v)) ∙ a) t
+      after-still h (record { access = Write r v; sample = s }) q a t
       ∙ ap (value (acted h (Write r v))) (sym (p .0)) ∙ w ∙ p .1 (value h (target q)) v
 
   -- a first write is staged, and any other that is accepted leaves no stage

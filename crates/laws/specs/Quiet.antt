@@ -3,8 +3,11 @@
 use Prim.Native.Nat.{ℕ, _<_}
 use mathlib.Core.Path.{_≡_}
 use mathlib.Core.Bool.{Bool, true, false}
+use Rattle.bits.specs.Bits.{bit}
+use Rattle.bits.specs.Index.{placeIn}
 use Rattle.rules.specs.Samples.{positive, negative}
-use Rattle.rules.specs.State.{most}
+use Rattle.rules.specs.State.{most, localCount}
+use Rattle.rules.specs.declared.Heard.{Heard}
 use Rattle.rules.specs.declared.Register.{Register}
 use Rattle.rules.specs.declared.Register.the-variants.{IntrState, IntrEnable, IntrTest, Local, Alert, Block, Unassigned}
 use Rattle.rules.specs.declared.Setting.{Setting}
@@ -14,6 +17,11 @@ use Rattle.rules.specs.declared.Wires.{Wires}
 pub record AtRest (w : Wires) : Type 0 where
   pub low : (i : ℕ) → i < most → positive w i ≡ false
   pub high : (i : ℕ) → i < most → negative w i ≡ true
+
+-- no alert has an event and no local alert is raised
+pub record Silent (v : Heard) : Type 0 where
+  pub events : (i : ℕ) → i < most → placeIn (v .events) i ≡ false
+  pub raises : (j : ℕ) → j < localCount → bit (v .raises) j ≡ false
 
 -- STATE, ESC_CNT and CLR_REGWEN: a class in Timeout or a phase moves without an event
 abbrev pub settingRuns : Setting → Bool

@@ -9,7 +9,7 @@ use lib.ListN.{set, replicate}
 use Rattle.rules.proofs.Scenes.{rules}
 use Rattle.rules.specs.Access.{value}
 use Rattle.rules.specs.Stages.{stage}
-use Rattle.rules.specs.State.{newHandler, withAlerts, withInterrupts, withLocals, withReceivers, withStages, armed}
+use Rattle.rules.specs.State.{newHandler, withAlerts, withInterrupts, withLocals, withLinks, withStages, armed}
 use Rattle.rules.specs.declared.Field.{Field}
 use Rattle.rules.specs.declared.Handler.{Handler}
 use Rattle.rules.specs.declared.Register.{Register}
@@ -54,7 +54,7 @@ staged regwen code =
       alerts = record { en = replicate 248 0; class = set (replicate 248 0) 0 code };
       locals = newHandler 58 .stages .locals;
     })
-    (withReceivers (record { armed = replicate 4 0 })
+    (withLinks (record { receivers = record { armed = replicate 4 0 } })
     (withLocals (record { regwen = replicate 7 1; en = set (replicate 7 0) 5 1; class = replicate 7 0; cause = replicate 7 0 })
     (withAlerts (record { regwen = set (replicate 248 1) 0 regwen; en = replicate 248 0; class = replicate 248 0; cause = replicate 248 0 }) (newHandler 58))))
 

@@ -87,8 +87,8 @@ arms i = let h = risen i in map (armed h) ((i - 1) ∷ i ∷ suc i ∷ [])
 places : (map marks (63 ∷ 64 ∷ 127 ∷ 128 ∷ 191 ∷ 192 ∷ 247 ∷ []) ≡ replicate 7 (0 ∷ 1 ∷ 0 ∷ 4 ∷ []))
     × (map arms (63 ∷ 64 ∷ 127 ∷ 128 ∷ 191 ∷ 192 ∷ 247 ∷ []) ≡ replicate 7 (true ∷ false ∷ true ∷ []))
     × (alert (after every (wired (ones - wire 247) (wire 247) none)) Field.Cause 247 ≡ 0)
-    × (risen 247 .receivers .armed ≡ most64 ∷ most64 ∷ most64 ∷ (most64 - 2 ^ 8) ∷ [])
-    × (risen 64 .receivers .armed ≡ most64 ∷ (most64 - 2 ^ 63) ∷ most64 ∷ most64 ∷ [])
+    × (risen 247 .links .receivers .armed ≡ most64 ∷ most64 ∷ most64 ∷ (most64 - 2 ^ 8) ∷ [])
+    × (risen 64 .links .receivers .armed ≡ most64 ∷ (most64 - 2 ^ 63) ∷ most64 ∷ most64 ∷ [])
 unfolding rules
 places = (refl, refl, refl, refl, refl)
 
@@ -101,11 +101,11 @@ locals2 k h =
 abbrev two : Handler
 two = locals2 0 (station 2 (replicate 248 1) (replicate 248 0) 0 (settings 5 0 0 zeros))
 
-above : (run two (wired ones 0 none ∷ []) .receivers .armed ≡ (most64 - 2 ^ 63 - 2 ^ 62) ∷ most64 ∷ most64 ∷ most64 ∷ [])
+above : (run two (wired ones 0 none ∷ []) .links .receivers .armed ≡ (most64 - 2 ^ 63 - 2 ^ 62) ∷ most64 ∷ most64 ∷ most64 ∷ [])
     × (run two (wired (wire 2) (ones - wire 2) none ∷ []) ≡ run two (rest none ∷ []))
     × (run two (wired (ones - wire 0 - wire 1) ones none ∷ []) ≡ run two (rest none ∷ []))
-    × (newHandler 0 .receivers .armed ≡ replicate 4 most64)
-    × (newHandler 248 .receivers .armed ≡ replicate 4 most64)
+    × (newHandler 0 .links .receivers .armed ≡ replicate 4 most64)
+    × (newHandler 248 .links .receivers .armed ≡ replicate 4 most64)
 unfolding rules
 above = (refl, refl, refl, refl, refl)
 

@@ -124,7 +124,7 @@ abbrev full : ℕ → Handler
 full regwen =
     record {
       n = 5;
-      receivers = record { armed = replicate 4 0 };
+      links = record { receivers = record { armed = replicate 4 0 } };
       classes = replicate 4 (fullClass regwen);
       alerts = record { regwen = replicate 248 regwen; en = replicate 248 1; class = replicate 248 3; cause = replicate 248 1 };
       locals = record { regwen = replicate 7 regwen; en = replicate 7 1; class = replicate 7 3; cause = replicate 7 1 };

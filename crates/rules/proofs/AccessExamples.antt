@@ -6,7 +6,7 @@ use mathlib.Core.Bool.{true, false}
 use mathlib.Core.List.{List, [], _∷_, _++_, map}
 use lib.IntN.{ℤ, pos}
 use Rattle.rules.specs.Access.{acted, clears, accessed}
-use Rattle.rules.specs.Samples.{sampled}
+use Rattle.rules.specs.Samples.{heard, sampled}
 use Rattle.rules.specs.State.{newHandler, withInterrupts}
 use Rattle.rules.specs.declared.Access.{Access}
 use Rattle.rules.specs.declared.Field.{Field}
@@ -79,7 +79,7 @@ intr = (refl, refl, refl, refl, refl)
 
 -- "In CAUSE a written 1 clears": a 0 leaves it
 abbrev caused : Handler
-caused = sampled (ready 9) (raise 0 Access.Nothing .sample .alerts) (record { clears = 0; raises = 0 })
+caused = sampled (ready 9) (heard (ready 9) (raise 0 Access.Nothing .sample) (record { clears = 0; raises = 0 }))
 
 cause : (reads caused 1024 ≡ pos 1) × (reads (acted caused (Access.Write 1024 0)) 1024 ≡ pos 1) × (reads (acted caused (Access.Write 1024 1)) 1024 ≡ pos 0)
 unfolding rules

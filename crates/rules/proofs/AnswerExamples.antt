@@ -54,7 +54,7 @@ no-alerts = refl
 new : newHandler 1
     ≡ record {
       n = 1;
-      receivers = record { armed = replicate 4 18446744073709551615 };
+      links = record { receivers = record { armed = replicate 4 18446744073709551615 } };
       classes =
           replicate 4
           (record {

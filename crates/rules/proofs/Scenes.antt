@@ -17,8 +17,8 @@ use Rattle.rules.specs.Stages.{stageIn, withStage, dropped}
 use Rattle.rules.specs.Scenes.{rest, raise, none}
 use Rattle.rules.specs.Valid.{classStagesFit, stagesFit, valid}
 use Rattle.rules.specs.Access.{value, locked, verdict, store, written, acted, answerTo, effects, clears, accessed}
-use Rattle.rules.specs.Samples.{alertEvent, alertBroken, rearmed, raised, occurs, sampled, assigned}
-use Rattle.rules.specs.Tick.{event, interruptNow, signals, stepped, interrupts, lines, outputOf, after, tick, ticked}
+use Rattle.rules.specs.Samples.{happened, alertBroken, rearmed, raised, heard, alertEvent, occurs, sampled, assigned}
+use Rattle.rules.specs.Tick.{event, interruptNow, signals, stepped, interrupts, lines, outputOf, hears, after, tick, ticked}
 use Rattle.rules.specs.Run.{run, ticks}
 use Rattle.rules.specs.Edition.{carried24}
 use Rattle.rules.specs.Record.{accessOf, heldIn, inputOf, recordOf, recordable, inputsOf}
@@ -31,7 +31,7 @@ use Rattle.rules.specs.declared.Handler.{Handler}
 
 -- names every definition that an example computes with: `unfolding rules` opens them all
 unfoldable pub rules : ℕ → ℕ
-unfolding bit bitsOf wordOf eachFrom anyTo allTo pack unpack stateOf drives classFits counted startsFrom movedFrom classStep number firstOf put newHandler made blockAt decode numberOf carried24 bits writeOnly readOnly guard isLock isShadowed stageIn withStage dropped classStagesFit stagesFit valid value locked verdict store written acted answerTo effects clears accessed alertEvent alertBroken rearmed raised occurs sampled assigned event interruptNow signals stepped interrupts lines outputOf after tick ticked run ticks accessOf heldIn inputOf Word.wordOf recordOf recordable inputsOf admits batchVerdict batchOf batch recordsOf anyUnrecordable writeVerdict writeOf Writer.write
+unfolding bit bitsOf wordOf eachFrom anyTo allTo pack unpack stateOf drives classFits counted startsFrom movedFrom classStep number firstOf put newHandler made blockAt decode numberOf carried24 bits writeOnly readOnly guard isLock isShadowed stageIn withStage dropped classStagesFit stagesFit valid value locked verdict store written acted answerTo effects clears accessed happened alertBroken rearmed raised heard alertEvent occurs sampled assigned event interruptNow signals stepped interrupts lines outputOf hears after tick ticked run ticks accessOf heldIn inputOf Word.wordOf recordOf recordable inputsOf admits batchVerdict batchOf batch recordsOf anyUnrecordable writeVerdict writeOf Writer.write
 rules n = n
 
 -- the state after these accesses, and the number that an access or a read answers

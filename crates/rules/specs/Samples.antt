@@ -1,14 +1,16 @@
 -- "One tick", step 2: the samples, of the handler g after step 1, the wires w and the effects e of step 1.
 -- Assumes nothing.
-use Prim.Native.Nat.{ℕ, _+_, _*_}
+use Prim.Native.Nat.{ℕ}
 use mathlib.Core.Bool.{Bool, true, false, cond, not, _&&_, _||_}
 use lib.Dec.{eqb, ltb}
-use Rattle.bits.specs.Bits.{bit, wordOf}
-use Rattle.bits.specs.Index.{each, anyTo, placeIn}
-use Rattle.rules.specs.State.{most, words, localCount, local, alert, armed, withLocals, withAlerts, withReceivers, withLocalColumn, withAlertColumn}
+use Rattle.bits.specs.Bits.{bit, bitsOf}
+use Rattle.bits.specs.Index.{each, anyTo, placeIn, wordsBy}
+use Rattle.rules.specs.State.{most, words, localCount, local, alert, armed, withLocals, withAlerts, withLocalColumn, withAlertColumn}
 use Rattle.rules.specs.declared.Effects.{Effects}
 use Rattle.rules.specs.declared.Field.{Field}
 use Rattle.rules.specs.declared.Handler.{Handler}
+use Rattle.rules.specs.declared.Heard.{Heard}
+use Rattle.rules.specs.declared.Sample.{Sample}
 use Rattle.rules.specs.declared.Wires.{Wires}
 
 -- ── one alert: its wire pair and its receiver ──
@@ -41,9 +43,9 @@ negative w i = placeIn (w .neg) i
 abbrev pub alertEnabled : Handler → ℕ → Bool
 alertEnabled g i = eqb (alert g Field.En i) 1
 
--- an enabled alert's event
-unfoldable pub alertEvent : Handler → Wires → ℕ → Bool
-alertEvent g w i = ltb i (g .n) && (happens (armed g i) (positive w i) (negative w i) && alertEnabled g i)
+-- the alert has an event, enabled or not
+unfoldable pub happened : Handler → Wires → ℕ → Bool
+happened g w i = ltb i (g .n) && happens (armed g i) (positive w i) (negative w i)
 
 -- an enabled alert has equal wires
 unfoldable pub alertBroken : Handler → Wires → ℕ → Bool
@@ -58,24 +60,37 @@ rearmed g w i = cond (ltb i (g .n)) (armedAfter (armed g i) (positive w i) (nega
 unfoldable pub raised : Handler → Wires → Effects → ℕ → Bool
 raised g w e j = (eqb j 2 && anyTo (alertBroken g w) (g .n)) || bit (e .raises) j
 
--- a disabled local alert never occurs
-unfoldable pub occurs : Handler → Wires → Effects → ℕ → Bool
-occurs g w e j = raised g w e j && eqb (local g Field.En j) 1
+-- ── what step 2 hears: nothing below reads a wire or a receiver ──
 
--- ── the state after step 2, and what is assigned to a class ──
+unfoldable pub heard : Handler → Sample → Effects → Heard
+heard g s e =
+    record {
+      receivers = record { armed = wordsBy words (rearmed g (s .alerts)) };
+      events = wordsBy words (happened g (s .alerts));
+      raises = bitsOf localCount (raised g (s .alerts) e);
+    }
+
+-- an enabled alert's event
+unfoldable pub alertEvent : Handler → Heard → ℕ → Bool
+alertEvent g v i = ltb i (g .n) && (placeIn (v .events) i && alertEnabled g i)
+
+-- a disabled local alert never occurs
+unfoldable pub occurs : Handler → Heard → ℕ → Bool
+occurs g v j = bit (v .raises) j && eqb (local g Field.En j) 1
+
+-- ── the registers after step 2, and what is assigned to a class ──
 
 -- an event sets its cause
 abbrev pub marked : Bool → ℕ → ℕ
 marked on cause = cond on 1 cause
 
-unfoldable pub sampled : Handler → Wires → Effects → Handler
-sampled g w e =
-    withReceivers (record { armed = each words (λ v. wordOf 64 (λ b. rearmed g w (v * 64 + b))) })
-    (withAlerts (withAlertColumn Field.Cause (each most (λ i. marked (alertEvent g w i) (alert g Field.Cause i))) (g .alerts))
-    (withLocals (withLocalColumn Field.Cause (each localCount (λ j. marked (occurs g w e j) (local g Field.Cause j))) (g .locals)) g))
+unfoldable pub sampled : Handler → Heard → Handler
+sampled g v =
+    withAlerts (withAlertColumn Field.Cause (each most (λ i. marked (alertEvent g v i) (alert g Field.Cause i))) (g .alerts))
+    (withLocals (withLocalColumn Field.Cause (each localCount (λ j. marked (occurs g v j) (local g Field.Cause j))) (g .locals)) g)
 
 -- an enabled alert's event or an occurring local alert is assigned to class k
-unfoldable pub assigned : Handler → Wires → Effects → ℕ → Bool
-assigned g w e k =
-    anyTo (λ i. alertEvent g w i && eqb (alert g Field.Class i) k) (g .n)
-    || anyTo (λ j. occurs g w e j && eqb (local g Field.Class j) k) localCount
+unfoldable pub assigned : Handler → Heard → ℕ → Bool
+assigned g v k =
+    anyTo (λ i. alertEvent g v i && eqb (alert g Field.Class i) k) (g .n)
+    || anyTo (λ j. occurs g v j && eqb (local g Field.Class j) k) localCount

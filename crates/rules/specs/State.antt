@@ -16,7 +16,7 @@ use Rattle.rules.specs.declared.Handler.{Handler}
 use Rattle.rules.specs.declared.Interrupts.{Interrupts}
 use Rattle.rules.specs.declared.Locals.{Locals}
 use Rattle.rules.specs.declared.Made.{Made}
-use Rattle.rules.specs.declared.Receivers.{Receivers}
+use Rattle.rules.specs.declared.Links.{Links}
 use Rattle.rules.specs.declared.Refusal.the-variants.{BadCount}
 use Rattle.rules.specs.declared.Stages.{Stages}
 
@@ -69,33 +69,33 @@ classAt h k = getD (h .classes) k noClass
 
 -- alert i is re-armed
 abbrev pub armed : Handler → ℕ → Bool
-armed h i = placeIn (h .receivers .armed) i
+armed h i = placeIn (h .links .receivers .armed) i
 
 -- ── the state with a part of it anew ──
 
 abbrev pub withInterrupts : Interrupts → Handler → Handler
 withInterrupts x h =
-    record { n = h .n; receivers = h .receivers; classes = h .classes; alerts = h .alerts; locals = h .locals; interrupts = x; stages = h .stages }
+    record { n = h .n; links = h .links; classes = h .classes; alerts = h .alerts; locals = h .locals; interrupts = x; stages = h .stages }
 
 abbrev pub withLocals : Locals → Handler → Handler
 withLocals x h =
-    record { n = h .n; receivers = h .receivers; classes = h .classes; alerts = h .alerts; locals = x; interrupts = h .interrupts; stages = h .stages }
+    record { n = h .n; links = h .links; classes = h .classes; alerts = h .alerts; locals = x; interrupts = h .interrupts; stages = h .stages }
 
 abbrev pub withAlerts : Alerts → Handler → Handler
 withAlerts x h =
-    record { n = h .n; receivers = h .receivers; classes = h .classes; alerts = x; locals = h .locals; interrupts = h .interrupts; stages = h .stages }
+    record { n = h .n; links = h .links; classes = h .classes; alerts = x; locals = h .locals; interrupts = h .interrupts; stages = h .stages }
 
-abbrev pub withReceivers : Receivers → Handler → Handler
-withReceivers x h =
-    record { n = h .n; receivers = x; classes = h .classes; alerts = h .alerts; locals = h .locals; interrupts = h .interrupts; stages = h .stages }
+abbrev pub withLinks : Links → Handler → Handler
+withLinks x h =
+    record { n = h .n; links = x; classes = h .classes; alerts = h .alerts; locals = h .locals; interrupts = h .interrupts; stages = h .stages }
 
 abbrev pub withClasses : List Class → Handler → Handler
 withClasses x h =
-    record { n = h .n; receivers = h .receivers; classes = x; alerts = h .alerts; locals = h .locals; interrupts = h .interrupts; stages = h .stages }
+    record { n = h .n; links = h .links; classes = x; alerts = h .alerts; locals = h .locals; interrupts = h .interrupts; stages = h .stages }
 
 abbrev pub withStages : Stages → Handler → Handler
 withStages x h =
-    record { n = h .n; receivers = h .receivers; classes = h .classes; alerts = h .alerts; locals = h .locals; interrupts = h .interrupts; stages = x }
+    record { n = h .n; links = h .links; classes = h .classes; alerts = h .alerts; locals = h .locals; interrupts = h .interrupts; stages = x }
 
 abbrev pub withLocalColumn : Field → List ℕ → Locals → Locals
 withLocalColumn f x l =
@@ -148,7 +148,7 @@ unfoldable pub newHandler : ℕ → Handler
 newHandler n =
     record {
       n = n;
-      receivers = record { armed = replicate words (2 ^ 64 - 1) };
+      links = record { receivers = record { armed = replicate words (2 ^ 64 - 1) } };
       classes = replicate classCount resetClass;
       alerts = record { regwen = replicate most 1; en = replicate most 0; class = replicate most 0; cause = replicate most 0 };
       locals =

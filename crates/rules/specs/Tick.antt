@@ -3,42 +3,47 @@
 use Prim.Native.Nat.{ℕ}
 use mathlib.Core.Bool.{Bool, cond, _&&_, _||_}
 use Rattle.bits.specs.Bits.{bit, bitsOf}
-use Rattle.bits.specs.Index.{each, anyTo}
+use Rattle.bits.specs.Index.{each, anyTo, placeIn}
 use Rattle.class_rules.specs.Class.{drives}
 use Rattle.class_rules.specs.Step.{classEvent, classStep}
 use Rattle.class_rules.specs.declared.Signals.{Signals}
 use Rattle.rules.specs.Access.{acted, answerTo, effects}
-use Rattle.rules.specs.Samples.{assigned, sampled}
-use Rattle.rules.specs.State.{classCount, classAt, withInterrupts, withClasses}
+use Rattle.rules.specs.Samples.{heard, assigned, sampled}
+use Rattle.rules.specs.State.{classCount, classAt, withInterrupts, withClasses, withLinks}
 use Rattle.rules.specs.Valid.{valid}
 use Rattle.rules.specs.declared.Answer.{Answer}
 use Rattle.rules.specs.declared.Effects.{Effects}
 use Rattle.rules.specs.declared.Handler.{Handler}
+use Rattle.rules.specs.declared.Heard.{Heard}
 use Rattle.rules.specs.declared.Input.{Input}
+use Rattle.rules.specs.declared.Links.{Links}
 use Rattle.rules.specs.declared.Output.{Output}
 use Rattle.rules.specs.declared.Refusal.the-variants.{BadState}
 use Rattle.rules.specs.declared.Ticked.{Ticked}
-use Rattle.rules.specs.declared.Wires.{Wires}
 
--- ── steps 3 and 4, of the handler g after step 1, the wires w and the effects of step 1 ──
+-- ── steps 3 and 4, of the handler g after step 1, what step 2 hears and the effects of step 1 ──
 
 -- class k has an event
-unfoldable pub event : Handler → Wires → Effects → ℕ → Bool
-event g w e k = classEvent (assigned g w e k) (classAt g k)
+unfoldable pub event : Handler → Heard → ℕ → Bool
+event g v k = classEvent (assigned g v k) (classAt g k)
 
 -- it sets the interrupt bit, after any clearing in step 1
-unfoldable pub interruptNow : Handler → Wires → Effects → ℕ → Bool
-interruptNow g w e k = bit (g .interrupts .state) k || event g w e k
+unfoldable pub interruptNow : Handler → Heard → ℕ → Bool
+interruptNow g v k = bit (g .interrupts .state) k || event g v k
 
 -- what class k meets
-unfoldable pub signals : Handler → Wires → Effects → ℕ → Signals
-signals g w e k = record { event = event g w e k; interrupt = interruptNow g w e k; clear = bit (e .clears) k }
+unfoldable pub signals : Handler → Heard → Effects → ℕ → Signals
+signals g v e k = record { event = event g v k; interrupt = interruptNow g v k; clear = bit (e .clears) k }
 
--- the state after steps 2 to 4
-unfoldable pub stepped : Handler → Wires → Effects → Handler
-stepped g w e =
-    withClasses (each classCount (λ k. classStep (signals g w e k) (classAt g k)))
-    (withInterrupts (record { state = bitsOf 4 (interruptNow g w e); enable = g .interrupts .enable }) (sampled g w e))
+-- the registers after steps 2 to 4: the links are those of g
+unfoldable pub stepped : Handler → Heard → Effects → Handler
+stepped g v e =
+    withClasses (each classCount (λ k. classStep (signals g v e k) (classAt g k)))
+    (withInterrupts (record { state = bitsOf 4 (interruptNow g v); enable = g .interrupts .enable }) (sampled g v))
+
+-- the links after the tick
+abbrev pub linksAfter : Heard → Links
+linksAfter v = record { receivers = v .receivers }
 
 -- ── step 5: outputs from the state now reached ──
 
@@ -59,9 +64,24 @@ noOutput = record { interrupts = 0; lines = 0 }
 
 -- ── the tick ──
 
--- the state after steps 1 to 4
+-- what its step 2 hears
+unfoldable pub hears : Handler → Input → Heard
+hears h x = heard (acted h (x .access)) (x .sample) (effects h (x .access))
+
+-- alert i has an event in it, enabled or not
+abbrev pub happensIn : Handler → Input → ℕ → Bool
+happensIn h x i = placeIn (hears h x .events) i
+
+-- class k has an event in it, and what the class meets
+abbrev pub eventIn : Handler → Input → ℕ → Bool
+eventIn h x k = event (acted h (x .access)) (hears h x) k
+
+abbrev pub signalsIn : Handler → Input → ℕ → Signals
+signalsIn h x k = signals (acted h (x .access)) (hears h x) (effects h (x .access)) k
+
+-- the state after steps 1 to 4: the links are written last, since no step reads what they become
 unfoldable pub after : Handler → Input → Handler
-after h x = stepped (acted h (x .access)) (x .sample .alerts) (effects h (x .access))
+after h x = withLinks (linksAfter (hears h x)) (stepped (acted h (x .access)) (hears h x) (effects h (x .access)))
 
 -- steps 1 to 5
 unfoldable pub tick : Handler → Input → Ticked

@@ -37,6 +37,12 @@ pub struct Receivers {
     pub armed: [u64; WORDS],
 }
 
+// What stands between the wires and the registers. Steps 3 to 5 do not look at it, and a tick writes it last.
+#[repr(C)]
+pub struct Links {
+    pub receivers: Receivers,
+}
+
 // Stages, request (v): what the first of two equal writes left at a shadowed register. A stage's code is 0 for none, and the staged
 // value plus 1.
 #[repr(C)]
@@ -69,7 +75,7 @@ pub struct Stages {
 #[repr(C)]
 pub struct Handler {
     pub n: usize,
-    pub receivers: Receivers,
+    pub links: Links,
     pub classes: [Class; 4],
     pub alerts: Alerts,
     pub locals: Locals,
@@ -221,6 +227,14 @@ pub struct Effects {
     // the classes with an accepted clear, class 0 at the lowest bit
     pub clears: u8,
     // the local alerts that it raises, local 0 at the lowest bit
+    pub raises: u8,
+}
+
+// What step 2 hears in a tick: the receivers after it, the alerts with an event, alert i at bit 63 - i % 64 of word i / 64, and the local
+// alerts that are raised, local 0 at the lowest bit. Which of them are enabled is not looked at.
+pub struct Heard {
+    pub receivers: Receivers,
+    pub events: [u64; WORDS],
     pub raises: u8,
 }
 

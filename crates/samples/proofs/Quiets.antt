@@ -1,26 +1,30 @@
 -- Step 2 where no alert has an event or equal wires and step 1 raises nothing: arming moves, and nothing else.
 -- Assumes nothing.
 use Prim.Native.Nat.{ℕ, zero, suc, _/_, _%_, _-_, _≤_, _<_}
-use mathlib.Core.Path.{_≡_, refl, sym, ap, ap₂, _∙_}
+use mathlib.Core.Path.{_≡_, refl, sym, ap, _∙_}
 use mathlib.Core.Bool.{Bool, true, false, true≢false, _&&_, _||_}
 use mathlib.Core.List.{List}
 use native.Mathlib.Omega.{arith}
 use borrow.Author.Tests.{eqb-true}
 use lib.Dec.{eqb, ltb}
 use lib.ListN.{getD, length}
-use Rattle.bits.specs.Bits.{bit, bitsOf, place}
-use Rattle.bits.specs.Index.{each, placeIn}
+use Rattle.bits.specs.Bits.{place}
+use Rattle.bits.specs.Index.{each, placeIn, wordsBy}
 use Rattle.bits.proofs.BitLaws.{bit-none, is-bitsOf}
-use Rattle.bits.proofs.IndexLaws.{and-true, any-none, is-each}
+use Rattle.bits.proofs.IndexLaws.{and-true, is-each}
 use Rattle.bits.proofs.WordLaws.{placeIn-each}
-use Rattle.rules.specs.State.{most, words, localCount, local, alert, armed, withLocals, withAlerts, withReceivers, withLocalColumn, withAlertColumn}
-use Rattle.rules.specs.Samples.{happens, equal, positive, negative, alertEnabled, alertEvent, alertBroken, rearmed, raised, occurs, marked, sampled, assigned}
+use Rattle.rules.specs.State.{most, words, localCount, local, alert, armed, withLocals, withAlerts, withLinks, withLocalColumn, withAlertColumn}
+use Rattle.rules.specs.Samples.{equal, positive, negative, alertEnabled, happened, alertBroken, rearmed, heard, alertEvent, occurs, marked, sampled, assigned}
 use Rattle.rules.specs.declared.Effects.{Effects}
 use Rattle.rules.specs.declared.Field.{Field}
 use Rattle.rules.specs.declared.Handler.{Handler}
+use Rattle.rules.specs.declared.Heard.{Heard}
+use Rattle.rules.specs.declared.Sample.{Sample}
 use Rattle.rules.specs.declared.Wires.{Wires}
+use Rattle.laws.specs.Quiet.{Silent}
+use Rattle.laws.proofs.Quiet.{silent-by, no-event, none-occurs, none-assigned}
 use Rattle.samples.specs.Rearmed.{noneSet, RearmedBy}
-use Rattle.samples.specs.Received.{ReceivedAll, wordsBy, happensAt, equalAt}
+use Rattle.samples.specs.Received.{ReceivedAll, happensAt, equalAt}
 use Rattle.samples.specs.Sampled.{SampledBy}
 use Rattle.samples.specs.declared.rearm.Rearmed.{Rearmed}
 use Rattle.samples.specs.declared.receive.Received.{Received}
@@ -43,7 +47,7 @@ module _ (ws : List ℕ) (e : noneSet ws ≡ true) where
       ap (λ (x : ℕ). place x (i % 64)) (word-none (i / 64) d) ∙ bit-none (63 - i % 64)
 
   -- a rule whose words they are holds of no alert
-  rule-none : (f : ℕ → Bool) → ws ≡ wordsBy f → (i : ℕ) → i < most → f i ≡ false
+  rule-none : (f : ℕ → Bool) → ws ≡ wordsBy words f → (i : ℕ) → i < most → f i ≡ false
   rule-none f z i l = sym (placeIn-each words f i (omega arith)) ∙ ap (λ (xs : List ℕ). placeIn xs i) (sym z) ∙ place-none i l
 
 -- what the wires tell is what arming alone promises
@@ -64,47 +68,36 @@ and-none true false c e = refl
 and-none true true c e = absurd (true≢false e)
 and-none false b c e = refl
 
-and-no : (b : Bool) → (b && false) ≡ false
-and-no true = refl
-and-no false = refl
+module _ (g : Handler) (x : Sample) (fx : Effects) (r : Rearmed) (small : g .n ≤ most) (z : fx .raises ≡ 0)
+    (s : RearmedBy (g .n) (g .links .receivers .armed) (x .alerts) r) (q : r .quiet ≡ true) where
+  abbrev v : Heard
+  v = heard g x fx
 
-module _ (g : Handler) (w : Wires) (fx : Effects) (r : Rearmed) (small : g .n ≤ most) (z : fx .raises ≡ 0)
-    (s : RearmedBy (g .n) (g .receivers .armed) w r) (q : r .quiet ≡ true) where
-  no-event : (i : ℕ) → i < most → alertEvent g w i ≡ false
-  unfolding alertEvent
-  no-event i l = and-none (ltb i (g .n)) (happens (armed g i) (positive w i) (negative w i)) (alertEnabled g i) (s .no-event q i l)
-
-  none-broken : (i : ℕ) → i < most → alertBroken g w i ≡ false
+  none-broken : (i : ℕ) → i < most → alertBroken g (x .alerts) i ≡ false
   unfolding alertBroken
-  none-broken i l = and-none (ltb i (g .n)) (equal (positive w i) (negative w i)) (alertEnabled g i) (s .none-equal q i l)
+  none-broken i l = and-none (ltb i (g .n)) (equal (positive (x .alerts) i) (negative (x .alerts) i)) (alertEnabled g i) (s .none-equal q i l)
 
-  none-occurs : (j : ℕ) → occurs g w fx j ≡ false
-  unfolding occurs raised
-  none-occurs j =
-      ap₂ (λ (b c : Bool). ((eqb j 2 && b) || c) && eqb (local g Field.En j) 1)
-      (any-none (alertBroken g w) (g .n) (λ i l. none-broken i (omega arith))) (ap (λ (x : ℕ). bit x j) z ∙ bit-none j)
-      ∙ ap (λ (b : Bool). (b || false) && eqb (local g Field.En j) 1) (and-no (eqb j 2))
-
-  none-assigned : (k : ℕ) → assigned g w fx k ≡ false
-  unfolding assigned
-  none-assigned k =
-      ap₂ _||_ (any-none _ (g .n) (λ i l. ap (λ (b : Bool). b && eqb (alert g Field.Class i) k) (no-event i (omega arith))))
-      (any-none _ localCount (λ j l. ap (λ (b : Bool). b && eqb (local g Field.Class j) k) (none-occurs j)))
+  -- step 2 hears nothing
+  silent : Silent v
+  unfolding happened
+  silent = silent-by g x fx small z (s .no-event q) none-broken
 
   -- no cause is set
-  alerts-same : length (g .alerts .cause) ≡ most → g .alerts .cause ≡ each most (λ i. marked (alertEvent g w i) (alert g Field.Cause i))
-  alerts-same m = is-each most (g .alerts .cause) _ 0 m (λ i l. sym (ap (λ (b : Bool). marked b (alert g Field.Cause i)) (no-event i l)))
+  alerts-same : length (g .alerts .cause) ≡ most → g .alerts .cause ≡ each most (λ i. marked (alertEvent g v i) (alert g Field.Cause i))
+  alerts-same m =
+      is-each most (g .alerts .cause) _ 0 m (λ i l. sym (ap (λ (b : Bool). marked b (alert g Field.Cause i)) (no-event g v small silent i l)))
 
-  locals-same : length (g .locals .cause) ≡ localCount → g .locals .cause ≡ each localCount (λ j. marked (occurs g w fx j) (local g Field.Cause j))
-  locals-same m = is-each localCount (g .locals .cause) _ 0 m (λ j l. sym (ap (λ (b : Bool). marked b (local g Field.Cause j)) (none-occurs j)))
+  locals-same : length (g .locals .cause) ≡ localCount → g .locals .cause ≡ each localCount (λ j. marked (occurs g v j) (local g Field.Cause j))
+  locals-same m =
+      is-each localCount (g .locals .cause) _ 0 m (λ j l. sym (ap (λ (b : Bool). marked b (local g Field.Cause j)) (none-occurs g v small silent j l)))
 
   -- so the state with its arming alone anew is the sampled one, and nothing is assigned
   pub quiet-sampled : length (g .alerts .cause) ≡ most → length (g .locals .cause) ≡ localCount
-      → SampledBy g w fx (record { handler = withReceivers (record { armed = r .armed }) g; assigned = 0 })
-  unfolding sampled rearmed
+      → SampledBy g x fx (record { handler = withLinks (record { receivers = record { armed = r .armed } }) g; assigned = 0 })
+  unfolding sampled heard rearmed
   quiet-sampled m k =
       record {
-        handler = λ t. withReceivers (record { armed = s .arms t })
+        handler = λ t. withLinks (record { receivers = record { armed = s .arms t } })
             (withAlerts (withAlertColumn Field.Cause (alerts-same m t) (g .alerts)) (withLocals (withLocalColumn Field.Cause (locals-same k t) (g .locals)) g));
-        assigns = is-bitsOf 4 0 (assigned g w fx) (omega arith) (λ j l. bit-none j ∙ sym (none-assigned j));
+        assigns = is-bitsOf 4 0 (assigned g v) (omega arith) (λ j l. bit-none j ∙ sym (none-assigned g v small silent j));
       }

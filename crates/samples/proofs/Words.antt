@@ -10,11 +10,12 @@ use lib.Dec.{ltb}
 use lib.ListN.{getD, set, length, length-set}
 use lib.Seq.{getD-set-same, getD-set-other}
 use Rattle.bits.specs.Bits.{place, wordOf}
+use Rattle.bits.specs.Index.{wordsBy}
 use Rattle.bits.proofs.BitLaws.{is-word64}
 use Rattle.bits.proofs.IndexLaws.{is-each}
 use Rattle.bits.proofs.WordLaws.{placeIn-at}
 use Rattle.rules.specs.State.{words}
-use Rattle.samples.specs.Received.{ReceivedWord, wordsBy, armsAt, happensAt, equalAt}
+use Rattle.samples.specs.Received.{ReceivedWord, armsAt, happensAt, equalAt}
 use Rattle.samples.specs.declared.receive.Word.{Word}
 
 -- the words below v have f i at the place of alert i
@@ -37,7 +38,7 @@ module _ (f : ℕ → Bool) (xs : List ℕ) where
           let z : u ≡ v = omega arith in
           rw z (getD-set-same xs v x 0 k ∙ is-word64 x (λ b. f (v * 64 + b)) small e)
 
-  pub filled-end : (v : ℕ) → v ≡ words → Filled f v xs → xs ≡ wordsBy f
+  pub filled-end : (v : ℕ) → v ≡ words → Filled f v xs → xs ≡ wordsBy words f
   filled-end v z s = is-each words xs (λ u. wordOf 64 (λ b. f (u * 64 + b))) 0 (s .long) (λ u h. s .done u (omega arith))
 
 -- word v of the alerts that count, as `receive` gives it, has the places of its alerts

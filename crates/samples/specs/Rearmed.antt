@@ -6,9 +6,10 @@ use mathlib.Core.Bool.{Bool, true, false, _&&_}
 use mathlib.Core.List.{List}
 use lib.Dec.{eqb}
 use lib.ListN.{getD}
-use Rattle.rules.specs.State.{most}
+use Rattle.bits.specs.Index.{wordsBy}
+use Rattle.rules.specs.State.{most, words}
 use Rattle.rules.specs.declared.Wires.{Wires}
-use Rattle.samples.specs.Received.{armsAt, happensAt, equalAt, wordsBy}
+use Rattle.samples.specs.Received.{armsAt, happensAt, equalAt}
 use Rattle.samples.specs.declared.rearm.Rearmed.{Rearmed}
 
 -- no place of the four words is set
@@ -17,6 +18,6 @@ noneSet ws = eqb (getD ws 0 0) 0 && (eqb (getD ws 1 0) 0 && (eqb (getD ws 2 0) 0
 
 -- the arming words after step 2; where it is quiet no alert has an event, enabled or not, and none has equal wires
 pub record RearmedBy (n : ℕ) (armed : List ℕ) (w : Wires) (r : Rearmed) : Type 0 where
-  pub arms : r .armed ≡ wordsBy (armsAt n armed (w .pos) (w .neg))
+  pub arms : r .armed ≡ wordsBy words (armsAt n armed (w .pos) (w .neg))
   pub no-event : r .quiet ≡ true → (i : ℕ) → i < most → happensAt n armed (w .pos) (w .neg) i ≡ false
   pub none-equal : r .quiet ≡ true → (i : ℕ) → i < most → equalAt n (w .pos) (w .neg) i ≡ false

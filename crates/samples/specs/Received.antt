@@ -1,12 +1,12 @@
 -- What the wires tell of each alert, as the code gives it: in words of 64.
 -- Assumes nothing.
-use Prim.Native.Nat.{ℕ, _+_, _*_, _<_}
+use Prim.Native.Nat.{ℕ, _<_}
 use mathlib.Core.Path.{_≡_}
 use mathlib.Core.Bool.{Bool, cond, _&&_}
 use mathlib.Core.List.{List}
 use lib.Dec.{ltb}
-use Rattle.bits.specs.Bits.{place, wordOf}
-use Rattle.bits.specs.Index.{each, placeIn}
+use Rattle.bits.specs.Bits.{place}
+use Rattle.bits.specs.Index.{placeIn, wordsBy}
 use Rattle.rules.specs.State.{words}
 use Rattle.rules.specs.Samples.{happens, equal, armedAfter}
 use Rattle.samples.specs.declared.receive.Word.{Word}
@@ -28,12 +28,8 @@ happensAt n armed pos neg i = ltb i n && happens (placeIn armed i) (placeIn pos 
 abbrev pub equalAt : ℕ → List ℕ → List ℕ → ℕ → Bool
 equalAt n pos neg i = ltb i n && equal (placeIn pos i) (placeIn neg i)
 
--- the words whose place of alert i is f i
-abbrev pub wordsBy : (ℕ → Bool) → List ℕ
-wordsBy f = each words (λ v. wordOf 64 (λ b. f (v * 64 + b)))
-
 -- all alerts
 pub record ReceivedAll (n : ℕ) (armed pos neg : List ℕ) (r : Received) : Type 0 where
-  pub arms : r .armed ≡ wordsBy (armsAt n armed pos neg)
-  pub happened : r .events ≡ wordsBy (happensAt n armed pos neg)
-  pub equals : r .equal ≡ wordsBy (equalAt n pos neg)
+  pub arms : r .armed ≡ wordsBy words (armsAt n armed pos neg)
+  pub happened : r .events ≡ wordsBy words (happensAt n armed pos neg)
+  pub equals : r .equal ≡ wordsBy words (equalAt n pos neg)

@@ -6,7 +6,7 @@ mod locals; // locals.rt: the local alerts
 use events::gather::gather;
 use rules::Effects;
 use rules::Handler;
-use rules::Wires;
+use rules::Sample;
 ghost use Prim.Native.Nat.{_≤_};
 ghost use Rattle.rules.specs.State.{most};
 ghost use Rattle.samples.specs.Sampled.{SampledBy};
@@ -17,22 +17,24 @@ pub struct Sampled {
     pub assigned: u8,
 }
 
-// Step 2 on the state g after step 1, with the wires w and the effects fx of step 1.
-pub fn sample(g: Handler, w: Wires, fx: Effects) -> Sampled
+// Step 2 on the state g after step 1, with the sample s and the effects fx of step 1.
+pub fn sample(g: Handler, s: Sample, fx: Effects) -> Sampled
     requires { ⌜ g .n ≤ most ⌝ }
-    ensures { λ r. ⌜ SampledBy g w fx r ⌝ }
+    ensures { λ r. ⌜ SampledBy g s fx r ⌝ }
 {
     let n = g.n;
-    let mut receivers = g.receivers;
+    let mut links = g.links;
+    let mut receivers = links.receivers;
     let mut alerts = g.alerts;
     let mut local_alerts = g.locals;
 
     let armed = receivers.armed;
-    let pos = w.pos;
-    let neg = w.neg;
+    let pos = s.alerts.pos;
+    let neg = s.alerts.neg;
     let received = receive::receive_all(n, armed, pos, neg);
     let next = received.armed;
     receivers.armed = next;
+    links.receivers = receivers;
     let events = received.events;
     let equal = received.equal;
     let en = alerts.en;
@@ -49,7 +51,7 @@ pub fn sample(g: Handler, w: Wires, fx: Effects) -> Sampled
     let local_cause = occurred.cause;
     local_alerts.cause = local_cause;
     let mut handler = g;
-    handler.receivers = receivers;
+    handler.links = links;
     handler.alerts = alerts;
     handler.locals = local_alerts;
     Sampled {

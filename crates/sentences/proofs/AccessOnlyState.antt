@@ -204,7 +204,7 @@ module _ (h : Handler) (x : Access) (f g : Handler) (a : Written h x f) (b : Wri
       same-state = λ i.
           record {
             n = (a .n ∙ sym (b .n)) i;
-            receivers = (a .receivers ∙ sym (b .receivers)) i;
+            links = (a .links ∙ sym (b .links)) i;
             classes = same-classes i;
             alerts = same-alerts i;
             locals = same-locals i;

@@ -11,6 +11,7 @@ use Rattle.bits.proofs.IndexLaws.{and-true}
 use Rattle.laws.specs.Columns.{sameField}
 use Rattle.laws.specs.InMap.{inMap}
 use Rattle.laws.specs.RegisterFile.{stores, storedBy}
+use Rattle.laws.proofs.Arming.{acted-links}
 use Rattle.laws.proofs.Cases.{pick, by-kind, by-field}
 use Rattle.laws.proofs.Refusals.{refused-keeps}
 use Rattle.laws.proofs.RegisterFile.{accepted-in-map, stores-accepted, acted-n}
@@ -60,17 +61,6 @@ module _ (h : Handler) (f : Field) (i : ℕ) (l : h .n ≤ i) (b : i < 248) wher
 list-is : (h : Handler) (f : Field) (i : ℕ) → alert h f i ≡ getD (alertList h f) i 0
 list-is h f i = by-field (λ f. alert h f i ≡ getD (alertList h f) i 0) refl refl refl refl f
 
--- ── N and the arming ──
-
-store-receivers : (h : Handler) (q : Register) (v : ℕ) → store h q v .receivers ≡ h .receivers
-unfolding store
-store-receivers h q v = by-kind (λ q. store h q v .receivers ≡ h .receivers) refl refl refl (λ f j. refl) (λ f i. refl) (λ s k. refl) refl q
-
-acted-receivers : (h : Handler) (x : Access) → acted h x .receivers ≡ h .receivers
-acted-receivers h x =
-    acted-but-stages h x (λ g. g .receivers ≡ h .receivers)
-    (λ _. stored-either h x (λ g. g .receivers ≡ h .receivers) refl (λ q v _. store-receivers h q v))
-
 module _ (h : Handler) (x : Access) (m : h .n ≤ 248) where
   -- a refusal that drops no stage
   untouched : (r : Refusal) → drops r ≡ false → refusalOf (verdict h x) ≡ refusalOf (Verdict.Refused r) → acted h x ≡ h
@@ -88,7 +78,7 @@ module _ (h : Handler) (x : Access) (m : h .n ≤ 248) where
         stays = stays h m x;
         above = λ f i l b. sym (list-is (acted h x) f i) ∙ alert-above h f i (omega arith) (omega arith) x ∙ list-is h f i;
         n = acted-n h x;
-        receivers = acted-receivers h x;
+        links = acted-links h x;
         after-5 = λ c. untouched Refusal.BadRecord refl (is-5 h x m .1 c);
         after-1 = λ c. untouched Refusal.NoRegister refl (is-1 h x m .1 c);
         after-2 = λ c. untouched Refusal.WrongWay refl (is-2 h x m .1 c);

@@ -12,8 +12,8 @@ use Rattle.bits.proofs.IndexLaws.{at-each, length-each}
 use Rattle.class_rules.specs.Class.{noClass, drives}
 use Rattle.class_rules.specs.Step.{classStep}
 use Rattle.rules.specs.Samples.{sampled, assigned}
-use Rattle.rules.specs.State.{classAt}
-use Rattle.rules.specs.Tick.{event, interruptNow, signals, stepped, interrupts, lines, outputOf}
+use Rattle.rules.specs.State.{classAt, withLinks}
+use Rattle.rules.specs.Tick.{event, interruptNow, signals, stepped, linksAfter, interrupts, lines, outputOf}
 use Rattle.rules.specs.declared.Effects.{Effects}
 use Rattle.rules.specs.declared.Handler.{Handler}
 use Rattle.rules.specs.declared.Wires.{Wires}
@@ -24,7 +24,7 @@ use Rattle.sentences.specs.Valid.{Valid, classOf}
 use Rattle.sentences.proofs.Cases.{and-is, or-is, any-is, then}
 use Rattle.sentences.proofs.HoldsClass.{holds-class}
 use Rattle.sentences.proofs.HoldsLines.{drives-is}
-use Rattle.sentences.proofs.HoldsSamples.{holds-assigned}
+use Rattle.sentences.proofs.HoldsSamples.{hear, after2, holds-assigned}
 use Rattle.sentences.proofs.Words.{holds-event}
 
 -- a test that is another says what the other says
@@ -53,40 +53,44 @@ holds-outputs h =
 
 -- ── steps 3 and 4 ──
 
+-- the state after step 4, its links those of step 2
+abbrev pub after4 : Handler → Wires → Effects → Handler
+after4 g w f = withLinks (linksAfter (hear g w f)) (stepped g (hear g w f) f)
+
 module _ (g : Handler) (w : Wires) (f : Effects) (v : Valid g) (r : RaisesFiveOrNone f) where
-  event-is : (k : ℕ) → (event g w f k ≡ true) ↔ ClassHasEvent g w f (sampled g w f) k
+  event-is : (k : ℕ) → (event g (hear g w f) k ≡ true) ↔ ClassHasEvent g w f (after2 g w f) k
   unfolding event sampled
   event-is k =
-      let a = holds-assigned g w f k r in
-      then (holds-event (assigned g w f k) (classAt g k)) (λ d. (a .0 (d .0), d .1), λ d. (a .1 (d .0), d .1))
+      let a = holds-assigned g w f k (v .n) r in
+      then (holds-event (assigned g (hear g w f) k) (classAt g k)) (λ d. (a .0 (d .0), d .1), λ d. (a .1 (d .0), d .1))
 
-  now : (k : ℕ) → k < 4 → bit (stepped g w f .interrupts .state) k ≡ interruptNow g w f k
+  now : (k : ℕ) → k < 4 → bit (after4 g w f .interrupts .state) k ≡ interruptNow g (hear g w f) k
   unfolding stepped
-  now k l = bit-bitsOf 4 (interruptNow g w f) k l
+  now k l = bit-bitsOf 4 (interruptNow g (hear g w f)) k l
 
-  meets-signals : (k : ℕ) → k < 4 → Meets g w f (sampled g w f) (stepped g w f) k (signals g w f k)
+  meets-signals : (k : ℕ) → k < 4 → Meets g w f (after2 g w f) (after4 g w f) k (signals g (hear g w f) f k)
   unfolding signals
   meets-signals k l = record { event = event-is k; interrupt = same-word (sym (now k l)) Iff·rfl; clear = Iff·rfl }
 
-  class-steps : (k : ℕ) → k < 4 → Stepped (signals g w f k) (classOf (sampled g w f) k) (classOf (stepped g w f) k)
+  class-steps : (k : ℕ) → k < 4 → Stepped (signals g (hear g w f) f k) (classOf (after2 g w f) k) (classOf (after4 g w f) k)
   unfolding stepped sampled
   class-steps k l =
-      subst (Stepped (signals g w f k) (classAt g k)) (sym (at-each 4 (λ k. classStep (signals g w f k) (classAt g k)) k noClass l))
-      (holds-class (signals g w f k) (classAt g k) (v .classes k l))
+      subst (Stepped (signals g (hear g w f) f k) (classAt g k)) (sym (at-each 4 (λ k. classStep (signals g (hear g w f) f k) (classAt g k)) k noClass l))
+      (holds-class (signals g (hear g w f) f k) (classAt g k) (v .classes k l))
 
-  pub holds-classes : ClassesStepped g w f (sampled g w f) (stepped g w f)
+  pub holds-classes : ClassesStepped g w f (after2 g w f) (after4 g w f)
   unfolding stepped sampled interruptNow
   holds-classes =
       record {
-        interrupt-bit = λ k l. same-word (now k l) (or-is (bit (g .interrupts .state) k) (event g w f k) Iff·rfl (event-is k));
-        interrupt-bits = up-to-15 (interruptNow g w f);
-        signals = signals g w f;
+        interrupt-bit = λ k l. same-word (now k l) (or-is (bit (g .interrupts .state) k) (event g (hear g w f) k) Iff·rfl (event-is k));
+        interrupt-bits = up-to-15 (interruptNow g (hear g w f));
+        signals = signals g (hear g w f) f;
         meets = meets-signals;
         steps = λ k l. let q : k < 4 = omega arith in class-steps k q;
         entries = length-each 4 _;
         enable = refl;
         n = refl;
-        receivers = refl;
+        links = refl;
         alerts = refl;
         locals = refl;
         stages = refl;

@@ -7,8 +7,7 @@ use mathlib.Core.Bool.{false}
 use lib.Dec.{eqb}
 use Rattle.rules.specs.Access.{verdict, accessedBy, accessed, acted, answerTo, effects}
 use Rattle.rules.specs.Answer.{refusalNumber, number}
-use Rattle.rules.specs.Samples.{sampled}
-use Rattle.rules.specs.Tick.{after, tick, ticked}
+use Rattle.rules.specs.Tick.{hears, after, tick, ticked}
 use Rattle.rules.specs.Valid.{valid}
 use Rattle.rules.specs.declared.Access.{Access}
 use Rattle.rules.specs.declared.Handler.{Handler}
@@ -25,7 +24,7 @@ use Rattle.sentences.specs.Tick.{Runs, Refused7, Tick, Step1}
 use Rattle.sentences.specs.Valid.{Valid}
 use Rattle.sentences.proofs.Cases.{off}
 use Rattle.sentences.proofs.HoldsOutputs.{holds-outputs, holds-classes}
-use Rattle.sentences.proofs.HoldsSamples.{holds-samples}
+use Rattle.sentences.proofs.HoldsSamples.{after2, holds-samples}
 use Rattle.sentences.proofs.HoldsValid.{holds-valid}
 
 -- ── step 1 ──
@@ -46,13 +45,13 @@ holds-step1 =
 
 module _ (h : Handler) (x : Input) where
   runs-tick : Valid h → Runs (accessed h (x .access)) (x .sample .alerts) (tick h x)
-  unfolding tick after acted effects answerTo
+  unfolding tick hears after acted effects answerTo
   runs-tick v =
       let a = accessed h (x .access) in
       let u = holds-step1 .valid h (x .access) v in
       let r = holds-step1 .raises h (x .access) in
       record {
-        state2 = sampled (a .handler) (x .sample .alerts) (a .effects);
+        state2 = after2 (a .handler) (x .sample .alerts) (a .effects);
         step2 = holds-samples (a .handler) (x .sample .alerts) (a .effects) u r;
         steps34 = holds-classes (a .handler) (x .sample .alerts) (a .effects) u r;
         step5 = holds-outputs (after h x);

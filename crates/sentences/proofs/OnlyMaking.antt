@@ -43,10 +43,12 @@ same-new : (n : ℕ) (h k : Handler) → New n h → New n k → h ≡ k
 same-new n h k a b = λ i.
     record {
       n = (a .alerts ∙ sym (b .alerts)) i;
-      receivers = record {
-        armed =
-            same-words (h .receivers .armed) (k .receivers .armed) (a .arming-words) (b .arming-words) (a .arming-word) (b .arming-word)
-            (λ j l. a .armed j l ∙ sym (b .armed j l)) i;
+      links = record {
+        receivers = record {
+          armed =
+              same-words (h .links .receivers .armed) (k .links .receivers .armed) (a .arming-words) (b .arming-words) (a .arming-word) (b .arming-word)
+              (λ j l. a .armed j l ∙ sym (b .armed j l)) i;
+        };
       };
       classes =
           same-list 4 _ (h .classes) (k .classes) (a .class-entries) (b .class-entries)

@@ -64,8 +64,10 @@ module _ (g : Handler) (w : Wires) (f : Effects) (h k : Handler) (a : Sampled g 
   same-sampled = λ i.
       record {
         n = (a .n ∙ sym (b .n)) i;
-        receivers = record {
-          armed = same-words (h .receivers .armed) (k .receivers .armed) (a .arming-words) (b .arming-words) (a .arming-word) (b .arming-word) same-arming i;
+        links = record {
+          receivers = record {
+            armed = same-words (h .links .receivers .armed) (k .links .receivers .armed) (a .arming-words) (b .arming-words) (a .arming-word) (b .arming-word) same-arming i;
+          };
         };
         classes = (a .classes ∙ sym (b .classes)) i;
         alerts = record {
@@ -89,11 +91,11 @@ module _ (g : Handler) (w : Wires) (f : Effects) (h k : Handler) (a : Sampled g 
 pub only-samples : (f g : Handler → Wires → Effects → Handler) → SampleStep f → SampleStep g → (h : Handler) (w : Wires) (e : Effects) → Valid h → RaisesFiveOrNone e → f h w e ≡ g h w e
 only-samples f g x y h w e v r = same-sampled h w e (f h w e) (g h w e) (x h w e v r) (y h w e v r)
 
-pub only-alert-event : (f g : Handler → Wires → ℕ → Bool) → AlertEventIs f → AlertEventIs g → (h : Handler) (w : Wires) (i : ℕ) → f h w i ≡ g h w i
-only-alert-event f g x y h w i = same-test (f h w i) (g h w i) (x h w i) (y h w i)
+pub only-alert-event : (f g : Handler → Wires → ℕ → Bool) → AlertEventIs f → AlertEventIs g → (h : Handler) (w : Wires) (i : ℕ) → h .n ≤ 248 → f h w i ≡ g h w i
+only-alert-event f g x y h w i m = same-test (f h w i) (g h w i) (x h w i m) (y h w i m)
 
 pub only-occurs : (f g : Handler → Wires → Effects → ℕ → Bool) → OccursIs f → OccursIs g → (h : Handler) (w : Wires) (e : Effects) (j : ℕ) → RaisesFiveOrNone e → j < 7 → f h w e j ≡ g h w e j
 only-occurs f g x y h w e j r l = same-test (f h w e j) (g h w e j) (x h w e j r l) (y h w e j r l)
 
-pub only-assigned : (f g : Handler → Wires → Effects → ℕ → Bool) → AssignedIs f → AssignedIs g → (h : Handler) (w : Wires) (e : Effects) (k : ℕ) → RaisesFiveOrNone e → f h w e k ≡ g h w e k
-only-assigned f g x y h w e k r = same-test (f h w e k) (g h w e k) (x h w e k r) (y h w e k r)
+pub only-assigned : (f g : Handler → Wires → Effects → ℕ → Bool) → AssignedIs f → AssignedIs g → (h : Handler) (w : Wires) (e : Effects) (k : ℕ) → h .n ≤ 248 → RaisesFiveOrNone e → f h w e k ≡ g h w e k
+only-assigned f g x y h w e k m r = same-test (f h w e k) (g h w e k) (x h w e k m r) (y h w e k m r)

@@ -82,7 +82,7 @@ module _ (g : Handler) (w : Wires) (f : Effects) (m h k : Handler) (fit : (j : �
   same-stepped = λ i.
       record {
         n = (a .n ∙ sym (b .n)) i;
-        receivers = (a .receivers ∙ sym (b .receivers)) i;
+        links = (a .links ∙ sym (b .links)) i;
         classes = same-list 4 _ (h .classes) (k .classes) (a .entries) (b .entries) same-classes i;
         alerts = (a .alerts ∙ sym (b .alerts)) i;
         locals = (a .locals ∙ sym (b .locals)) i;

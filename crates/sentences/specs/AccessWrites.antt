@@ -52,7 +52,7 @@ pub record Written (h : Handler) (x : Access) (g : Handler) : Type 0 where
   pub above : (f : Field) (i : ℕ) → h .n ≤ i → i < 248 → getD (alertList g f) i 0 ≡ getD (alertList h f) i 0
   -- a reading: N stays, and so does the arming of the alerts, which is step 2's
   pub n : g .n ≡ h .n
-  pub receivers : g .receivers ≡ h .receivers
+  pub links : g .links ≡ h .links
   -- refusals 5, 1, 2 and 4: "access does nothing"; 14 too: "So 3 and 12 are now the refusals that may change something"
   pub after-5 : Given5 h x → g ≡ h
   pub after-1 : Given1 h x → g ≡ h

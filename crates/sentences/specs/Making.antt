@@ -58,8 +58,8 @@ pub record New (n : ℕ) (h : Handler) : Type 0 where
   pub classes : (k : ℕ) → k < 4 → NewClass (classOf h k)
   -- "alerts re-armed": every bit of the four words
   pub armed : (i : ℕ) → i < 256 → arming h i ≡ true
-  pub arming-words : length (h .receivers .armed) ≡ 4
-  pub arming-word : (v : ℕ) → v < 4 → getD (h .receivers .armed) v 0 ≤ 18446744073709551615
+  pub arming-words : length (h .links .receivers .armed) ≡ 4
+  pub arming-word : (v : ℕ) → v < 4 → getD (h .links .receivers .armed) v 0 ≤ 18446744073709551615
   -- request (v): nothing is staged
   pub staged-local-en : Entries 7 0 (h .stages .locals .en)
   pub staged-local-class : Entries 7 0 (h .stages .locals .class)

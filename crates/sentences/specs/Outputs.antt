@@ -45,7 +45,7 @@ pub record ClassesStepped (g : Handler) (w : Wires) (f : Effects) (m h : Handler
   -- a reading: what the steps do not name stays
   pub enable : h .interrupts .enable ≡ m .interrupts .enable
   pub n : h .n ≡ m .n
-  pub receivers : h .receivers ≡ m .receivers
+  pub links : h .links ≡ m .links
   pub alerts : h .alerts ≡ m .alerts
   pub locals : h .locals ≡ m .locals
   pub stages : h .stages ≡ m .stages

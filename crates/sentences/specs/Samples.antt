@@ -21,7 +21,7 @@ abbrev pub negative : Wires → ℕ → Bool
 negative w i = bit (getD (w .neg) (i / 64) 0) (63 - i % 64)
 
 abbrev pub arming : Handler → ℕ → Bool
-arming g i = bit (getD (g .receivers .armed) (i / 64) 0) (63 - i % 64)
+arming g i = bit (getD (g .links .receivers .armed) (i / 64) 0) (63 - i % 64)
 
 -- "Pair (1,0) on a re-armed alert is an event"; "Alert i exists for i below N"; "Samples at N and above count for nothing"
 abbrev pub Event : Handler → Wires → ℕ → Type 0
@@ -71,8 +71,8 @@ pub record Sampled (g : Handler) (w : Wires) (f : Effects) (h : Handler) : Type 
   -- "Samples at N and above count for nothing"; "Stored entries at N and above .. no call changes them"; a reading: nor the
   -- bits past the 248th entry, since the arming has four words of 64
   pub arming-above : (i : ℕ) → g .n ≤ i → i < 256 → arming h i ≡ arming g i
-  pub arming-words : length (h .receivers .armed) ≡ 4
-  pub arming-word : (v : ℕ) → v < 4 → getD (h .receivers .armed) v 0 ≤ 18446744073709551615
+  pub arming-words : length (h .links .receivers .armed) ≡ 4
+  pub arming-word : (v : ℕ) → v < 4 → getD (h .links .receivers .armed) v 0 ≤ 18446744073709551615
   -- "An enabled alert's event sets its cause"
   pub cause-sets : (i : ℕ) → Event g w i → AlertEnabled g i → getD (h .alerts .cause) i 0 ≡ 1
   -- a reading: nothing else in this step changes it, at N and above either
@@ -103,10 +103,10 @@ SampleStep sample = (g : Handler) (w : Wires) (f : Effects) → Valid g → Rais
 
 -- an enabled alert's event, an occurring local alert, and what is assigned to class k, as tests
 abbrev pub AlertEventIs : (Handler → Wires → ℕ → Bool) → Type 0
-AlertEventIs event = (g : Handler) (w : Wires) (i : ℕ) → (event g w i ≡ true) ↔ (Event g w i × AlertEnabled g i)
+AlertEventIs event = (g : Handler) (w : Wires) (i : ℕ) → g .n ≤ 248 → (event g w i ≡ true) ↔ (Event g w i × AlertEnabled g i)
 
 abbrev pub OccursIs : (Handler → Wires → Effects → ℕ → Bool) → Type 0
 OccursIs occurs = (g : Handler) (w : Wires) (f : Effects) (j : ℕ) → RaisesFiveOrNone f → j < 7 → (occurs g w f j ≡ true) ↔ Occurs g w f j
 
 abbrev pub AssignedIs : (Handler → Wires → Effects → ℕ → Bool) → Type 0
-AssignedIs assigned = (g : Handler) (w : Wires) (f : Effects) (k : ℕ) → RaisesFiveOrNone f → (assigned g w f k ≡ true) ↔ Assigned g w f k
+AssignedIs assigned = (g : Handler) (w : Wires) (f : Effects) (k : ℕ) → g .n ≤ 248 → RaisesFiveOrNone f → (assigned g w f k ≡ true) ↔ Assigned g w f k

@@ -6,6 +6,7 @@ use rules::Alerts;
 use rules::Answer;
 use rules::Handler;
 use rules::Interrupts;
+use rules::Links;
 use rules::Locals;
 use rules::MOST;
 use rules::Made;
@@ -39,8 +40,10 @@ fn reset(n: usize) -> Handler
     let class = reset_class();
     Handler {
         n: n,
-        receivers: Receivers {
-            armed: [0xFFFF_FFFF_FFFF_FFFF; WORDS],
+        links: Links {
+            receivers: Receivers {
+                armed: [0xFFFF_FFFF_FFFF_FFFF; WORDS],
+            },
         },
         classes: [class; 4],
         alerts: Alerts {

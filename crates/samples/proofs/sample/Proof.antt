@@ -23,7 +23,7 @@ returns c =
     let x = o .before .before .before .before .before .before in
     let m = x .before .before in
     let r = m .before .before .before .before .before .before .before .before .before .before .before in
-    let s = r .before .before .before .before .before .before .before in
+    let s = r .before .before .before .before .before .before .before .before in
     sampled-by _ _ _ _ _ _ _ (s .pre) (r .receive-all .ensures) (m .gather .ensures) (x .raise .ensures) (o .occur .ensures)
 
 pub sample-spec : {M : Type 1} → statement M

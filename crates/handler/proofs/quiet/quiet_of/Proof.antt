@@ -16,7 +16,7 @@ same-after-requires c κs = search needs
 
 -- the columns of causes have their lengths by their types; here, since the search for them looks at so many facts and no more
 alerts-long : (c : tie.After-before2) → length (c .before .args .h .alerts .cause) ≡ most
-alerts-long c = search needs
+alerts-long c = search (c .before .good .0 .1 .1 .1 .1 .1 .0, needs)
 
 locals-long : (c : tie.After-before2) → length (c .before .args .h .locals .cause) ≡ localCount
 locals-long c = search (c .before .good .0 .1 .1 .1 .1 .1 .1 .0, needs)
