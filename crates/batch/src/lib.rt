@@ -1,13 +1,11 @@
 // "Traces": a batch fills a lent list of 64-bit words, one per record.
 use answers::signed;
-use handler::quiet::finish;
+use handler::quiet::moved_by;
 use handler::quiet::quiet_of;
 use handler::tick::step;
 use rules::Answer;
 use rules::Edition;
 use rules::Handler;
-use rules::Links;
-use rules::Receivers;
 use rules::Refusal;
 use state::valid::is_valid;
 use trace::edition::alerts;
@@ -49,18 +47,15 @@ fn run_records(edition: Edition, h: Handler, bytes: &[u8], out: &mut [u64], coun
         let quiet = quiet_of(g, x);
         if quiet.holds {
             let before = g.classes;
-            let end = finish(before, g.interrupts.state, g.interrupts.enable);
-            let output = end.output;
+            let moved = moved_by(before, g.interrupts);
+            let output = moved.output;
             let answer = quiet.answer;
             out[i] = word(output, answer);
-            let armed = quiet.armed;
-            let links = Links {
-                receivers: Receivers { armed },
-            };
-            let classes = end.classes;
+            let links = quiet.links;
+            let classes = moved.classes;
             g.links = links;
             g.classes = classes;
-            g.interrupts.state = end.state;
+            g.interrupts.state = moved.state;
             i += 1;
             continue;
         }

@@ -1,15 +1,17 @@
--- After a success, from any accepted state: the handler stands as the table says, and the rest is as before.
+-- After a success, from any accepted state: the handler stands as the table says, and no event came. After any boot: the rest is untouched.
 -- Assumes nothing.
 use Prim.Native.Nat.{ℕ, _≤_, _<_}
 use mathlib.Core.Path.{_≡_, refl, sym, ap, _∙_, subst}
 use mathlib.Core.Bool.{true, false}
 use native.Mathlib.Omega.{arith}
-use borrow.Author.Tests.{lt-ltb}
-use lib.Dec.{eqb}
+use borrow.Author.Tests.{lt-ltb, ltb-false}
+use lib.Dec.{eqb, ltb}
 use Rattle.bits.proofs.IndexLaws.{true-and}
 use Rattle.bits.specs.Bits.{bit}
 use Rattle.class_rules.specs.Class.{en, lock}
+use Rattle.laws.proofs.Cases.{pick}
 use Rattle.laws.proofs.ValidLaws.{facts}
+use Rattle.laws.specs.Frame.{movesItself}
 use Rattle.laws.specs.InMap.{inMap}
 use Rattle.laws.specs.Quiet.{runs}
 use Rattle.laws.specs.StageFile.{names}
@@ -17,6 +19,7 @@ use Rattle.rules.specs.Access.{value}
 use Rattle.rules.specs.Map.{decode, numberOf}
 use Rattle.rules.specs.Stages.{stage}
 use Rattle.rules.specs.State.{most, localCount, classCount, classAt}
+use Rattle.rules.specs.Valid.{valid}
 use Rattle.rules.specs.declared.Field.{Field}
 use Rattle.rules.specs.declared.Handler.{Handler}
 use Rattle.rules.specs.declared.Register.{Register}
@@ -27,17 +30,18 @@ use Rattle.policy.specs.Plan.{locks, ctrlOf, alertEntries, classEntries, planOf
 use Rattle.boot_laws.specs.Ran.{wants, reach, Among}
 use Rattle.boot_laws.specs.Ran.Among.{here, there}
 use Rattle.policy.specs.Sound.{unnamed, sound, planned}
-use Rattle.boot_laws.specs.Stands.{Success, Stands, AsBefore}
+use Rattle.boot_laws.specs.Stands.{Success, Stands, Untouched, Eventless}
+use Rattle.policy.specs.Table.{alertCount}
 use Rattle.policy.specs.declared.Installed.{Installed}
 use Rattle.policy.specs.declared.Lifecycle.{Lifecycle}
 use Rattle.policy.specs.declared.Progress.{Progress}
 use Rattle.boot_laws.proofs.AskLaws.{install-keeps, install-goes, Kept, reach-kept, install-kept, install-run}
 use Rattle.boot_laws.proofs.EntryLaws.{Fit, Settled, other-name, reach-stage}
-use Rattle.boot_laws.proofs.InstallLaws.{sound-fit, unnamed-at, all-asks, Same, same-start, install-holds}
+use Rattle.boot_laws.proofs.InstallLaws.{sound-fit, unnamed-at, moving-unnamed, all-asks, Same, same-start, install-frame, install-holds}
 use Rattle.boot_laws.proofs.Members.{has-length, alert-part, class-part, lock-part, last-part}
 use Rattle.policy.proofs.PlanLaws.{plan-planned}
 use Rattle.boot_laws.proofs.QuietLaws.{quiet-write, quiet-read}
-use Rattle.boot_laws.proofs.Unnamed.{unplanned, local-out, cause-out, other-out, count-out}
+use Rattle.boot_laws.proofs.Unnamed.{unplanned, local-out, other-out}
 use Rattle.boot_laws.proofs.Boot.{plan-fits, begins, booted, Went, went}
 
 -- ── after a success, from any accepted state ──
@@ -90,17 +94,37 @@ module _ (l : Lifecycle) (h : Handler) (w : Went l h) where
       (λ f s. quiet-write h f (s .kept) (e .register) (e .value) k o a r d s, λ f s. quiet-read h f (s .kept) (e .register) (e .value) k o a r d s)))
       h (same-start o h (w .good)) (w .going)
 
-  -- its stage
-  stage-same : (o : Register) → inMap (h .n) o ≡ true → unnamed o (planOf l) ≡ true → stage g o ≡ stage h o
+  -- what moves only with an event is as before: the plan names no register that moves by itself
+  pub eventless : Eventless h g
+  eventless =
+      record {
+        values = moved;
+        interrupts = moved IntrState refl refl refl;
+        local-causes = λ j b. moved (Local Field.Cause j) (lt-ltb j localCount b) refl refl;
+        causes = λ i b. moved (Alert Field.Cause i) (lt-ltb i (h .n) b) refl refl;
+        counts = λ k b. moved (Block AccumCnt k) (true-and (lt-ltb k classCount b) refl) refl refl;
+      }
+    where
+      moved : (o : Register) → inMap (h .n) o ≡ true → movesItself o ≡ true → runs o ≡ false → value g o ≡ value h o
+      moved o a m r = same o a (moving-unnamed (h .n) (facts h (w .good) .n) (planOf l) fits-it o a m) r .holds
+
+-- ── what no boot moves ──
+
+module _ (l : Lifecycle) (h : Handler) (t : valid h ≡ true) (large : alertCount ≤ h .n) where
+  abbrev end : Handler
+  end = install (under h) (asks (planOf l)) .reached .handler
+
+  -- a stage is as before where the plan does not name its register, though the register may move
+  stage-same : (o : Register) → inMap (h .n) o ≡ true → unnamed o (planOf l) ≡ true → stage end o ≡ stage h o
   stage-same o a u =
       install-keeps I (asks (planOf l))
       (all-asks (λ x. (f : Handler) → I f → I (reach f x)) (planOf l) (λ e m.
-      let k = sound-fit (h .n) (planOf l) fits-it e m in
+      let k = sound-fit (h .n) (planOf l) (plan-fits l (h .n) large) e m in
       let d = unnamed-at o (planOf l) u e m in (
         next (e .register) (e .value) k d (write (numberOf (e .register)) (e .value)) (λ f y. y),
         next (e .register) (e .value) k d (read (numberOf (e .register)) (e .value)) (λ f y. y),
       )))
-      (under h) (record { good = w .good; n = refl }, refl) .1
+      (under h) (record { good = t; n = refl }, refl) .1
     where
       I : Handler → Type 0
       I f = Kept h f × (stage f o ≡ stage h o)
@@ -113,28 +137,28 @@ module _ (l : Lifecycle) (h : Handler) (w : Went l h) where
           let b : inMap (f .n) q ≡ true = ap (λ (n : ℕ). inMap n q) (i .0 .n) ∙ k .exists in
           (reach-kept h f x (i .0), reach-stage f (i .0 .good) o a' x (y f (other-name f (i .0 .good) q v b (k .takes) o d)) ∙ i .1)
 
-  pub before : AsBefore l h g
+  untouched : Untouched l h end
   unfolding numberOf
-  before =
+  untouched =
       record {
-        n = install-kept h (under h) (asks (planOf l)) (record { good = w .good; n = refl }) .n;
-        values = λ o a u r. same o a u r .holds;
+        n = install-kept h (under h) (asks (planOf l)) (record { good = t; n = refl }) .n;
+        values = frame;
         stages = stage-same;
-        interrupts = same IntrState refl (free-of IntrState refl) refl .holds;
-        enables = same IntrEnable refl (free-of IntrEnable refl) refl .holds;
-        locals = λ f j b. let a = lt-ltb j localCount b in
-            let s = same (Local f j) a (free-of (Local f j) (local-out f j b)) refl in (s .holds, s .staged);
-        causes = λ i b. same (Alert Field.Cause i) (lt-ltb i (h .n) b) (free-of (Alert Field.Cause i) (cause-out i (below i b))) refl .holds;
-        counts = λ k b. same (Block AccumCnt k) (true-and (lt-ltb k classCount b) refl) (free-of (Block AccumCnt k) (count-out k b)) refl .holds;
-        others = λ f i a b.
-            let s = same (Alert f i) (lt-ltb i (h .n) b) (free-of (Alert f i) (other-out f i a (below i b))) refl in (s .holds, s .staged);
+        enables = frame IntrEnable refl (free-of IntrEnable refl) refl;
+        locals = λ f j b m. frame (Local f j) (lt-ltb j localCount b) (free-of (Local f j) (local-out f j b)) m;
+        local-stages = λ f j b. stage-same (Local f j) (lt-ltb j localCount b) (free-of (Local f j) (local-out f j b));
+        others = λ f i a b m. frame (Alert f i) (lt-ltb i (h .n) b) (free-of (Alert f i) (other-out f i a (below i b))) m;
+        other-stages = λ f i a b. stage-same (Alert f i) (lt-ltb i (h .n) b) (free-of (Alert f i) (other-out f i a (below i b)));
       }
     where
+      frame : (o : Register) → inMap (h .n) o ≡ true → unnamed o (planOf l) ≡ true → movesItself o ≡ false → value end o ≡ value h o
+      frame o a u m = install-frame h (planOf l) o t (plan-fits l (h .n) large) a m u .holds
+
       free-of : (o : Register) → planned (numberOf o) ≡ false → unnamed o (planOf l) ≡ true
       free-of o p = unplanned (planOf l) o (plan-planned l) p
 
       below : (i : ℕ) → i < h .n → i < most
-      below i b = let m : h .n ≤ most = facts h (w .good) .n in omega arith
+      below i b = let m : h .n ≤ most = facts h t .n in omega arith
 
 -- ── in the words of the boot ──
 
@@ -150,5 +174,28 @@ module _ (l : Lifecycle) (h : Handler) (s : Success l h) where
   pub boot-stands : Stands l (boot l h .handler)
   boot-stands = subst (λ (r : Installed). Stands l (r .handler)) (sym is-it) (stands l h (went l h s))
 
-  pub boot-before : AsBefore l h (boot l h .handler)
-  boot-before = subst (λ (r : Installed). AsBefore l h (r .handler)) (sym is-it) (before l h (went l h s))
+  -- and no event came
+  pub boot-eventless : Eventless h (boot l h .handler)
+  boot-eventless = subst (λ (r : Installed). Eventless h (r .handler)) (sym is-it) (eventless l h (went l h s))
+
+-- of every boot, one that stops, and one that does not begin
+pub boot-untouched : (l : Lifecycle) (h : Handler) → Untouched l h (boot l h .handler)
+unfolding boot
+boot-untouched l h =
+    pick (λ (r : Installed). Untouched l h (r .handler)) (valid h) _ _
+    (λ t. pick (λ (r : Installed). Untouched l h (r .handler)) (ltb (h .n) alertCount) _ _ (λ _. itself)
+    (λ e. untouched l h t (ltb-false (h .n) alertCount e)))
+    (λ _. itself)
+  where
+    itself : Untouched l h h
+    itself =
+        record {
+          n = refl;
+          values = λ o a u m. refl;
+          stages = λ o a u. refl;
+          enables = refl;
+          locals = λ f j b m. refl;
+          local-stages = λ f j b. refl;
+          others = λ f i a b m. refl;
+          other-stages = λ f i a b. refl;
+        }

@@ -21,7 +21,7 @@ use Rattle.policy.specs.Table.{markAt}
 use Rattle.policy.specs.declared.Installed.{Installed}
 use Rattle.policy.specs.declared.Lifecycle.{Lifecycle}
 use Rattle.boot_laws.proofs.Boot.{new-succeeds}
-use Rattle.boot_laws.proofs.After.{boot-stands, boot-before}
+use Rattle.boot_laws.proofs.After.{boot-stands, boot-untouched, boot-eventless}
 
 -- "On a new handler so large it always succeeds": of 58 to 248 alerts, in every lifecycle, with register 0 and answer 0
 succeeds : (l : Lifecycle) (n : ℕ) → 58 ≤ n → n ≤ 248 → Success l (newHandler n)
@@ -127,15 +127,16 @@ module _ (h : Handler) where
         × (stage after (Local Field.Class 0) ≡ stage h (Local Field.Class 0))
         × (value after (Block AccumCnt 3) ≡ value h (Block AccumCnt 3))
     untouched =
-        let t = boot-before l h s in
-        (t .n, t .interrupts, t .enables, t .locals Field.En 6 (omega arith) .0, t .locals Field.Class 0 (omega arith) .1, t .counts 3 (omega arith))
+        let t = boot-untouched l h in
+        let e = boot-eventless l h s in
+        (t .n, e .interrupts, t .enables, t .locals Field.En 6 (omega arith) refl, t .local-stages Field.Class 0 (omega arith), e .counts 3 (omega arith))
 
     -- and by the general words, in PROD
     byName : (l ≡ Lifecycle.Prod)
         → (stage after (Local Field.En 6) ≡ stage h (Local Field.En 6)) × (value after (Block Setting.Regwen 1) ≡ value h (Block Setting.Regwen 1))
     unfolding unnamed planOf partsTo alertEntries classEntries lockEntries classLock markAt numberOf
     byName e =
-        let t = boot-before l h s in (
+        let t = boot-untouched l h in (
           t .stages (Local Field.En 6) refl (subst (λ (x : Lifecycle). unnamed (Local Field.En 6) (planOf x) ≡ true) (sym e) refl),
           t .values (Block Setting.Regwen 1) refl (subst (λ (x : Lifecycle). unnamed (Block Setting.Regwen 1) (planOf x) ≡ true) (sym e) refl) refl,
         )
@@ -146,5 +147,5 @@ module _ (h : Handler) where
         × (value after (Alert Field.Class 58) ≡ value h (Alert Field.Class 58))
         × (stage after (Alert Field.En 58) ≡ stage h (Alert Field.En 58))
     ofAlerts b =
-        let t = boot-before l h s in
-        (t .causes 57 (omega arith), t .others Field.Class 58 (omega arith) b .0, t .others Field.En 58 (omega arith) b .1)
+        let t = boot-untouched l h in
+        (boot-eventless l h s .causes 57 (omega arith), t .others Field.Class 58 (omega arith) b refl, t .other-stages Field.En 58 (omega arith) b)

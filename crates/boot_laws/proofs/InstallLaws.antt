@@ -1,18 +1,20 @@
 -- A list of registers, written and read back: when it succeeds, what then stands, and what is as before.
 -- Assumes nothing.
-use Prim.Native.Nat.{ℕ}
+use Prim.Native.Nat.{ℕ, _≤_}
 use mathlib.Core.Path.{_≡_, refl, sym, ap, _∙_, subst}
-use mathlib.Core.Bool.{Bool, true, false, not, _&&_}
+use mathlib.Core.Bool.{Bool, true, false, true≢false, not, _&&_}
 use mathlib.Core.List.{List, [], _∷_, _++_, cons≢nil}
-use borrow.Author.Tests.{eqb-false, not-true}
+use borrow.Author.Tests.{eqb-false, ne-eqb, not-true}
 use lib.Dec.{eqb}
-use Rattle.bits.proofs.IndexLaws.{and-true}
+use Rattle.bits.proofs.IndexLaws.{and-true, true-and}
 use Rattle.laws.proofs.Cases.{pick}
+use Rattle.laws.proofs.MapLaws.{number-eq}
 use Rattle.laws.specs.Frame.{movesItself}
 use Rattle.laws.specs.InMap.{inMap}
 use Rattle.rules.specs.Access.{value}
 use Rattle.rules.specs.Map.{numberOf, isShadowed}
 use Rattle.rules.specs.Stages.{stage}
+use Rattle.rules.specs.State.{most}
 use Rattle.rules.specs.Valid.{valid}
 use Rattle.rules.specs.declared.Handler.{Handler}
 use Rattle.rules.specs.declared.Register.{Register}
@@ -62,6 +64,16 @@ unfolding unnamed
 unnamed-at o [] u e m = nowhere e [] m refl
 unnamed-at o (d ∷ es) u e here = differ (numberOf (d .register)) (numberOf o) (unnamed o es) u .0
 unnamed-at o (d ∷ es) u e (there m) = unnamed-at o es (differ (numberOf (d .register)) (numberOf o) (unnamed o es) u .1) e m
+
+-- a register that moves by itself is named by no entry
+pub moving-unnamed : (n : ℕ) → n ≤ most → (es : List Entry) → sound n es ≡ true → (o : Register) → inMap n o ≡ true → movesItself o ≡ true
+    → unnamed o es ≡ true
+unfolding unnamed
+moving-unnamed n b [] k o a m = refl
+moving-unnamed n b (e ∷ es) k o a m =
+    let f = first n e es k in
+    true-and (ap not (ne-eqb (numberOf (e .register)) (numberOf o) (λ z. true≢false (sym m ∙ ap movesItself (sym (number-eq n (e .register) o b (f .fits .exists) a z)) ∙ f .fits .still))))
+    (moving-unnamed n b es (f .later) o a m)
 
 -- ── what holds of each entry's write and read holds of all accesses ──
 

@@ -11,19 +11,25 @@ use Rattle.bits.proofs.BitLaws.{bit-none, bit-ones}
 use Rattle.bits.specs.Bits.{bit, place}
 use Rattle.class_rules.specs.Class.{stateOf}
 use Rattle.class_rules.specs.declared.ClassState.the-variants.{Idle}
+use Rattle.laws.proofs.AtRest.{none-happened, none-broken}
 use Rattle.laws.proofs.Cases.{by-kind, by-setting}
-use Rattle.laws.proofs.Quiet.{rest-silent, quiet-tick, quiet-waits}
+use Rattle.laws.proofs.Heard.{unheard}
+use Rattle.laws.proofs.KeepsAccess.{acted-valid}
+use Rattle.laws.proofs.Quiet.{quiet-tick, quiet-waits}
+use Rattle.laws.proofs.Raises.{accepted-raises, none-occurs}
 use Rattle.laws.proofs.Refusal7.{ticked-handler}
 use Rattle.laws.proofs.Step1.{clears-if}
+use Rattle.laws.proofs.ValidLaws.{facts}
 use Rattle.laws.proofs.Written.{ticked-answer}
 use Rattle.laws.specs.InMap.{inMap}
 use Rattle.laws.specs.Quiet.{AtRest, Silent, runs}
 use Rattle.laws.specs.RegisterFile.{commits, plain}
 use Rattle.laws.specs.StageFile.{names}
-use Rattle.rules.specs.Access.{value, verdict, accepts, accepted, isClrOf, writesClr, accessedBy, accessed, answerTo, clears}
+use Rattle.rules.specs.Access.{value, verdict, accepts, accepted, isClrOf, writesClr, accessedBy, accessed, acted, answerTo, effects, clears}
 use Rattle.rules.specs.Answer.{number}
 use Rattle.rules.specs.Map.{numberOf}
-use Rattle.rules.specs.State.{words, classCount, classAt}
+use Rattle.rules.specs.Samples.{alertEvent, occurs}
+use Rattle.rules.specs.State.{most, words, localCount, classCount, classAt}
 use Rattle.rules.specs.Tick.{hears}
 use Rattle.rules.specs.Valid.{valid}
 use Rattle.rules.specs.declared.Access.{Access}
@@ -76,9 +82,26 @@ wants-accepted h a t w = go (verdict h (a .access)) (ap (λ (x : Answer). is (nu
     go Verdict.Accepted x = refl
     go (Verdict.Refused m) x = absurd (false≢true (sym (refused-not m (a .wanted)) ∙ x))
 
--- a tick of the boot that gets the answer that is wanted hears nothing: all wires at (0,1), and no differing write
-boot-silent : (h : Handler) (a : Ask) → valid h ≡ true → wants h a ≡ true → Silent (hears h (inputOf a))
-boot-silent h a t w = rest-silent h (inputOf a) t (at-rest (a .access)) (wants-accepted h a t w)
+-- ── nothing comes of what step 2 hears in a tick of the boot that gets the answer that is wanted ──
+
+module _ (h : Handler) (a : Ask) (t : valid h ≡ true) (w : wants h a ≡ true) where
+  abbrev g : Handler
+  g = acted h (a .access)
+
+  -- no local alert occurs: all wires are at (0,1), so not local 2; no write differs, so not local 5; no other can occur
+  boot-locals : (j : ℕ) → j < localCount → occurs g (hears h (inputOf a)) j ≡ false
+  unfolding hears
+  boot-locals =
+      none-occurs g (inputOf a .sample) (effects h (a .access)) (facts g (acted-valid h (a .access) t) .n)
+      (accepted-raises h (a .access) (wants-accepted h a t w)) (none-broken g (inputOf a .sample .alerts) (at-rest (a .access)))
+
+  -- and no alert has an event
+  boot-alerts : (i : ℕ) → i < most → alertEvent g (hears h (inputOf a)) i ≡ false
+  unfolding hears
+  boot-alerts i l = unheard g (inputOf a .sample) (effects h (a .access)) i l (none-happened g (inputOf a .sample .alerts) (at-rest (a .access)) i l)
+
+  boot-silent : Silent g (hears h (inputOf a))
+  boot-silent = record { alerts = boot-alerts; locals = boot-locals }
 
 -- a plain register is no CLR
 plain-clr : (k : ℕ) (q : Register) → plain q ≡ true → isClrOf k q ≡ false

@@ -21,7 +21,7 @@ use Rattle.boot_laws.specs.Stands.{Success}
 use Rattle.policy.specs.Table.{alertCount, markAt}
 use Rattle.policy.specs.declared.Lifecycle.{Lifecycle}
 use Rattle.boot_laws.proofs.Boot.{went}
-use Rattle.boot_laws.proofs.After.{boot-before}
+use Rattle.boot_laws.proofs.After.{boot-untouched}
 
 -- the boot locks alert i, and class k
 abbrev pub locksAlert : Lifecycle → ℕ → Bool
@@ -54,10 +54,10 @@ module _ (l : Lifecycle) (h : Handler) (s : Success l h) where
   alert-unlocked i b f =
       let m : alertCount ≤ h .n = went l h s .large in
       let u = all-at (sparesAlert l) alertCount (and-true (allTo (sparesAlert l) alertCount) _ (plan-spares l) .0) i b in
-      boot-before l h s .values (Alert Field.Regwen i) (lt-ltb i (h .n) (omega arith)) (other (locksAlert l i) _ u f) refl
+      boot-untouched l h .values (Alert Field.Regwen i) (lt-ltb i (h .n) (omega arith)) (other (locksAlert l i) _ u f) refl
 
   -- classes B, C and D always, and class A where the lifecycle does not lock it
   pub class-unlocked : (k : ℕ) → k < classCount → locksClass l k ≡ false → value (boot l h .handler) (Block Setting.Regwen k) ≡ value h (Block Setting.Regwen k)
   class-unlocked k b f =
       let u = all-at (sparesClass l) classCount (and-true (allTo (sparesAlert l) alertCount) _ (plan-spares l) .1) k b in
-      boot-before l h s .values (Block Setting.Regwen k) (true-and (lt-ltb k classCount b) refl) (other (locksClass l k) _ u f) refl
+      boot-untouched l h .values (Block Setting.Regwen k) (true-and (lt-ltb k classCount b) refl) (other (locksClass l k) _ u f) refl

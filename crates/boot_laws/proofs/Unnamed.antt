@@ -1,23 +1,21 @@
--- What no plan names: locals, alerts from 58 up, interrupts, every CAUSE and ACCUM_CNT.
+-- What no plan names: locals, alerts from 58 up, every CAUSE.
 -- Assumes nothing.
-use Prim.Native.Nat.{ℕ, _+_, _-_, _*_, _%_, _≤_, _<_}
+use Prim.Native.Nat.{ℕ, _+_, _*_, _≤_, _<_}
 use mathlib.Core.Path.{_≡_, refl, sym, ap, ap₂, _∙_}
-use mathlib.Core.Bool.{Bool, true, false, not, _&&_, _||_}
+use mathlib.Core.Bool.{Bool, true, false, and-false, not, _&&_, _||_}
 use mathlib.Core.List.{List, [], _∷_}
 use native.Mathlib.Omega.{arith}
-use borrow.Author.Tests.{eqb-true, eq-eqb, lt-leb, le-ltb}
+use borrow.Author.Tests.{eqb-true, lt-leb, le-ltb}
 use lib.Dec.{eqb, leb, ltb}
 use Rattle.bits.proofs.IndexLaws.{and-true, true-and}
 use Rattle.rules.specs.Map.{within, numberOf}
-use Rattle.rules.specs.State.{most, localCount, classCount}
+use Rattle.rules.specs.State.{most, localCount}
 use Rattle.rules.specs.declared.Field.{Field}
 use Rattle.rules.specs.declared.Register.{Register}
-use Rattle.rules.specs.declared.Register.the-variants.{Local, Alert, Block}
-use Rattle.rules.specs.declared.Setting.the-variants.{AccumCnt}
+use Rattle.rules.specs.declared.Register.the-variants.{Local, Alert}
 use Rattle.policy.specs.Install.{Entry}
 use Rattle.policy.specs.Sound.{unnamed, planned, allPlanned}
 use Rattle.policy.specs.Table.{alertCount}
-use Rattle.boot_laws.proofs.Bools.{and-no}
 
 -- a register whose number is no entry's kind
 pub unplanned : (es : List Entry) (o : Register) → allPlanned es ≡ true → planned (numberOf o) ≡ false → unnamed o es ≡ true
@@ -37,14 +35,13 @@ below : (a n r : ℕ) → r < a → within a n r ≡ false
 below a n r l = ap (λ (b : Bool). b && ltb r (a + n)) (lt-leb a r l)
 
 above : (a n r : ℕ) → a + n ≤ r → within a n r ≡ false
-above a n r l = ap (λ (b : Bool). leb a r && b) (le-ltb r (a + n) l) ∙ and-no (leb a r)
+above a n r l = ap (λ (b : Bool). leb a r && b) (le-ltb r (a + n) l) ∙ and-false (leb a r)
 
-out : (r : ℕ) → within 256 58 r ≡ false → within 512 58 r ≡ false → within 768 58 r ≡ false
-    → (within 1280 64 r && not (eqb ((r - 1280) % 16) 4)) ≡ false → planned r ≡ false
+out : (r : ℕ) → within 256 58 r ≡ false → within 512 58 r ≡ false → within 768 58 r ≡ false → within 1280 64 r ≡ false → planned r ≡ false
 out r a b c d = ap₂ _||_ a (ap₂ _||_ b (ap₂ _||_ c d))
 
-last : (r : ℕ) → r < 1280 → (within 1280 64 r && not (eqb ((r - 1280) % 16) 4)) ≡ false
-last r l = ap (λ (b : Bool). b && not (eqb ((r - 1280) % 16) 4)) (below 1280 64 r l)
+last : (r : ℕ) → r < 1280 → within 1280 64 r ≡ false
+last r l = below 1280 64 r l
 
 low : (r : ℕ) → r < 256 → planned r ≡ false
 low r l = out r (below 256 58 r l) (below 512 58 r (omega arith)) (below 768 58 r (omega arith)) (last r (omega arith))
@@ -58,7 +55,7 @@ local-out Field.En j l = low (16 + 8 * 1 + j) (omega arith)
 local-out Field.Class j l = low (16 + 8 * 2 + j) (omega arith)
 local-out Field.Cause j l = low (16 + 8 * 3 + j) (omega arith)
 
-pub cause-out : (i : ℕ) → i < most → planned (numberOf (Alert Field.Cause i)) ≡ false
+cause-out : (i : ℕ) → i < most → planned (numberOf (Alert Field.Cause i)) ≡ false
 unfolding numberOf
 cause-out i l =
     out (1024 + i) (above 256 58 (1024 + i) (omega arith)) (above 512 58 (1024 + i) (omega arith)) (above 768 58 (1024 + i) (omega arith))
@@ -76,11 +73,3 @@ other-out Field.Class i a l =
     out (768 + i) (above 256 58 (768 + i) (omega arith)) (above 512 58 (768 + i) (omega arith)) (above 768 58 (768 + i) (omega arith))
     (last (768 + i) (omega arith))
 other-out Field.Cause i a l = cause-out i l
-
-pub count-out : (k : ℕ) → k < classCount → planned (numberOf (Block AccumCnt k)) ≡ false
-unfolding numberOf
-count-out k l =
-    let r : ℕ = 1280 + 16 * k + 4 in
-    let m : (1280 + 16 * k + 4 - 1280) % 16 ≡ 4 = omega arith in
-    out r (above 256 58 r (omega arith)) (above 512 58 r (omega arith)) (above 768 58 r (omega arith))
-    (ap (λ (b : Bool). within 1280 64 r && not b) (eq-eqb ((r - 1280) % 16) 4 m) ∙ and-no (within 1280 64 r))

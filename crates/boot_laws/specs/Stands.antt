@@ -5,9 +5,11 @@ use mathlib.Core.Path.{_≡_}
 use mathlib.Core.Bool.{true, false}
 use lib.IntN.{pos}
 use Rattle.class_rules.specs.Class.{en, lock}
+use Rattle.laws.specs.Frame.{movesItself}
 use Rattle.laws.specs.InMap.{inMap}
 use Rattle.laws.specs.Quiet.{runs}
 use Rattle.rules.specs.Access.{value}
+use Rattle.rules.specs.Map.{fieldRow}
 use Rattle.rules.specs.Stages.{stage}
 use Rattle.rules.specs.State.{localCount, classCount, classAt}
 use Rattle.rules.specs.declared.Field.{Field}
@@ -42,16 +44,23 @@ pub record Stands (l : Lifecycle) (g : Handler) : Type 0 where
   -- and no stage is open at a register that the plan names
   pub unstaged : (e : Entry) → Among e (planOf l) → stage g (e .register) ≡ 0
 
--- no event came: what the plan does not name is as before, but for STATE, ESC_CNT and CLR_REGWEN, which are the run's; stages too
-pub record AsBefore (l : Lifecycle) (h g : Handler) : Type 0 where
+-- what no boot moves, wherever it stops: what its plan does not name and steps 2 to 4 of a tick leave, and every stage but the plan's
+pub record Untouched (l : Lifecycle) (h g : Handler) : Type 0 where
   pub n : g .n ≡ h .n
-  pub values : (o : Register) → inMap (h .n) o ≡ true → unnamed o (planOf l) ≡ true → runs o ≡ false → value g o ≡ value h o
+  pub values : (o : Register) → inMap (h .n) o ≡ true → unnamed o (planOf l) ≡ true → movesItself o ≡ false → value g o ≡ value h o
   pub stages : (o : Register) → inMap (h .n) o ≡ true → unnamed o (planOf l) ≡ true → stage g o ≡ stage h o
-  -- so the interrupts, every CAUSE and ACCUM_CNT, and "local alerts and alerts from 58 up are not written"
-  pub interrupts : value g IntrState ≡ value h IntrState
   pub enables : value g IntrEnable ≡ value h IntrEnable
-  pub locals : (f : Field) (j : ℕ) → j < localCount → (value g (Local f j) ≡ value h (Local f j)) × (stage g (Local f j) ≡ stage h (Local f j))
+  -- so "local alerts and alerts from 58 up are not written"; a CAUSE is an event's to set
+  pub locals : (f : Field) (j : ℕ) → j < localCount → fieldRow f .moves ≡ false → value g (Local f j) ≡ value h (Local f j)
+  pub local-stages : (f : Field) (j : ℕ) → j < localCount → stage g (Local f j) ≡ stage h (Local f j)
+  pub others : (f : Field) (i : ℕ) → alertCount ≤ i → i < h .n → fieldRow f .moves ≡ false → value g (Alert f i) ≡ value h (Alert f i)
+  pub other-stages : (f : Field) (i : ℕ) → alertCount ≤ i → i < h .n → stage g (Alert f i) ≡ stage h (Alert f i)
+
+-- what moves only with an event: after a success none came, so INTR_STATE, every CAUSE and every ACCUM_CNT is as before. STATE, ESC_CNT and
+-- CLR_REGWEN are the run's: a class in Timeout or a phase moves without an event
+pub record Eventless (h g : Handler) : Type 0 where
+  pub values : (o : Register) → inMap (h .n) o ≡ true → movesItself o ≡ true → runs o ≡ false → value g o ≡ value h o
+  pub interrupts : value g IntrState ≡ value h IntrState
+  pub local-causes : (j : ℕ) → j < localCount → value g (Local Field.Cause j) ≡ value h (Local Field.Cause j)
   pub causes : (i : ℕ) → i < h .n → value g (Alert Field.Cause i) ≡ value h (Alert Field.Cause i)
   pub counts : (k : ℕ) → k < classCount → value g (Block AccumCnt k) ≡ value h (Block AccumCnt k)
-  pub others :
-      (f : Field) (i : ℕ) → alertCount ≤ i → i < h .n → (value g (Alert f i) ≡ value h (Alert f i)) × (stage g (Alert f i) ≡ stage h (Alert f i))

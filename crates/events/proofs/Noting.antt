@@ -11,7 +11,7 @@ use lib.ListN.{getD, set}
 use Rattle.bits.specs.Bits.{bitsOf}
 use Rattle.rules.specs.Samples.{marked}
 use Rattle.events.specs.Noted.{Noted, enabledIn}
-use Rattle.events.specs.Places.{First}
+use Rattle.masks.specs.Places.{First}
 use Rattle.events.proofs.Notes.{noted-skip, noted-step}
 use Rattle.events.proofs.Turns.{Left, counted, visited, visited-here, visited-none, left-from, left-here, left-none, left-end}
 

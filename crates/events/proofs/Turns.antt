@@ -17,7 +17,7 @@ use Rattle.bits.proofs.IndexLaws.{and-true}
 use Rattle.bits.proofs.WordLaws.{placeIn-at}
 use Rattle.events.specs.Gathered.{amongWords}
 use Rattle.events.specs.Noted.{enabledIn}
-use Rattle.events.specs.Places.{First, Rest}
+use Rattle.masks.specs.Places.{First, Rest}
 
 -- the alerts of word v below i have had their turn; of the others those with f are left
 pub record Left (f : ℕ → Bool) (v i left : ℕ) : Type 0 where

@@ -12,7 +12,7 @@ use Rattle.bits.specs.Index.{anyTo, placeIn}
 use Rattle.bits.proofs.IndexLaws.{and-true, true-and, any-at, any-none}
 use Rattle.events.specs.Noted.{enabledIn}
 use Rattle.events.specs.Gathered.{amongWords}
-use Rattle.events.specs.Places.{First}
+use Rattle.masks.specs.Places.{First}
 use Rattle.events.proofs.Turns.{Left, counted, visited, counted-below, visited-here, visited-none, left-here, left-none, left-end}
 
 -- none of the alerts below i was found

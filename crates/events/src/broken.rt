@@ -1,7 +1,7 @@
 // Step 2, equal wires and enables: what raises local alert 2.
-use crate::places::after;
-use crate::places::first;
-use crate::places::live;
+use masks::places::after;
+use masks::places::first;
+use masks::places::live;
 use rules::MOST;
 use rules::WORDS;
 ghost use Prim.Native.Nat.{_≤_};

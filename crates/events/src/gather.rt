@@ -1,33 +1,30 @@
-// Step 2, events and enables into causes and classes. Nothing here knows of arming.
-use crate::broken::any_broken;
+// Step 2, events and enables into causes and classes.
 use crate::note;
-use crate::places::after;
-use crate::places::first;
-use crate::places::live;
+use masks::places::after;
+use masks::places::first;
+use masks::places::live;
 use rules::MOST;
 use rules::WORDS;
 ghost use Prim.Native.Nat.{_≤_};
 ghost use Rattle.rules.specs.State.{most};
 ghost use Rattle.events.specs.Gathered.{GatheredAll};
 
-// The alerts' causes, the classes that their events are assigned to, and whether an enabled one has equal wires.
+// The alerts' causes, and the classes that their events are assigned to.
 pub struct Gathered {
     pub cause: [u8; MOST],
     pub hits: u8,
-    pub broken: bool,
 }
 
 // The n alerts: of each word those with an event, one after the other, and no other. A word without one is passed over.
 pub fn gather(
     n: usize,
     events: &[u64; WORDS],
-    equal: &[u64; WORDS],
     en: &[u8; MOST],
     class: &[u8; MOST],
     before: [u8; MOST],
 ) -> Gathered
     requires { ⌜ n ≤ most ⌝ }
-    ensures { λ r. ⌜ GatheredAll n (now (events .entry)) (now (equal .entry)) (now (en .entry)) (now (class .entry)) before r ⌝ }
+    ensures { λ r. ⌜ GatheredAll n (now (events .entry)) (now (en .entry)) (now (class .entry)) before r ⌝ }
 {
     let mut cause = before;
     let mut hits: u8 = 0;
@@ -45,6 +42,5 @@ pub fn gather(
     Gathered {
         cause: cause,
         hits: hits,
-        broken: any_broken(n, equal, en),
     }
 }

@@ -1,5 +1,5 @@
 // One tick of the handler in code: the access, the samples, the four classes and the outputs.
 pub mod tick; // tick.rt: the whole tick
 pub mod quiet; // quiet.rt: a tick without an event
-mod four; // four.rt: steps 3 and 4 of the four classes
+mod classes; // classes.rt: steps 3 and 4 of the four classes
 mod output; // output.rt: step 5

@@ -1,6 +1,6 @@
 // "One tick, in order".
-use crate::four::classes_after;
-use crate::four::interrupts_after;
+use crate::classes::classes_after;
+use crate::classes::interrupts_after;
 use crate::output::output;
 use answers::signed;
 use registers::access::access;
@@ -8,9 +8,11 @@ use rules::Answer;
 use rules::Handler;
 use rules::Input;
 use rules::Interrupts;
+use rules::Links;
 use rules::Output;
 use rules::Refusal;
 use rules::Ticked;
+use samples::hear::hear;
 use samples::sample;
 use state::valid::is_valid;
 ghost use mathlib.Core.Path.{_≡_};
@@ -33,12 +35,12 @@ pub fn step(h: Handler, x: Input) -> Ticked
     ensures { λ r. ⌜ r ≡ tick h x ⌝ }
 {
     let sent = x.access;
-    let wires = x.sample;
     let accessed = access(h, sent);
     let g = accessed.handler;
     let answer = accessed.answer;
     let effects = accessed.effects;
-    let sampled = sample(g, wires, effects);
+    let heard = hear(g, x.sample, effects);
+    let sampled = sample(g, heard);
     let mut next = sampled.handler;
     let before = next.classes;
     let state = interrupts_after(before, next.interrupts.state, sampled.assigned);
@@ -53,6 +55,9 @@ pub fn step(h: Handler, x: Input) -> Ticked
     let interrupts = Interrupts { state, enable };
     next.interrupts = interrupts;
     let out = output(classes, state, enable);
+    let receivers = heard.receivers;
+    let links = Links { receivers };
+    next.links = links;
     Ticked {
         handler: next,
         answer,

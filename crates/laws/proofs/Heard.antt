@@ -1,14 +1,17 @@
 -- What step 2 hears, alert by alert and local alert by local alert.
 -- Assumes nothing.
 use Prim.Native.Nat.{ℕ, _*_, _≤_, _<_}
-use mathlib.Core.Path.{_≡_, _∙_}
+use mathlib.Core.Path.{_≡_, ap, _∙_}
+use mathlib.Core.Bool.{Bool, false, and-false, _&&_}
+use native.Mathlib.Omega.{arith}
 use borrow.Author.Tests.{le-ltb}
+use lib.Dec.{ltb}
 use Rattle.bits.specs.Bits.{bit}
 use Rattle.bits.specs.Index.{placeIn}
 use Rattle.bits.proofs.BitLaws.{bit-bitsOf}
 use Rattle.bits.proofs.WordLaws.{placeIn-each}
-use Rattle.rules.specs.Samples.{happened, rearmed, raised, heard}
-use Rattle.rules.specs.State.{words, localCount, armed}
+use Rattle.rules.specs.Samples.{alertEnabled, happened, rearmed, raised, heard, alertEvent}
+use Rattle.rules.specs.State.{most, words, localCount, armed}
 use Rattle.rules.specs.declared.Effects.{Effects}
 use Rattle.rules.specs.declared.Handler.{Handler}
 use Rattle.rules.specs.declared.Sample.{Sample}
@@ -30,3 +33,8 @@ module _ (g : Handler) (s : Sample) (fx : Effects) where
   pub heard-above : (i : ℕ) → g .n ≤ i → i < words * 64 → placeIn (heard g s fx .receivers .armed) i ≡ armed g i
   unfolding rearmed
   heard-above i l b = heard-armed i b ∙ rw (le-ltb i (g .n) l)
+
+  -- an alert without an event has none that is enabled
+  pub unheard : (i : ℕ) → i < most → happened g (s .alerts) i ≡ false → alertEvent g (heard g s fx) i ≡ false
+  unfolding alertEvent
+  unheard i l e = ap (λ (b : Bool). ltb i (g .n) && (b && alertEnabled g i)) (heard-event i (omega arith) ∙ e) ∙ and-false (ltb i (g .n))

@@ -27,6 +27,7 @@ pub mod StageContent
 pub mod BlockAnswers
 pub mod InterruptBits
 pub mod Arming
+pub mod AtRest
 pub mod Named
 pub mod Raises
 pub mod Runs

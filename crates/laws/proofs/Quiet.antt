@@ -1,12 +1,12 @@
--- A tick in which step 2 hears nothing and no clear is accepted; all wires at (0,1) and an accepted access make it so.
+-- A tick in which no enabled alert has an event, no local alert occurs and no clear is accepted.
 -- Assumes nothing.
 use Prim.Native.Nat.{ℕ, _≤_, _<_}
 use mathlib.Core.Path.{_≡_, refl, sym, ap, ap₂, _∙_}
-use mathlib.Core.Bool.{Bool, true, false, true≢false, false≢true, not, _&&_, _||_}
+use mathlib.Core.Bool.{Bool, true, false, true≢false, and-false, or-false, _&&_, _||_}
 use native.Mathlib.Omega.{arith}
 use borrow.Author.Tests.{ltb-true}
 use lib.Dec.{eqb, ltb}
-use Rattle.bits.proofs.BitLaws.{bit-none, is-bitsOf}
+use Rattle.bits.proofs.BitLaws.{is-bitsOf}
 use Rattle.bits.proofs.IndexLaws.{and-true, any-none}
 use Rattle.bits.specs.Bits.{bit}
 use Rattle.class_rules.specs.Class.{enabled, stateOf, stateNumber}
@@ -15,38 +15,30 @@ use Rattle.class_rules.specs.declared.Class.{Class}
 use Rattle.class_rules.specs.declared.ClassState.{ClassState}
 use Rattle.class_rules.specs.declared.ClassState.the-variants.{Idle}
 use Rattle.class_rules.specs.declared.Signals.{Signals}
-use Rattle.rules.specs.Access.{value, verdict, accepts, accepted, accessedBy, accessed, acted, effects, clears}
-use Rattle.rules.specs.Samples.{equal, negative, alertEnabled, happened, alertBroken, raised, heard, alertEvent, occurs, assigned, marked}
-use Rattle.rules.specs.State.{most, localCount, classCount, local, alert, armed, classAt}
+use Rattle.rules.specs.Access.{value, acted, effects, clears}
+use Rattle.rules.specs.Samples.{assigned, marked}
+use Rattle.rules.specs.State.{most, localCount, classCount, local, alert, classAt}
 use Rattle.rules.specs.Tick.{hears, event, interruptNow, signals, stepped, after}
 use Rattle.rules.specs.Valid.{valid}
-use Rattle.rules.specs.declared.Access.{Access}
 use Rattle.rules.specs.declared.Effects.{Effects}
 use Rattle.rules.specs.declared.Field.{Field}
 use Rattle.rules.specs.declared.Handler.{Handler}
 use Rattle.rules.specs.declared.Heard.{Heard}
 use Rattle.rules.specs.declared.Input.{Input}
 use Rattle.rules.specs.declared.Register.{Register}
-use Rattle.rules.specs.declared.Sample.{Sample}
 use Rattle.rules.specs.declared.Register.the-variants.{IntrState, Local, Alert, Block}
 use Rattle.rules.specs.declared.Setting.the-variants.{AccumCnt}
-use Rattle.rules.specs.declared.Verdict.{Verdict}
 use Rattle.laws.specs.Frame.{movesItself}
 use Rattle.laws.specs.InMap.{inMap}
-use Rattle.laws.specs.Quiet.{AtRest, Silent, runs}
+use Rattle.laws.specs.Quiet.{Silent, runs}
 use Rattle.laws.specs.RegisterFile.{commits}
 use Rattle.laws.proofs.Cases.{by-kind, by-field, by-setting}
 use Rattle.laws.proofs.Content.{acted-place}
 use Rattle.laws.proofs.Frame.{stepped-class, stepped-frame, after-value}
-use Rattle.laws.proofs.Heard.{heard-event, heard-raise}
 use Rattle.laws.proofs.KeepsAccess.{acted-valid}
 use Rattle.laws.proofs.RegisterFile.{acted-n, acted-other}
 use Rattle.laws.proofs.StateLaws.{alert-sampled, local-sampled}
 use Rattle.laws.proofs.ValidLaws.{facts}
-
-and-no : (b : Bool) → (b && false) ≡ false
-and-no true = refl
-and-no false = refl
 
 -- it is said not to run on, and does
 running : {A : Type 0} → true ≡ false → A
@@ -62,54 +54,16 @@ idles : (s : Signals) (c : Class) → s .event ≡ false → s .interrupt ≡ fa
 unfolding classStep movedFrom startsFrom stateOf
 idles s c x y d =
     ap (λ (m : ClassState). stateOf (stateNumber (movedFrom m s c .state))) d
-    ∙ simp (x, y, and-no (enabled c))
+    ∙ simp (x, y, and-false (enabled c))
 
--- ── no event, no equal wires, and nothing raised by step 1: step 2 hears nothing ──
+-- ── steps 2 to 4 of the state g, where nothing comes of what step 2 hears ──
 
-module _ (g : Handler) (s : Sample) (fx : Effects) (m : g .n ≤ most) (z : fx .raises ≡ 0) where
-  none-raised : ((i : ℕ) → i < most → alertBroken g (s .alerts) i ≡ false) → (j : ℕ) → raised g (s .alerts) fx j ≡ false
-  unfolding raised
-  none-raised b j =
-      ap₂ (λ (b c : Bool). (eqb j 2 && b) || c) (any-none (alertBroken g (s .alerts)) (g .n) (λ i l. b i (omega arith))) (ap (λ (x : ℕ). bit x j) z ∙ bit-none j)
-      ∙ ap (λ (b : Bool). b || false) (and-no (eqb j 2))
-
-  pub silent-by : ((i : ℕ) → i < most → happened g (s .alerts) i ≡ false) → ((i : ℕ) → i < most → alertBroken g (s .alerts) i ≡ false)
-      → Silent (heard g s fx)
-  silent-by a b =
-      record {
-        events = λ i l. heard-event g s fx i (omega arith) ∙ a i l;
-        raises = λ j l. heard-raise g s fx j l ∙ none-raised b j;
-      }
-
--- as with all wires at (0,1)
-module _ (g : Handler) (s : Sample) (r : AtRest (s .alerts)) where
-  none-happened : (i : ℕ) → i < most → happened g (s .alerts) i ≡ false
-  unfolding happened
-  none-happened i l =
-      ap (λ (b : Bool). ltb i (g .n) && (armed g i && (b && not (negative (s .alerts) i)))) (r .low i l)
-      ∙ ap (λ (b : Bool). ltb i (g .n) && b) (and-no (armed g i)) ∙ and-no (ltb i (g .n))
-
-  none-broken : (i : ℕ) → i < most → alertBroken g (s .alerts) i ≡ false
-  unfolding alertBroken
-  none-broken i l =
-      ap₂ (λ (b c : Bool). ltb i (g .n) && (equal b c && alertEnabled g i)) (r .low i l) (r .high i l) ∙ and-no (ltb i (g .n))
-
--- ── steps 2 to 4 of the state g, where step 2 hears nothing ──
-
-module _ (g : Handler) (v : Heard) (m : g .n ≤ most) (q : Silent v) where
-  pub no-event : (i : ℕ) → i < most → alertEvent g v i ≡ false
-  unfolding alertEvent
-  no-event i l = ap (λ (b : Bool). ltb i (g .n) && (b && alertEnabled g i)) (q .events i l) ∙ and-no (ltb i (g .n))
-
-  pub none-occurs : (j : ℕ) → j < localCount → occurs g v j ≡ false
-  unfolding occurs
-  none-occurs j l = ap (λ (b : Bool). b && eqb (local g Field.En j) 1) (q .raises j l)
-
+module _ (g : Handler) (v : Heard) (m : g .n ≤ most) (q : Silent g v) where
   pub none-assigned : (k : ℕ) → assigned g v k ≡ false
   unfolding assigned
   none-assigned k =
-      ap₂ _||_ (any-none _ (g .n) (λ i l. ap (λ (b : Bool). b && eqb (alert g Field.Class i) k) (no-event i (omega arith))))
-      (any-none _ localCount (λ j l. ap (λ (b : Bool). b && eqb (local g Field.Class j) k) (none-occurs j l)))
+      ap₂ _||_ (any-none _ (g .n) (λ i l. ap (λ (b : Bool). b && eqb (alert g Field.Class i) k) (q .alerts i (omega arith))))
+      (any-none _ localCount (λ j l. ap (λ (b : Bool). b && eqb (local g Field.Class j) k) (q .locals j l)))
 
   -- no class has an event
   pub quiet-event : (k : ℕ) → event g v k ≡ false
@@ -118,11 +72,7 @@ module _ (g : Handler) (v : Heard) (m : g .n ≤ most) (q : Silent v) where
 
   quiet-bit : (k : ℕ) → interruptNow g v k ≡ bit (g .interrupts .state) k
   unfolding interruptNow
-  quiet-bit k = ap (λ (b : Bool). bit (g .interrupts .state) k || b) (quiet-event k) ∙ or-no (bit (g .interrupts .state) k)
-    where
-      or-no : (b : Bool) → (b || false) ≡ b
-      or-no true = refl
-      or-no false = refl
+  quiet-bit k = ap (λ (b : Bool). bit (g .interrupts .state) k || b) (quiet-event k) ∙ or-false (bit (g .interrupts .state) k)
 
   module _ (fx : Effects) where
     quiet-state : g .interrupts .state < 16 → value (stepped g v fx) IntrState ≡ value g IntrState
@@ -131,11 +81,11 @@ module _ (g : Handler) (v : Heard) (m : g .n ≤ most) (q : Silent v) where
 
     quiet-cause : (i : ℕ) → i < most → value (stepped g v fx) (Alert Field.Cause i) ≡ value g (Alert Field.Cause i)
     unfolding stepped value
-    quiet-cause i l = alert-sampled g v Field.Cause i l ∙ ap (λ (b : Bool). marked b (alert g Field.Cause i)) (no-event i l)
+    quiet-cause i l = alert-sampled g v Field.Cause i l ∙ ap (λ (b : Bool). marked b (alert g Field.Cause i)) (q .alerts i l)
 
     quiet-local : (j : ℕ) → j < localCount → value (stepped g v fx) (Local Field.Cause j) ≡ value g (Local Field.Cause j)
     unfolding stepped value
-    quiet-local j l = local-sampled g v Field.Cause j l ∙ ap (λ (b : Bool). marked b (local g Field.Cause j)) (none-occurs j l)
+    quiet-local j l = local-sampled g v Field.Cause j l ∙ ap (λ (b : Bool). marked b (local g Field.Cause j)) (q .locals j l)
 
     quiet-count : (k : ℕ) → k < classCount → bit (fx .clears) k ≡ false → value (stepped g v fx) (Block AccumCnt k) ≡ value g (Block AccumCnt k)
     unfolding value classStep signals
@@ -171,25 +121,8 @@ module _ (g : Handler) (v : Heard) (m : g .n ≤ most) (q : Silent v) where
 
 -- ── the tick ──
 
--- an accepted access raises nothing
-accepted-raises : (h : Handler) (x : Access) → accepted h x ≡ true → effects h x .raises ≡ 0
-unfolding effects accessed
-accepted-raises h x e = go (verdict h x) e
-  where
-    go : (v : Verdict) → accepts v ≡ true → accessedBy v h x .effects .raises ≡ 0
-    go Verdict.Accepted e = refl
-    go (Verdict.Refused n) e = absurd (false≢true e)
-
--- so all wires at (0,1) and an accepted access make a silent tick
-pub rest-silent : (h : Handler) (x : Input) → valid h ≡ true → AtRest (x .sample .alerts) → accepted h (x .access) ≡ true → Silent (hears h x)
-unfolding hears
-rest-silent h x t r a =
-    let g : Handler = acted h (x .access) in
-    silent-by g (x .sample) (effects h (x .access)) (facts g (acted-valid h (x .access) t) .n) (accepted-raises h (x .access) a)
-    (none-happened g (x .sample) r) (none-broken g (x .sample) r)
-
 -- a silent tick that clears nothing
-module _ (h : Handler) (x : Input) (t : valid h ≡ true) (silent : Silent (hears h x))
+module _ (h : Handler) (x : Input) (t : valid h ≡ true) (silent : Silent (acted h (x .access)) (hears h x))
     (c : (k : ℕ) → k < classCount → clears h (x .access) k ≡ false) where
   abbrev g : Handler
   g = acted h (x .access)

@@ -1,18 +1,20 @@
 -- Which local alerts occur: 2 by equal wires and 5 by a write that differs from its stage, and no other.
 -- Assumes nothing.
-use Prim.Native.Nat.{ℕ, zero, suc, _^_, _<_}
-use mathlib.Core.Path.{_≡_, refl, ap, _∙_}
-use mathlib.Core.Bool.{Bool, true, false, cond, _&&_, _||_}
+use Prim.Native.Nat.{ℕ, zero, suc, _^_, _≤_, _<_}
+use mathlib.Core.Path.{_≡_, refl, ap, ap₂, _∙_}
+use mathlib.Core.Bool.{Bool, true, false, false≢true, and-false, cond, _&&_, _||_}
 use native.Mathlib.Omega.{arith}
 use lib.Dec.{eqb}
+use Rattle.bits.proofs.BitLaws.{bit-none}
 use Rattle.bits.proofs.IndexLaws.{any-none}
 use Rattle.bits.specs.Bits.{bit}
 use Rattle.bits.specs.Index.{anyTo}
-use Rattle.rules.specs.Access.{verdict, accessedBy, accessed, effects}
+use Rattle.rules.specs.Access.{verdict, accepts, accepted, accessedBy, accessed, effects}
 use Rattle.rules.specs.Answer.{refusalNumber}
 use Rattle.rules.specs.Samples.{alertBroken, raised, heard, occurs}
-use Rattle.rules.specs.State.{localCount, local}
+use Rattle.rules.specs.State.{most, localCount, local}
 use Rattle.rules.specs.declared.Access.{Access}
+use Rattle.rules.specs.declared.Effects.{Effects}
 use Rattle.rules.specs.declared.Field.{Field}
 use Rattle.rules.specs.declared.Handler.{Handler}
 use Rattle.rules.specs.declared.Heard.{Heard}
@@ -32,6 +34,29 @@ raises-either h x j P a b = go (verdict h x)
     go : (v : Verdict) → P (bit (accessedBy v h x .effects .raises) j)
     go Verdict.Accepted = a
     go (Verdict.Refused m) = at (eqb (refusalNumber m) 12)
+
+-- an accepted one raises none
+pub accepted-raises : (h : Handler) (x : Access) → accepted h x ≡ true → effects h x .raises ≡ 0
+unfolding effects accessed
+accepted-raises h x e = go (verdict h x) e
+  where
+    go : (v : Verdict) → accepts v ≡ true → accessedBy v h x .effects .raises ≡ 0
+    go Verdict.Accepted e = refl
+    go (Verdict.Refused n) e = absurd (false≢true e)
+
+-- ── no equal wires of an enabled alert, and nothing raised by step 1: no local alert occurs ──
+
+module _ (g : Handler) (s : Sample) (fx : Effects) (m : g .n ≤ most) (z : fx .raises ≡ 0)
+    (b : (i : ℕ) → i < most → alertBroken g (s .alerts) i ≡ false) where
+  none-raised : (j : ℕ) → raised g (s .alerts) fx j ≡ false
+  unfolding raised
+  none-raised j =
+      ap₂ (λ (b c : Bool). (eqb j 2 && b) || c) (any-none (alertBroken g (s .alerts)) (g .n) (λ i l. b i (omega arith))) (ap (λ (x : ℕ). bit x j) z ∙ bit-none j)
+      ∙ ap (λ (b : Bool). b || false) (and-false (eqb j 2))
+
+  pub none-occurs : (j : ℕ) → j < localCount → occurs g (heard g s fx) j ≡ false
+  unfolding occurs
+  none-occurs j l = ap (λ (b : Bool). b && eqb (local g Field.En j) 1) (heard-raise g s fx j l ∙ none-raised j)
 
 -- ── class k, by the state g after step 1 and the sample s ──
 

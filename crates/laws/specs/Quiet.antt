@@ -1,12 +1,11 @@
--- A tick with all wires at (0,1): which registers may still move by themselves.
+-- A tick of which nothing is heard: all wires at (0,1), what comes of it, and which registers may still move by themselves.
 -- Assumes nothing.
 use Prim.Native.Nat.{ℕ, _<_}
 use mathlib.Core.Path.{_≡_}
 use mathlib.Core.Bool.{Bool, true, false}
-use Rattle.bits.specs.Bits.{bit}
-use Rattle.bits.specs.Index.{placeIn}
-use Rattle.rules.specs.Samples.{positive, negative}
+use Rattle.rules.specs.Samples.{positive, negative, alertEvent, occurs}
 use Rattle.rules.specs.State.{most, localCount}
+use Rattle.rules.specs.declared.Handler.{Handler}
 use Rattle.rules.specs.declared.Heard.{Heard}
 use Rattle.rules.specs.declared.Register.{Register}
 use Rattle.rules.specs.declared.Register.the-variants.{IntrState, IntrEnable, IntrTest, Local, Alert, Block, Unassigned}
@@ -18,10 +17,10 @@ pub record AtRest (w : Wires) : Type 0 where
   pub low : (i : ℕ) → i < most → positive w i ≡ false
   pub high : (i : ℕ) → i < most → negative w i ≡ true
 
--- no alert has an event and no local alert is raised
-pub record Silent (v : Heard) : Type 0 where
-  pub events : (i : ℕ) → i < most → placeIn (v .events) i ≡ false
-  pub raises : (j : ℕ) → j < localCount → bit (v .raises) j ≡ false
+-- nothing comes of what step 2 hears: no enabled alert has an event, and no local alert occurs
+pub record Silent (g : Handler) (v : Heard) : Type 0 where
+  pub alerts : (i : ℕ) → i < most → alertEvent g v i ≡ false
+  pub locals : (j : ℕ) → j < localCount → occurs g v j ≡ false
 
 -- STATE, ESC_CNT and CLR_REGWEN: a class in Timeout or a phase moves without an event
 abbrev pub settingRuns : Setting → Bool

@@ -1,4 +1,6 @@
-// Masks: numbers with a bit for each class, line or local alert, 0 lowest.
+// Masks: numbers with a bit for each class, line or local alert, 0 lowest; and words with one for each of 64 alerts, alert 0 highest.
+pub mod places; // places.rt: the places of such a word
+
 ghost use mathlib.Core.Path.{_≡_};
 ghost use mathlib.Core.Bool.{_&&_};
 ghost use Prim.Native.Nat.{_<_, _≤_};

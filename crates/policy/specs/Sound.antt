@@ -1,6 +1,6 @@
 -- The test of a list of registers: written one after another and read back, none undoes or hinders another.
 -- Assumes nothing.
-use Prim.Native.Nat.{ℕ, _-_, _%_}
+use Prim.Native.Nat.{ℕ}
 use mathlib.Core.Bool.{Bool, true, false, cond, not, _&&_, _||_}
 use mathlib.Core.List.{List, [], _∷_}
 use lib.Dec.{eqb}
@@ -50,10 +50,9 @@ unfoldable pub free : Handler → List Entry → Bool
 free h [] = true
 free h (e ∷ es) = not (locked h (e .register)) && (not (unlike h (e .register) (e .value)) && free h es)
 
--- an entry's number: REGWEN, EN or CLASS of an alert below 58, or a register of a class's block that is not ACCUM_CNT
+-- an entry's number: REGWEN, EN or CLASS of an alert below 58, or a register of a class's block
 abbrev pub planned : ℕ → Bool
-planned r =
-    within 256 58 r || (within 512 58 r || (within 768 58 r || (within 1280 64 r && not (eqb ((r - 1280) % 16) 4))))
+planned r = within 256 58 r || (within 512 58 r || (within 768 58 r || within 1280 64 r))
 
 unfoldable pub allPlanned : List Entry → Bool
 allPlanned [] = true

@@ -1,4 +1,4 @@
--- Step 2 where no alert has an event or equal wires and step 1 raises nothing: arming moves, and nothing else.
+-- Step 2 where no alert has an event or equal wires and step 1 raises nothing: the links move, and nothing else.
 -- Assumes nothing.
 use Prim.Native.Nat.{ℕ, zero, suc, _/_, _%_, _-_, _≤_, _<_}
 use mathlib.Core.Path.{_≡_, refl, sym, ap, _∙_}
@@ -13,20 +13,23 @@ use Rattle.bits.specs.Index.{each, placeIn, wordsBy}
 use Rattle.bits.proofs.BitLaws.{bit-none, is-bitsOf}
 use Rattle.bits.proofs.IndexLaws.{and-true, is-each}
 use Rattle.bits.proofs.WordLaws.{placeIn-each}
-use Rattle.rules.specs.State.{most, words, localCount, local, alert, armed, withLocals, withAlerts, withLinks, withLocalColumn, withAlertColumn}
+use Rattle.rules.specs.State.{most, words, localCount, local, alert, withLocals, withAlerts, withLocalColumn, withAlertColumn}
 use Rattle.rules.specs.Samples.{equal, positive, negative, alertEnabled, happened, alertBroken, rearmed, heard, alertEvent, occurs, marked, sampled, assigned}
+use Rattle.rules.specs.Tick.{linksAfter}
 use Rattle.rules.specs.declared.Effects.{Effects}
 use Rattle.rules.specs.declared.Field.{Field}
 use Rattle.rules.specs.declared.Handler.{Handler}
 use Rattle.rules.specs.declared.Heard.{Heard}
+use Rattle.rules.specs.declared.Links.{Links}
 use Rattle.rules.specs.declared.Sample.{Sample}
-use Rattle.rules.specs.declared.Wires.{Wires}
 use Rattle.laws.specs.Quiet.{Silent}
-use Rattle.laws.proofs.Quiet.{silent-by, no-event, none-occurs, none-assigned}
-use Rattle.samples.specs.Rearmed.{noneSet, RearmedBy}
+use Rattle.laws.proofs.Heard.{unheard}
+use Rattle.laws.proofs.Quiet.{none-assigned}
+use Rattle.laws.proofs.Raises.{none-occurs}
+use Rattle.samples.specs.Linked.{noneSet, LinkedBy}
 use Rattle.samples.specs.Received.{ReceivedAll, happensAt, equalAt}
 use Rattle.samples.specs.Sampled.{SampledBy}
-use Rattle.samples.specs.declared.rearm.Rearmed.{Rearmed}
+use Rattle.samples.specs.declared.links.Linked.{Linked}
 use Rattle.samples.specs.declared.receive.Received.{Received}
 
 -- ── words with no place set ──
@@ -50,14 +53,15 @@ module _ (ws : List ℕ) (e : noneSet ws ≡ true) where
   rule-none : (f : ℕ → Bool) → ws ≡ wordsBy words f → (i : ℕ) → i < most → f i ≡ false
   rule-none f z i l = sym (placeIn-each words f i (omega arith)) ∙ ap (λ (xs : List ℕ). placeIn xs i) (sym z) ∙ place-none i l
 
--- what the wires tell is what arming alone promises
-pub rearmed-by : (n : ℕ) (armed : List ℕ) (w : Wires) (r : Received) (a b : Bool) → ReceivedAll n armed (w .pos) (w .neg) r
-    → a ≡ noneSet (r .events) → b ≡ noneSet (r .equal) → RearmedBy n armed w (record { armed = r .armed; quiet = a && b })
-rearmed-by n armed w r a b s x y =
+-- what the wires tell is what the links alone promise
+pub linked-by : (n : ℕ) (links : Links) (x : Sample) (r : Received) (a b : Bool) → ReceivedAll n (links .receivers .armed) (x .alerts .pos) (x .alerts .neg) r
+    → a ≡ noneSet (r .events) → b ≡ noneSet (r .equal)
+    → LinkedBy n links x (record { links = record { receivers = record { armed = r .armed } }; quiet = a && b })
+linked-by n links x r a b s y z =
     record {
       arms = s .arms;
-      no-event = λ q i l. rule-none (r .events) (sym x ∙ and-true a b q .0) (happensAt n armed (w .pos) (w .neg)) (s .happened) i l;
-      none-equal = λ q i l. rule-none (r .equal) (sym y ∙ and-true a b q .1) (equalAt n (w .pos) (w .neg)) (s .equals) i l;
+      no-event = λ q i l. rule-none (r .events) (sym y ∙ and-true a b q .0) (happensAt n (links .receivers .armed) (x .alerts .pos) (x .alerts .neg)) (s .happened) i l;
+      none-equal = λ q i l. rule-none (r .equal) (sym z ∙ and-true a b q .1) (equalAt n (x .alerts .pos) (x .alerts .neg)) (s .equals) i l;
     }
 
 -- ── the state after step 2 ──
@@ -68,8 +72,8 @@ and-none true false c e = refl
 and-none true true c e = absurd (true≢false e)
 and-none false b c e = refl
 
-module _ (g : Handler) (x : Sample) (fx : Effects) (r : Rearmed) (small : g .n ≤ most) (z : fx .raises ≡ 0)
-    (s : RearmedBy (g .n) (g .links .receivers .armed) (x .alerts) r) (q : r .quiet ≡ true) where
+module _ (g : Handler) (x : Sample) (fx : Effects) (r : Linked) (small : g .n ≤ most) (z : fx .raises ≡ 0) (s : LinkedBy (g .n) (g .links) x r)
+    (q : r .quiet ≡ true) where
   abbrev v : Heard
   v = heard g x fx
 
@@ -77,27 +81,30 @@ module _ (g : Handler) (x : Sample) (fx : Effects) (r : Rearmed) (small : g .n �
   unfolding alertBroken
   none-broken i l = and-none (ltb i (g .n)) (equal (positive (x .alerts) i) (negative (x .alerts) i)) (alertEnabled g i) (s .none-equal q i l)
 
-  -- step 2 hears nothing
-  silent : Silent v
+  -- nothing comes of what step 2 hears
+  silent : Silent g v
   unfolding happened
-  silent = silent-by g x fx small z (s .no-event q) none-broken
+  silent = record { alerts = λ i l. unheard g x fx i l (s .no-event q i l); locals = none-occurs g x fx small z none-broken }
 
   -- no cause is set
   alerts-same : length (g .alerts .cause) ≡ most → g .alerts .cause ≡ each most (λ i. marked (alertEvent g v i) (alert g Field.Cause i))
   alerts-same m =
-      is-each most (g .alerts .cause) _ 0 m (λ i l. sym (ap (λ (b : Bool). marked b (alert g Field.Cause i)) (no-event g v small silent i l)))
+      is-each most (g .alerts .cause) _ 0 m (λ i l. sym (ap (λ (b : Bool). marked b (alert g Field.Cause i)) (silent .alerts i l)))
 
   locals-same : length (g .locals .cause) ≡ localCount → g .locals .cause ≡ each localCount (λ j. marked (occurs g v j) (local g Field.Cause j))
   locals-same m =
-      is-each localCount (g .locals .cause) _ 0 m (λ j l. sym (ap (λ (b : Bool). marked b (local g Field.Cause j)) (none-occurs g v small silent j l)))
+      is-each localCount (g .locals .cause) _ 0 m (λ j l. sym (ap (λ (b : Bool). marked b (local g Field.Cause j)) (silent .locals j l)))
 
-  -- so the state with its arming alone anew is the sampled one, and nothing is assigned
-  pub quiet-sampled : length (g .alerts .cause) ≡ most → length (g .locals .cause) ≡ localCount
-      → SampledBy g x fx (record { handler = withLinks (record { receivers = record { armed = r .armed } }) g; assigned = 0 })
-  unfolding sampled heard rearmed
+  -- so the state is the sampled one, and nothing is assigned
+  pub quiet-sampled : length (g .alerts .cause) ≡ most → length (g .locals .cause) ≡ localCount → SampledBy g v (record { handler = g; assigned = 0 })
+  unfolding sampled
   quiet-sampled m k =
       record {
-        handler = λ t. withLinks (record { receivers = record { armed = s .arms t } })
-            (withAlerts (withAlertColumn Field.Cause (alerts-same m t) (g .alerts)) (withLocals (withLocalColumn Field.Cause (locals-same k t) (g .locals)) g));
+        handler = λ t. withAlerts (withAlertColumn Field.Cause (alerts-same m t) (g .alerts)) (withLocals (withLocalColumn Field.Cause (locals-same k t) (g .locals)) g);
         assigns = is-bitsOf 4 0 (assigned g v) (omega arith) (λ j l. bit-none j ∙ sym (none-assigned g v small silent j));
       }
+
+  -- and the links are those of what was heard
+  pub quiet-links : r .links ≡ linksAfter v
+  unfolding heard rearmed
+  quiet-links = ap (λ (a : List ℕ). record { receivers = record { armed = a } }) (s .arms)

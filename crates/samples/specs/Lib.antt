@@ -1,4 +1,4 @@
 pub mod Received
-pub mod Rearmed
+pub mod Linked
 pub mod Occurred
 pub mod Sampled

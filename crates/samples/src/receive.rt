@@ -1,5 +1,5 @@
 // Step 2, wire pairs and arming, 64 alerts at a time. Nothing here knows of EN or CLASS.
-use events::places::live;
+use masks::places::live;
 use rules::WORDS;
 ghost use Rattle.samples.specs.Received.{ReceivedWord, ReceivedAll};
 

@@ -41,8 +41,8 @@ input-at-requires c κs =
 quiet-of-requires : tie.Need-quiet-of-requires Inv-loop μ-loop
 quiet-of-requires c κs = let l = c .before .before .loop in few-alerts _ _ _ (c .before .before .before .before .before .before .pre .0) _ _ _ (l .inv .1)
 
-finish-requires : tie.Need-finish-requires Inv-loop μ-loop
-finish-requires c κs = search needs
+moved-by-requires : tie.Need-moved-by-requires Inv-loop μ-loop
+moved-by-requires c κs = search needs
 
 word-requires : tie.Need-word-requires Inv-loop μ-loop
 word-requires c κs = search needs
@@ -54,14 +54,19 @@ slice-write-out : tie.Need-slice-write-out Inv-loop μ-loop
 slice-write-out c = omega (arith, c .before .before .before .before .before .before .before .before .loop .inv .1 .same)
 
 add-i : tie.Need-add-i Inv-loop μ-loop
-add-i c = search needs
+add-i c =
+    let test = c .before .before .before .before .before .before .before .before .before .before in
+    let begin = test .before .before .before .before .before in
+    search (test .loop-test .taken, begin .pre .2, begin .good .1 .1 .1 .0 .1, needs)
 
 loop-less : tie.Need-loop-less Inv-loop μ-loop
 loop-less c = search needs
 
 loop-again : tie.Need-loop-again Inv-loop μ-loop
 loop-again c =
-    let quiet = c .before .before .before .before .before .before .before .before in
+    let word = c .before .before .before in
+    let end = word .before .before .moved-by in
+    let quiet = word .before .before .before .before .before in
     let input = quiet .before in
     let l = input .before .before .loop in
     let size = input .before .before .before .record-bytes in
@@ -69,10 +74,10 @@ loop-again c =
       omega arith,
       rw add-one
           (next-record (begin .args .edition) (begin .args .h) (begin .args .bytes .now) (begin .args .out .now) (begin .pre .0) (l .g) (l .out) (l .i) (l .inv .1) (omega arith) (omega arith)
-          _ (ended (l .g) (quiet .quiet-of .result .armed) (quiet .quiet-of .result .answer) (c .before .before .before .before .before .finish .result)) _ (input .input-at .ensures
+          _ (ended (l .g) (quiet .quiet-of .result .answer) (quiet .quiet-of .result .links) (end .result)) _ (input .input-at .ensures
           ∙ ap (λ (n : ℕ). inputOf (begin .args .edition) (take (recordBytes (begin .args .edition)) (drop (l .i * n) (begin .args .bytes .now)))) (size .ensures))
-          (ap (ended (l .g) (quiet .quiet-of .result .armed) (quiet .quiet-of .result .answer)) (c .before .before .before .before .before .finish .ensures) ∙ quiet .quiet-of .ensures (c .before .before .before .before .before .before .before .if1 .taken))
-          (c .before .before .before .word .ensures)),
+          (ap (ended (l .g) (quiet .quiet-of .result .answer) (quiet .quiet-of .result .links)) (end .ensures) ∙ quiet .quiet-of .ensures (word .before .before .before .before .if1 .taken))
+          (word .word .ensures)),
     )
 
 step-requires : tie.Need-step-requires Inv-loop μ-loop
@@ -127,7 +132,7 @@ run-records-spec =
     mul-input-at
     input-at-requires
     quiet-of-requires
-    finish-requires
+    moved-by-requires
     word-requires
     mul-out
     slice-write-out

@@ -17,18 +17,18 @@ use Rattle.events.proofs.gather.gather.Statement.{statement}
 use Rattle.events.proofs.gather.gather.Tie as tie
 
 abbrev Inv-loop2 : tie.InvT-loop2
-Inv-loop2 n events equal en class cause₀ hits₀ v left₀ cause hits left =
+Inv-loop2 n events en class cause₀ hits₀ v left₀ cause hits left =
     (i : ℕ) × Left (counted n events) v i left
     × ((before : List ℕ) → Noted (visited n events en) class before most (v * 64) cause₀ hits₀ → Noted (visited n events en) class before most i cause hits)
 
 abbrev μ-loop2 : tie.MeasureT-loop2
-μ-loop2 n events equal en class cause₀ hits₀ v left₀ cause hits left = left
+μ-loop2 n events en class cause₀ hits₀ v left₀ cause hits left = left
 
 abbrev Inv-loop : tie.InvT-loop
-Inv-loop n events equal en class cause₀ hits₀ v₀ cause hits v = (v ≤ words) × Noted (visited n events en) class cause₀ most (v * 64) cause hits
+Inv-loop n events en class cause₀ hits₀ v₀ cause hits v = (v ≤ words) × Noted (visited n events en) class cause₀ most (v * 64) cause hits
 
 abbrev μ-loop : tie.MeasureT-loop
-μ-loop n events equal en class cause₀ hits₀ v₀ cause hits v = words - v
+μ-loop n events en class cause₀ hits₀ v₀ cause hits v = words - v
 
 -- the alert whose turn it is is one of those below n, and the causes are as long as they were
 module _ (c : tie.After-first Inv-loop2 μ-loop2 Inv-loop μ-loop) where
@@ -124,16 +124,10 @@ loop-again c =
     let a = o .before .args in
     (search needs, rw add-one (noted-word (a .n) (a .events .now) (a .en .now) _ _ _ _ _ _ (l .1) _ _ (l .2 (a .before) (o .loop .inv .1)) (c .loop2-test .left)))
 
-any-broken-requires : tie.Need-any-broken-requires Inv-loop2 μ-loop2 Inv-loop μ-loop
-any-broken-requires c κs = search needs
-
 returns : tie.Need-returns Inv-loop2 μ-loop2 Inv-loop μ-loop
 returns c =
-    let a = c .before .before .before in
-    record {
-      noted = noted-cut (amongWords (a .args .events .now) (a .args .en .now)) _ _ _ _ _ _ _ (omega (arith, a .pre)) (c .before .before .loop .inv .1);
-      broke = c .any-broken .ensures;
-    }
+    let a = c .before .before in
+    noted-cut (amongWords (a .args .events .now) (a .args .en .now)) _ _ _ _ _ _ _ (omega (arith, a .pre)) (c .before .loop .inv .1)
 
 pub gather-spec : {M : Type 1} → statement M
 gather-spec =
@@ -163,5 +157,4 @@ gather-spec =
     add-v
     loop-less
     loop-again
-    any-broken-requires
     returns)

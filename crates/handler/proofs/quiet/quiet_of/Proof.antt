@@ -8,8 +8,8 @@ use Rattle.handler.proofs.Quiets.{quiet-tick}
 use Rattle.handler.proofs.quiet.quiet_of.Statement.{statement}
 use Rattle.handler.proofs.quiet.quiet_of.Tie as tie
 
-rearm-requires : tie.Need-rearm-requires
-rearm-requires c κs = search needs
+links-after-requires : tie.Need-links-after-requires
+links-after-requires c κs = search needs
 
 same-after-requires : tie.Need-same-after-requires
 same-after-requires c κs = search needs
@@ -25,7 +25,7 @@ returns : tie.Need-returns
 returns c =
     let r = c .before .before .before .before in
     let s = r .before .before in
-    λ t. quiet-tick (s .args .h) (s .args .x) _ _ _ (s .pre) (alerts-long (r .before)) (locals-long (r .before)) (r .rearm .ensures) (c .before .before .before .same-after .ensures) t
+    λ t. quiet-tick (s .args .h) (s .args .x) _ _ _ (s .pre) (alerts-long (r .before)) (locals-long (r .before)) (r .links-after .ensures) (c .before .before .before .same-after .ensures) t
 
 pub quiet-of-spec : {M : Type 1} → statement M
-quiet-of-spec = tie.close (tie.spec rearm-requires same-after-requires returns)
+quiet-of-spec = tie.close (tie.spec links-after-requires same-after-requires returns)
