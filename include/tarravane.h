@@ -67,6 +67,11 @@ struct tarravane_receivers {
     uint64_t armed[TARRAVANE_WORDS];
 };
 
+/* What stands between the wires and the registers. */
+struct tarravane_links {
+    struct tarravane_receivers receivers;
+};
+
 /* Entry i is alert i's. Entries at n and above are no registers: refusal 7 does not look at them, no call changes them. */
 struct tarravane_alerts {
     uint8_t regwen[TARRAVANE_ALERTS];
@@ -116,7 +121,7 @@ struct tarravane_stages {
 
 struct tarravane_handler {
     size_t n; /* alerts */
-    struct tarravane_receivers receivers;
+    struct tarravane_links links;
     struct tarravane_class classes[TARRAVANE_CLASSES];
     struct tarravane_alerts alerts;
     struct tarravane_locals locals;
@@ -126,12 +131,21 @@ struct tarravane_handler {
 
 /* ---- What goes in ---- */
 
-/* The wires of a tick: bit 63 - i % 64 of words i / 64 of pos and of neg is alert i's. Bits of alerts at n and above count
- * for nothing, nor do the last 8 places, 248 to 255. */
+/* The alerts' wires in a tick: bit 63 - i % 64 of words i / 64 of pos and of neg is alert i's. Bits of alerts at n and above
+ * count for nothing, nor do the last 8 places, 248 to 255. */
 struct tarravane_wires {
     uint64_t pos[TARRAVANE_WORDS];
     uint64_t neg[TARRAVANE_WORDS];
 };
+
+/* The sample of a tick: all that comes in beside the access. */
+struct tarravane_sample {
+    struct tarravane_wires alerts;
+};
+
+/* A sample at rest, to initialise one or a constant: all wires at (0,1). Start from it and set what is not at rest: a caller
+ * who does needs no change when inputs join, as they are at rest there. */
+#define TARRAVANE_SAMPLE_AT_REST {{{0, 0, 0, 0}, {UINT64_MAX, UINT64_MAX, UINT64_MAX, UINT64_MAX}}}
 
 /* ---- What comes back ---- */
 
@@ -257,14 +271,15 @@ struct tarravane_installed {
  * -6: n is 0 or over 248. It leaves a handler of no alerts, otherwise as new. */
 struct tarravane_made tarravane_new(size_t n);
 
-/* Runs one tick of the state h and gives the state after it, the answer to the access, and the outputs.
+/* Runs one tick of the state h, with the access and the sample, and gives the state after it, the answer to the access, and
+ * the outputs.
  * The access: kind TARRAVANE_NONE (register and value are not looked at), TARRAVANE_READ (value is not looked at) or
  * TARRAVANE_WRITE.
  * -7: the state breaks its rule. State unchanged, tick not run, interrupts and lines 0.
  * -5 (kind over 2), -1, -2, -4, -14, -3, -12, in this order: no register is changed by the access; the tick runs with its
- * samples. -3 and -12 drop the stage of the register that is named, the others touch none. */
+ * sample. -3 and -12 drop the stage of the register that is named, the others touch none. */
 struct tarravane_answered tarravane_tick(struct tarravane_handler h, uint8_t kind, uint16_t register_number,
-                                         uint32_t value, struct tarravane_wires wires);
+                                         uint32_t value, struct tarravane_sample sample);
 
 /* Runs a tick for each record of 70 bytes, one after another from the state h, and writes a word for each at its place in
  * out: bits 63 to 60 interrupts (class 0 first), 59 to 56 lines (line 0 first), 55 to 52 the refusal number or 0, then 20
@@ -329,6 +344,9 @@ TARRAVANE_ASSERT(offsetof(struct tarravane_class, thresh) == 28);
 TARRAVANE_ASSERT(offsetof(struct tarravane_class, regwen) == 30);
 TARRAVANE_ASSERT(offsetof(struct tarravane_class, clrwen) == 31);
 TARRAVANE_ASSERT(offsetof(struct tarravane_class, state) == 32);
+TARRAVANE_ASSERT(sizeof(struct tarravane_receivers) == 32);
+TARRAVANE_ASSERT(sizeof(struct tarravane_links) == 32);
+TARRAVANE_ASSERT(offsetof(struct tarravane_links, receivers) == 0);
 TARRAVANE_ASSERT(sizeof(struct tarravane_alerts) == 992);
 TARRAVANE_ASSERT(offsetof(struct tarravane_alerts, en) == 248);
 TARRAVANE_ASSERT(offsetof(struct tarravane_alerts, class_of) == 496);
@@ -354,7 +372,7 @@ TARRAVANE_ASSERT(offsetof(struct tarravane_stages, alerts) == 192);
 TARRAVANE_ASSERT(offsetof(struct tarravane_stages, locals) == 688);
 TARRAVANE_ASSERT(sizeof(struct tarravane_handler) == 1912);
 TARRAVANE_ASSERT(offsetof(struct tarravane_handler, n) == 0);
-TARRAVANE_ASSERT(offsetof(struct tarravane_handler, receivers) == 8);
+TARRAVANE_ASSERT(offsetof(struct tarravane_handler, links) == 8);
 TARRAVANE_ASSERT(offsetof(struct tarravane_handler, classes) == 40);
 TARRAVANE_ASSERT(offsetof(struct tarravane_handler, alerts) == 184);
 TARRAVANE_ASSERT(offsetof(struct tarravane_handler, locals) == 1176);
@@ -362,6 +380,8 @@ TARRAVANE_ASSERT(offsetof(struct tarravane_handler, interrupts) == 1204);
 TARRAVANE_ASSERT(offsetof(struct tarravane_handler, stages) == 1208);
 TARRAVANE_ASSERT(sizeof(struct tarravane_wires) == 64);
 TARRAVANE_ASSERT(offsetof(struct tarravane_wires, neg) == 32);
+TARRAVANE_ASSERT(sizeof(struct tarravane_sample) == 64);
+TARRAVANE_ASSERT(offsetof(struct tarravane_sample, alerts) == 0);
 TARRAVANE_ASSERT(sizeof(struct tarravane_output) == 2);
 TARRAVANE_ASSERT(offsetof(struct tarravane_output, lines) == 1);
 TARRAVANE_ASSERT(sizeof(struct tarravane_made) == 1920);

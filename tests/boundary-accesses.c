@@ -31,7 +31,7 @@ static handler told_apart(void) {
     }
     h.interrupts.state = 0x6;
     h.interrupts.enable = 0xD;
-    for (unsigned v = 0; v < TARRAVANE_WORDS; v++) h.receivers.armed[v] = UINT64_C(0x0123456789ABCDEF) * (v + 1);
+    for (unsigned v = 0; v < TARRAVANE_WORDS; v++) h.links.receivers.armed[v] = UINT64_C(0x0123456789ABCDEF) * (v + 1);
     /* The largest value staged, which no read shows. */
     for (int i = 0; i < SHADOWED; i++) set_stage(&h, &all_shadowed()[i], UINT64_C(1) << all_shadowed()[i].bits);
     return h;
@@ -105,13 +105,13 @@ static void wires(void) {
     for (int i = 0; i < TARRAVANE_ALERTS; i++) {
         uint64_t one = UINT64_C(1) << (63 - i % 64);
         struct tarravane_answered t = tarravane_tick(h, TARRAVANE_NONE, 0, 0, raised(i));
-        bool armed = (h.receivers.armed[i / 64] & one) != 0;
+        bool armed = (h.links.receivers.armed[i / 64] & one) != 0;
         for (int m = 0; m < TARRAVANE_ALERTS; m++)
             CHECK(t.handler.alerts.cause[m] == (m == i && armed && h.alerts.en[i] == 1));
         for (int v = 0; v < TARRAVANE_WORDS; v++) {
             uint64_t wanted = v == i / 64 ? ~one : UINT64_MAX;
-            if (v == TARRAVANE_WORDS - 1) wanted = (wanted & ~UINT64_C(255)) | (h.receivers.armed[v] & 255);
-            CHECK(t.handler.receivers.armed[v] == wanted);
+            if (v == TARRAVANE_WORDS - 1) wanted = (wanted & ~UINT64_C(255)) | (h.links.receivers.armed[v] & 255);
+            CHECK(t.handler.links.receivers.armed[v] == wanted);
         }
     }
 }
@@ -127,7 +127,7 @@ static void making(void) {
         CHECK(read_of(&h, TARRAVANE_ALERT_REGWEN((int)n)) == -TARRAVANE_NO_REGISTER);
         for (size_t i = 0; i < TARRAVANE_ALERTS; i++)
             CHECK(h.alerts.regwen[i] == 1 && h.alerts.en[i] + h.alerts.class_of[i] + h.alerts.cause[i] == 0);
-        for (int v = 0; v < TARRAVANE_WORDS; v++) CHECK(h.receivers.armed[v] == UINT64_MAX);
+        for (int v = 0; v < TARRAVANE_WORDS; v++) CHECK(h.links.receivers.armed[v] == UINT64_MAX);
         for (int i = 0; i < SHADOWED; i++) CHECK(stage_of(&h, &all_shadowed()[i]) == 0);
     }
     handler none = new_handler(1);
@@ -152,14 +152,15 @@ static void answers(void) {
     CHECK(write_of(&h, TARRAVANE_CLASS_ACCUM_CNT(0), 0) == -TARRAVANE_WRONG_WAY);
     for (size_t i = 0; i < sizeof none / sizeof *none; i++) CHECK(write_of(&h, none[i], 0) == -TARRAVANE_NO_REGISTER);
     CHECK(configure(&h, TARRAVANE_ALERT_EN(0), 1) == 0);
+    struct tarravane_sample all_raised = sample_of(wires_of(UINT64_MAX, 0));
     for (unsigned kind = 3; kind < 256; kind++) {
-        struct tarravane_answered t = tarravane_tick(h, (uint8_t)kind, TARRAVANE_CLASS_CTRL(1), 1, wires_of(UINT64_MAX, 0));
+        struct tarravane_answered t = tarravane_tick(h, (uint8_t)kind, TARRAVANE_CLASS_CTRL(1), 1, all_raised);
         CHECK(t.answer == -TARRAVANE_BAD_RECORD);
         CHECK(t.handler.alerts.cause[0] == 1); /* the tick runs */
         CHECK(t.handler.classes[1].ctrl == 0x393C);
     }
-    CHECK(tarravane_tick(h, TARRAVANE_NONE, 2047, 9, REST).answer == 0);
-    CHECK(tarravane_tick(h, TARRAVANE_READ, TARRAVANE_CLASS_CTRL(1), 9, REST).answer == 0x393C);
+    CHECK(tarravane_tick(h, TARRAVANE_NONE, 2047, 9, at_rest).answer == 0);
+    CHECK(tarravane_tick(h, TARRAVANE_READ, TARRAVANE_CLASS_CTRL(1), 9, at_rest).answer == 0x393C);
 }
 
 void test_accesses(void) {

@@ -61,7 +61,7 @@ static uint32_t largest(const struct shadowed *s) {
 
 /* A read that is a tick of the state. */
 static int64_t read_tick(handler *h, int number) {
-    struct tarravane_answered t = tarravane_tick(*h, TARRAVANE_READ, (uint16_t)number, 0, REST);
+    struct tarravane_answered t = tarravane_tick(*h, TARRAVANE_READ, (uint16_t)number, 0, at_rest);
     *h = t.handler;
     return t.answer;
 }
@@ -140,7 +140,7 @@ static handler with_local_5(void) {
 static void local_5(void) {
     handler h = with_local_5();
     CHECK(write_of(&h, TARRAVANE_ALERT_EN(0), 1) == 0);
-    struct tarravane_answered t = tarravane_tick(h, TARRAVANE_WRITE, TARRAVANE_ALERT_EN(0), 0, REST);
+    struct tarravane_answered t = tarravane_tick(h, TARRAVANE_WRITE, TARRAVANE_ALERT_EN(0), 0, at_rest);
     CHECK(t.answer == -TARRAVANE_DIFFERS);
     for (int j = 0; j < TARRAVANE_LOCALS; j++) CHECK(t.handler.locals.cause[j] == (j == 5));
     CHECK(t.output.interrupts == 4 && t.output.lines == 1);
@@ -150,7 +150,7 @@ static void local_5(void) {
     CHECK(t.handler.stages.alerts.en[0] == 1);
     /* Its own EN is the one before the differing write, which commits nothing. */
     h.stages.locals.en[5] = 1;
-    t = tarravane_tick(h, TARRAVANE_WRITE, TARRAVANE_LOC_ALERT_EN(5), 1, REST);
+    t = tarravane_tick(h, TARRAVANE_WRITE, TARRAVANE_LOC_ALERT_EN(5), 1, at_rest);
     CHECK(t.answer == -TARRAVANE_DIFFERS && t.handler.locals.cause[5] == 1);
 }
 

@@ -4,7 +4,7 @@
 static void refused(const handler *h) {
     static const uint8_t record[TARRAVANE_RECORD_70];
     uint64_t word = 7;
-    struct tarravane_answered t = tarravane_tick(*h, TARRAVANE_READ, TARRAVANE_INTR_STATE, 0, REST);
+    struct tarravane_answered t = tarravane_tick(*h, TARRAVANE_READ, TARRAVANE_INTR_STATE, 0, at_rest);
     CHECK(t.answer == -TARRAVANE_BAD_STATE);
     CHECK(t.output.interrupts == 0 && t.output.lines == 0);
     CHECK(same(&t.handler, h));
@@ -19,7 +19,7 @@ static void refused(const handler *h) {
 }
 
 static void accepted(const handler *h) {
-    CHECK(tarravane_tick(*h, TARRAVANE_NONE, 0, 0, REST).answer == 0);
+    CHECK(tarravane_tick(*h, TARRAVANE_NONE, 0, 0, at_rest).answer == 0);
 }
 
 /* A register of 8 bits that fits its first `bits`: each bit above them is refused, what fits is not. */
@@ -123,9 +123,9 @@ static void entries_above(size_t n) {
         h.stages.alerts.en[i] = h.stages.alerts.class_of[i] = 0xA5;
     }
     handler wanted = h;
-    for (size_t i = 0; i < n; i++) wanted.receivers.armed[i / 64] &= ~(UINT64_C(1) << (63 - i % 64));
+    for (size_t i = 0; i < n; i++) wanted.links.receivers.armed[i / 64] &= ~(UINT64_C(1) << (63 - i % 64));
     struct tarravane_answered t =
-        tarravane_tick(h, TARRAVANE_WRITE, (uint16_t)TARRAVANE_ALERT_EN(n), 1, wires_of(UINT64_MAX, 0));
+        tarravane_tick(h, TARRAVANE_WRITE, (uint16_t)TARRAVANE_ALERT_EN(n), 1, sample_of(wires_of(UINT64_MAX, 0)));
     CHECK(t.answer == -TARRAVANE_NO_REGISTER);
     CHECK(same(&t.handler, &wanted));
 }

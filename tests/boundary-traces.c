@@ -39,7 +39,7 @@ static bool malformed(const struct edition *e, uint64_t first) {
 }
 
 static struct access access_at(const struct edition *e, const uint8_t *record) {
-    struct access a;
+    struct access a = {.sample = at_rest};
     uint64_t first = number_at(record, 8);
     unsigned number = ((unsigned)(first >> 32) & 0x3FFFFFFF) >> e->zeros;
     a.kind = malformed(e, first) ? 3 : (uint8_t)(first >> 62);
@@ -47,8 +47,8 @@ static struct access access_at(const struct edition *e, const uint8_t *record) {
     a.value = (uint32_t)first;
     for (size_t v = 0; v < TARRAVANE_WORDS; v++) {
         size_t left = e->wire_bytes > 8 * v ? e->wire_bytes - 8 * v : 0;
-        a.wires.pos[v] = number_at(record + 8 + 8 * v, left);
-        a.wires.neg[v] = number_at(record + 8 + e->wire_bytes + 8 * v, left);
+        a.sample.alerts.pos[v] = number_at(record + 8 + 8 * v, left);
+        a.sample.alerts.neg[v] = number_at(record + 8 + e->wire_bytes + 8 * v, left);
     }
     return a;
 }
@@ -155,7 +155,7 @@ static void written_again(const struct edition *e, const handler *before, const 
 static handler tick_by_tick(const struct edition *e, handler h, const uint8_t *records, const uint64_t *words, size_t count) {
     for (size_t i = 0; i < count; i++) {
         struct access a = access_at(e, records + i * e->bytes);
-        struct tarravane_answered t = tarravane_tick(h, a.kind, a.number, a.value, a.wires);
+        struct tarravane_answered t = tarravane_tick(h, a.kind, a.number, a.value, a.sample);
         word_says(words[i], &t);
         written_again(e, &h, records + i * e->bytes, words[i]);
         h = t.handler;

@@ -39,7 +39,7 @@ static int64_t recorded(const struct entries *e, uint8_t *bytes, size_t length) 
 
 int64_t written(const struct access *a, uint8_t record[RECORD]) {
     struct entries e = {0};
-    add(&e, a->kind, a->number, a->value, a->wires);
+    add(&e, a->kind, a->number, a->value, a->sample.alerts);
     return recorded(&e, record, RECORD);
 }
 
@@ -86,7 +86,7 @@ static void keeps(const struct entries *e, size_t length, int refusal) {
 static struct entries sound(void) {
     struct entries e = {0};
     uint64_t pos = UINT64_C(0x0123456789ABCDEF), neg = UINT64_C(0xFEDCBA9876543211);
-    add(&e, TARRAVANE_NONE, 0, 0, REST);
+    add(&e, TARRAVANE_NONE, 0, 0, at_rest.alerts);
     add(&e, TARRAVANE_NONE, 0, 0, wires_of(UINT64_MAX, 0));
     add(&e, TARRAVANE_READ, 0, 0, wires_apart(1, 2));
     add(&e, TARRAVANE_READ, LARGEST, 0, wires_apart(pos, neg));
@@ -112,8 +112,8 @@ static void unheld(unsigned kind, unsigned number, uint32_t value) {
     for (size_t at = 0; at < 3; at++) {
         struct entries e = {0};
         for (size_t i = 0; i < 3; i++)
-            if (i == at) add(&e, kind, number, value, REST);
-            else add(&e, TARRAVANE_READ, TARRAVANE_CLASS_CTRL(0), 0, REST);
+            if (i == at) add(&e, kind, number, value, at_rest.alerts);
+            else add(&e, TARRAVANE_READ, TARRAVANE_CLASS_CTRL(0), 0, at_rest.alerts);
         keeps(&e, 3 * RECORD, TARRAVANE_NO_RECORD);
         keeps(&e, 3 * RECORD - 1, TARRAVANE_NO_RECORD);
         keeps(&e, 0, TARRAVANE_NO_RECORD);
@@ -166,8 +166,8 @@ static void single_bits(void) {
         pos.pos[place / 64] = neg.neg[place / 64] = UINT64_C(1) << (63 - place % 64);
         add(&e, TARRAVANE_NONE, 0, 0, pos);
         add(&e, TARRAVANE_NONE, 0, 0, neg);
-        if (place < 32) add(&e, TARRAVANE_WRITE, 0, UINT32_C(1) << place, REST);
-        if (place < 11) add(&e, TARRAVANE_READ, 1u << place, 0, REST);
+        if (place < 32) add(&e, TARRAVANE_WRITE, 0, UINT32_C(1) << place, at_rest.alerts);
+        if (place < 11) add(&e, TARRAVANE_READ, 1u << place, 0, at_rest.alerts);
         writes(&e, e.count * RECORD);
     }
 }
@@ -186,7 +186,7 @@ static void read_back(size_t alerts) {
         struct tarravane_wires w;
         memcpy(w.pos, &e.positive[i * TARRAVANE_WORDS], sizeof w.pos);
         memcpy(w.neg, &e.negative[i * TARRAVANE_WORDS], sizeof w.neg);
-        struct tarravane_answered t = tarravane_tick(h, e.kinds[i], e.registers[i], e.values[i], w);
+        struct tarravane_answered t = tarravane_tick(h, e.kinds[i], e.registers[i], e.values[i], sample_of(w));
         word_says(words[i], &t);
         h = t.handler;
     }

@@ -33,11 +33,19 @@ struct tarravane_wires wires_apart(uint64_t pos, uint64_t neg) {
     return w;
 }
 
-struct tarravane_wires raised(int i) {
-    struct tarravane_wires w = REST;
-    w.pos[i / 64] = UINT64_C(1) << (63 - i % 64);
-    w.neg[i / 64] = ~w.pos[i / 64];
-    return w;
+const struct tarravane_sample at_rest = TARRAVANE_SAMPLE_AT_REST;
+
+struct tarravane_sample sample_of(struct tarravane_wires alerts) {
+    struct tarravane_sample s = at_rest;
+    s.alerts = alerts;
+    return s;
+}
+
+struct tarravane_sample raised(int i) {
+    struct tarravane_sample s = at_rest;
+    s.alerts.pos[i / 64] = UINT64_C(1) << (63 - i % 64);
+    s.alerts.neg[i / 64] = ~s.alerts.pos[i / 64];
+    return s;
 }
 
 static bool same_class(const struct tarravane_class *a, const struct tarravane_class *b) {
@@ -54,7 +62,7 @@ static bool same_stages(const struct tarravane_stages *a, const struct tarravane
 bool same(const handler *a, const handler *b) {
     for (int k = 0; k < TARRAVANE_CLASSES; k++)
         if (!same_class(&a->classes[k], &b->classes[k])) return false;
-    return a->n == b->n && memcmp(&a->receivers, &b->receivers, sizeof a->receivers) == 0 &&
+    return a->n == b->n && memcmp(&a->links, &b->links, sizeof a->links) == 0 &&
            memcmp(&a->alerts, &b->alerts, sizeof a->alerts) == 0 && memcmp(&a->locals, &b->locals, sizeof a->locals) == 0 &&
            a->interrupts.state == b->interrupts.state && a->interrupts.enable == b->interrupts.enable &&
            same_stages(&a->stages, &b->stages);
@@ -68,12 +76,12 @@ handler new_handler(size_t n) {
 }
 
 int64_t read_of(const handler *h, int number) {
-    struct tarravane_answered t = tarravane_tick(*h, TARRAVANE_READ, (uint16_t)number, 0, REST);
+    struct tarravane_answered t = tarravane_tick(*h, TARRAVANE_READ, (uint16_t)number, 0, at_rest);
     return t.answer;
 }
 
 int64_t write_of(handler *h, int number, uint32_t value) {
-    struct tarravane_answered t = tarravane_tick(*h, TARRAVANE_WRITE, (uint16_t)number, value, REST);
+    struct tarravane_answered t = tarravane_tick(*h, TARRAVANE_WRITE, (uint16_t)number, value, at_rest);
     *h = t.handler;
     return t.answer;
 }

@@ -16,17 +16,21 @@ typedef struct tarravane_handler handler;
 void check_at(bool holds, const char *fact, const char *file, int line);
 #define CHECK(fact) check_at((fact), #fact, __FILE__, __LINE__)
 
-/* ---- Wires ---- */
+/* ---- Wires and samples ---- */
 
 /* The same bits in every word. */
 struct tarravane_wires wires_of(uint64_t pos, uint64_t neg);
-#define REST wires_of(0, UINT64_MAX) /* all wires at (0,1) */
 
 /* Other bits in every word. */
 struct tarravane_wires wires_apart(uint64_t pos, uint64_t neg);
 
+extern const struct tarravane_sample at_rest;
+
+/* The alerts' wires, and every other input at rest. */
+struct tarravane_sample sample_of(struct tarravane_wires alerts);
+
 /* Alert i at (1,0), the others at (0,1). */
-struct tarravane_wires raised(int i);
+struct tarravane_sample raised(int i);
 
 /* ---- States and ticks ---- */
 
@@ -86,7 +90,7 @@ struct access {
     uint8_t kind;
     uint16_t number;
     uint32_t value;
-    struct tarravane_wires wires;
+    struct tarravane_sample sample;
 };
 
 /* The writer's bytes of one access, or its refusal. */

@@ -22,7 +22,7 @@ static uint8_t kinds[RECORDS];
 static uint16_t registers[RECORDS];
 static uint32_t values[RECORDS];
 static uint64_t positive[RECORDS * TARRAVANE_WORDS], negative[RECORDS * TARRAVANE_WORDS];
-static struct tarravane_wires wires;
+static struct tarravane_sample sample = TARRAVANE_SAMPLE_AT_REST;
 static size_t entries;
 
 /* A call takes its argument of 1912 bytes and its result from the caller's frame: both are counted. */
@@ -37,7 +37,7 @@ static void call_new(void)
 static void call_tick(void)
 {
     NOTE_FRAME();
-    state = tarravane_tick(state, kinds[0], registers[0], values[0], wires).handler;
+    state = tarravane_tick(state, kinds[0], registers[0], values[0], sample).handler;
 }
 
 static void call_batch_24(void)
@@ -121,8 +121,8 @@ static void draw_input(void)
         positive[i] = next_random();
         negative[i] = ~positive[i] ^ (next_random() & next_random() & next_random());
     }
-    memcpy(wires.pos, positive, sizeof wires.pos);
-    memcpy(wires.neg, negative, sizeof wires.neg);
+    memcpy(sample.alerts.pos, positive, sizeof sample.alerts.pos);
+    memcpy(sample.alerts.neg, negative, sizeof sample.alerts.neg);
 }
 
 /* A state of up to so many alerts, in every second round with the access made before, so that a write finds its stage; in the
@@ -133,7 +133,7 @@ static void draw_state(int round, size_t alerts)
         return;
     state = tarravane_new(1 + next_random() % alerts).handler;
     if (round % 2 == 1)
-        state = tarravane_tick(state, kinds[0], registers[0], values[0] ^ (uint32_t)(next_random() % 2), wires).handler;
+        state = tarravane_tick(state, kinds[0], registers[0], values[0] ^ (uint32_t)(next_random() % 2), sample).handler;
 }
 
 /* Records of 24 bytes of the accesses, with document 01's numbers; those of 70 the library writes. */

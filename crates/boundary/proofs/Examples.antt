@@ -23,7 +23,7 @@ use Rattle.rules.specs.declared.Edition.{Edition}
 use Rattle.rules.specs.declared.Field.{Field}
 use Rattle.rules.specs.declared.Handler.{Handler}
 use Rattle.rules.specs.declared.Made.{Made}
-use Rattle.rules.specs.declared.Wires.{Wires}
+use Rattle.rules.specs.declared.Sample.{Sample}
 
 -- ── kinds: 0 none, 1 read, 2 write, any other a malformed record; what the kind does not use is not looked at ──
 
@@ -45,23 +45,23 @@ too-many r e = (ap (λ (x : Made). x .answer) e, ap (λ (x : Made). x .handler) 
 
 -- ── a tick: r is what the call gives back ──
 
-abbrev tick : Handler → ℕ → ℕ → ℕ → Wires → Answered
-tick h kind register value wires = answered (ticked h (inputBy kind register value wires))
+abbrev tick : Handler → ℕ → ℕ → ℕ → Sample → Answered
+tick h kind register value sample = answered (ticked h (inputBy kind register value sample))
 
 abbrev ones : ℕ
 ones = 2 ^ 64 - 1
 
 -- all wires at (0,1)
-abbrev rest : Wires
-rest = record { pos = replicate 4 0; neg = replicate 4 ones }
+abbrev rest : Sample
+rest = record { alerts = record { pos = replicate 4 0; neg = replicate 4 ones } }
 
 -- the wire of alert i in words of 64, alert 0 the highest bit of the first
 abbrev wire : ℕ → List ℕ
 wire i = unpack (replicate 4 64) (2 ^ (255 - i))
 
 -- alert i at (1,0), the others at (0,1)
-abbrev high : ℕ → Wires
-high i = record { pos = wire i; neg = unpack (replicate 4 64) (2 ^ 256 - 1 - 2 ^ (255 - i)) }
+abbrev high : ℕ → Sample
+high i = record { alerts = record { pos = wire i; neg = unpack (replicate 4 64) (2 ^ 256 - 1 - 2 ^ (255 - i)) } }
 
 -- alerts 0 and 247 enabled in class 2, which has EN, all lines and threshold 0
 abbrev watching : Handler
@@ -90,7 +90,7 @@ module _ (r : Answered) where
     ap (λ (x : Answered). x .output .lines) e,
   )
 
-  swapped : r ≡ tick watching 0 0 0 (record { pos = high 247 .neg; neg = high 247 .pos }) → alert (r .handler) Field.Cause 247 ≡ 0
+  swapped : r ≡ tick watching 0 0 0 (record { alerts = record { pos = high 247 .alerts .neg; neg = high 247 .alerts .pos } }) → alert (r .handler) Field.Cause 247 ≡ 0
   unfolding rules answered
   swapped e = ap (λ (x : Answered). alert (x .handler) Field.Cause 247) e
 

@@ -12,7 +12,6 @@ use rules::Handler;
 use rules::Input;
 use rules::Made;
 use rules::Sample;
-use rules::Wires;
 use state::new::new;
 use trace::record::access_of;
 use writer::write;
@@ -48,22 +47,19 @@ pub extern "C" fn tarravane_new(n: usize) -> Made
     new(n)
 }
 
-// One tick of any state.
+// One tick of any state, with what comes in on the wires.
 #[no_mangle]
 pub extern "C" fn tarravane_tick(
     h: Handler,
     kind: u8,
     register: u16,
     value: u32,
-    wires: Wires,
+    sample: Sample,
 ) -> Answered
-    ensures { λ r. ⌜ r ≡ answered (ticked h (inputBy kind register value wires)) ⌝ }
+    ensures { λ r. ⌜ r ≡ answered (ticked h (inputBy kind register value sample)) ⌝ }
 {
     let access = access_by(kind, register, value);
-    let input = Input {
-        access,
-        sample: Sample { alerts: wires },
-    };
+    let input = Input { access, sample };
     tick(h, input)
 }
 

@@ -1,6 +1,6 @@
 //! The accesses of a boot, for tools that write it as a trace. The library has its own, proved plan and asks nothing here.
 use crate::alert_names::ALERT_NAMES;
-use crate::input::{Access, Input, Wires};
+use crate::input::{Access, Input, Sample};
 use crate::registers::{Field, Register, Setting, MAP};
 use crate::state::{Class, Handler, CLASSES};
 
@@ -67,7 +67,7 @@ pub fn inputs((register, value): Entry) -> Vec<Input> {
     accesses.push(Access::Read(number));
     let at_rest = |access| Input {
         access,
-        wires: Wires::REST,
+        sample: Sample::AT_REST,
     };
     accesses.into_iter().map(at_rest).collect()
 }

@@ -1,5 +1,6 @@
 //! What goes into a tick.
 use crate::state::WORDS;
+use std::mem::{offset_of, size_of};
 
 /// The access of a tick.
 #[derive(Clone, Copy, Debug, PartialEq, Eq)]
@@ -26,7 +27,7 @@ impl Access {
     }
 }
 
-/// The wires of a tick: those of alert i stand at bit 63 - i % 64 of words i / 64. Places 248 to 255 are no wires.
+/// The alerts' wires in a tick: those of alert i stand at bit 63 - i % 64 of words i / 64. Places 248 to 255 are no wires.
 #[repr(C)]
 #[derive(Clone, Copy, Debug, PartialEq, Eq)]
 pub struct Wires {
@@ -44,11 +45,37 @@ impl Wires {
     };
 }
 
-/// An access and the wires: what a trace record holds.
+/// The sample of a tick: all that comes in beside the access.
+#[repr(C)]
+#[derive(Clone, Copy, Debug, PartialEq, Eq)]
+pub struct Sample {
+    /// The alerts' wires.
+    pub alerts: Wires,
+}
+
+impl Sample {
+    /// Every input at rest.
+    pub const AT_REST: Sample = Sample {
+        alerts: Wires::REST,
+    };
+
+    /// These wires of the alerts, and every other input at rest.
+    pub const fn of(alerts: Wires) -> Sample {
+        Sample { alerts }
+    }
+}
+
+const _: () = {
+    assert!(size_of::<Sample>() == 64);
+    assert!(offset_of!(Sample, alerts) == 0);
+    assert!(offset_of!(Wires, neg) == 32);
+};
+
+/// An access and a sample: what a trace record holds.
 #[derive(Clone, Copy, Debug, PartialEq, Eq)]
 pub struct Input {
     /// The access.
     pub access: Access,
-    /// The wires of all alerts.
-    pub wires: Wires,
+    /// The sample.
+    pub sample: Sample,
 }

@@ -20,12 +20,12 @@ mod writer;
 pub use alert_names::ALERT_NAMES;
 pub use answer::{Answer, Refusal};
 pub use edition::Edition;
-pub use input::{Access, Input, Wires};
+pub use input::{Access, Input, Sample, Wires};
 pub use installed::Installed;
 pub use lifecycle::Lifecycle;
 pub use state::{
-    AlertStages, Alerts, Class, ClassStages, Handler, Interrupts, LocalStages, Locals, Output,
-    Receivers, Stages, ALERTS, CLASSES, LOCALS, PHASES, WORDS,
+    AlertStages, Alerts, Class, ClassStages, Handler, Interrupts, Links, LocalStages, Locals,
+    Output, Receivers, Stages, ALERTS, CLASSES, LOCALS, PHASES, WORDS,
 };
 pub use word::Word;
 pub use writer::{record, record_numbers};
@@ -51,9 +51,9 @@ impl Handler {
     /// One tick; the access has the register numbers of `registers::MAP`. A shadowed register takes two equal writes: the
     /// first is staged, the second commits. Refusal 7: state unchanged, tick not run, no outputs. Refusals 1 to 5, 12 and 14:
     /// the access changes no register, and the tick runs; 3 and 12 drop the stage of the register that it names.
-    pub fn tick(self, access: Access, wires: Wires) -> Ticked {
+    pub fn tick(self, access: Access, sample: Sample) -> Ticked {
         let (kind, register, value) = access.numbers();
-        let given = library::tick(self, kind, register, value, wires);
+        let given = library::tick(self, kind, register, value, sample);
         Ticked {
             handler: given.handler,
             answer: Answer(given.answer),

@@ -1,6 +1,6 @@
 //! The functions of `libboundary.a`. The only unsafe lines of the tools.
 use crate::edition::Edition;
-use crate::input::Wires;
+use crate::input::Sample;
 use crate::state::{Handler, Output};
 use crate::word::Word;
 
@@ -32,7 +32,7 @@ pub struct Installed {
 
 extern "C" {
     fn tarravane_new(n: usize) -> Made;
-    fn tarravane_tick(h: Handler, kind: u8, register: u16, value: u32, wires: Wires) -> Answered;
+    fn tarravane_tick(h: Handler, kind: u8, register: u16, value: u32, sample: Sample) -> Answered;
     fn tarravane_batch_24(
         h: Handler,
         bytes: *const u8,
@@ -69,9 +69,9 @@ pub fn new(n: usize) -> Made {
     unsafe { tarravane_new(n) }
 }
 
-pub fn tick(h: Handler, kind: u8, register: u16, value: u32, wires: Wires) -> Answered {
+pub fn tick(h: Handler, kind: u8, register: u16, value: u32, sample: Sample) -> Answered {
     // Safe: integers in, integers out, no precondition.
-    unsafe { tarravane_tick(h, kind, register, value, wires) }
+    unsafe { tarravane_tick(h, kind, register, value, sample) }
 }
 
 pub fn install(h: Handler, lifecycle: u8) -> Installed {

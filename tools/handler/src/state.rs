@@ -44,6 +44,14 @@ pub struct Receivers {
     pub armed: [u64; WORDS],
 }
 
+/// What stands between the wires and the registers.
+#[repr(C)]
+#[derive(Clone, Copy, Debug, PartialEq, Eq)]
+pub struct Links {
+    /// Which alerts are re-armed.
+    pub receivers: Receivers,
+}
+
 /// The registers of the alerts; entry i is alert i's. Entries at n and above are no registers, and no call changes them.
 #[repr(C)]
 #[derive(Clone, Copy, Debug, PartialEq, Eq)]
@@ -155,8 +163,8 @@ impl Stages {
 pub struct Handler {
     /// The alerts that it is made for.
     pub n: usize,
-    /// Which alerts are re-armed.
-    pub receivers: Receivers,
+    /// What stands between the wires and the registers.
+    pub links: Links,
     /// The classes, A to D.
     pub classes: [Class; CLASSES],
     /// The alerts' registers.
@@ -189,6 +197,7 @@ const _: () = {
     assert!(offset_of!(Stages, alerts) == 192);
     assert!(offset_of!(Stages, locals) == 688);
     assert!(size_of::<Handler>() == 1912);
+    assert!(offset_of!(Handler, links) == 8);
     assert!(offset_of!(Handler, classes) == 40);
     assert!(offset_of!(Handler, alerts) == 184);
     assert!(offset_of!(Handler, locals) == 1176);

@@ -11,8 +11,9 @@ pub fn record(inputs: &[Input], out: &mut [u8]) -> Answer {
     let kinds: Vec<u8> = numbers().map(|(kind, _, _)| kind).collect();
     let registers: Vec<u16> = numbers().map(|(_, register, _)| register).collect();
     let values: Vec<u32> = numbers().map(|(_, _, value)| value).collect();
-    let positive: Vec<u64> = inputs.iter().flat_map(|input| input.wires.pos).collect();
-    let negative: Vec<u64> = inputs.iter().flat_map(|input| input.wires.neg).collect();
+    let wires = || inputs.iter().map(|input| input.sample.alerts);
+    let positive: Vec<u64> = wires().flat_map(|wires| wires.pos).collect();
+    let negative: Vec<u64> = wires().flat_map(|wires| wires.neg).collect();
     record_numbers(&kinds, &registers, &values, &positive, &negative, out)
 }
 

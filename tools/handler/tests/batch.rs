@@ -1,7 +1,7 @@
 //! A batch of either edition is its ticks, and what it refuses it leaves.
 use handler::registers::Map;
 use handler::registers::{Field, Setting, INTR_ENABLE};
-use handler::{Access, Answer, Edition, Handler, Refusal, Ticked, Wires, Word};
+use handler::{Access, Answer, Edition, Handler, Refusal, Sample, Ticked, Wires, Word};
 use harness::configure::configure;
 use harness::record::record;
 
@@ -60,7 +60,7 @@ fn ticks(edition: Edition, mut h: Handler) -> Vec<Ticked> {
             1 => Access::Read(number),
             _ => Access::Write(number, value),
         };
-        let t = h.tick(access, wires(at));
+        let t = h.tick(access, Sample::of(wires(at)));
         h = t.handler;
         t
     });

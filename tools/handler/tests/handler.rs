@@ -1,9 +1,9 @@
 //! The wrapper asks the library and loses nothing on the way.
 use handler::registers::{Field, Setting, INTR_ENABLE, MAP};
-use handler::{Access, Answer, Handler, Refusal, Stages, Wires, ALERTS, WORDS};
+use handler::{Access, Answer, Handler, Refusal, Sample, Stages, ALERTS, WORDS};
 use harness::configure::configure as writes;
 
-const REST: Wires = Wires::REST;
+const REST: Sample = Sample::AT_REST;
 
 fn made(n: usize) -> Handler {
     let (handler, answer) = Handler::new(n);
@@ -22,11 +22,12 @@ fn configure(h: Handler, register: u16, value: u32) -> Handler {
 }
 
 /// Alert i at (1,0), the others at rest.
-fn raised(i: usize) -> Wires {
-    let mut wires = REST;
+fn raised(i: usize) -> Sample {
+    let mut sample = REST;
+    let wires = &mut sample.alerts;
     wires.pos[i / 64] |= 1 << (63 - i % 64);
     wires.neg[i / 64] &= !wires.pos[i / 64];
-    wires
+    sample
 }
 
 #[test]
@@ -34,7 +35,7 @@ fn a_handler_is_made_for_1_to_248_alerts() {
     for n in [1, 64, 65, 247, 248] {
         let h = made(n);
         assert_eq!(h, Handler { n, ..made(1) });
-        assert_eq!(h.receivers.armed, [u64::MAX; WORDS]);
+        assert_eq!(h.links.receivers.armed, [u64::MAX; WORDS]);
         assert_eq!(h.alerts.regwen, [1; ALERTS]);
         assert_eq!(h.alerts.class, [0; ALERTS]);
         assert_eq!(h.stages, Stages::NONE);
@@ -129,7 +130,7 @@ fn the_wires_and_registers_of_every_alert_are_its_own() {
         assert_eq!((t.output.interrupts, t.output.lines), (8, 1));
         let mut wanted = [u64::MAX; WORDS];
         wanted[i / 64] &= !(1 << (63 - i % 64));
-        assert_eq!(t.handler.receivers.armed, wanted);
+        assert_eq!(t.handler.links.receivers.armed, wanted);
         let cause = |j| Access::Read(MAP.alert(Field::Cause, j));
         for (j, value) in [(i, 1), ((i + 1) % 248, 0), ((i + 64) % 248, 0)] {
             assert_eq!(t.handler.tick(cause(j), REST).answer, Answer(value));

@@ -1,14 +1,15 @@
 //! The wrapper of the installer loses nothing, and the tools' accesses are those of a boot.
 use handler::boot::{entries, inputs, BOOT_ALERTS};
 use handler::registers::{Field, Setting, MAP};
-use handler::{Access, Answer, Handler, Lifecycle, Refusal, Wires, ALERTS, ALERT_NAMES};
+use handler::{Access, Answer, Handler, Lifecycle, Refusal, Sample, ALERTS, ALERT_NAMES};
 
 fn new(n: usize) -> Handler {
     Handler::new(n).0
 }
 
 fn write(h: Handler, number: u16, value: u32) -> Handler {
-    h.tick(Access::Write(number, value), Wires::REST).handler
+    h.tick(Access::Write(number, value), Sample::AT_REST)
+        .handler
 }
 
 #[test]
@@ -63,7 +64,7 @@ fn the_accesses_of_a_boot_end_in_its_state() {
                 let ticks = inputs(entry);
                 assert_eq!(ticks.len(), entry.0.writes() + 1);
                 for tick in &ticks {
-                    let given = h.tick(tick.access, tick.wires);
+                    let given = h.tick(tick.access, tick.sample);
                     let reads = matches!(tick.access, Access::Read(_));
                     let wanted = if reads { entry.1 } else { 0 };
                     assert_eq!(given.answer, Answer(wanted.into()), "{}", entry.0);

@@ -1,5 +1,5 @@
 //! The writer's wrapper hands over each part of each input, and what it is refused.
-use handler::{record, Access, Answer, Edition, Input, Refusal, Wires, WORDS};
+use handler::{record, Access, Answer, Edition, Input, Refusal, Sample, Wires, WORDS};
 use harness::record::record as packed;
 
 const EDITION: Edition = Edition::NEWEST;
@@ -16,8 +16,8 @@ const ALL: [u64; WORDS] = [u64::MAX; WORDS];
 const NO: [u64; WORDS] = [0; WORDS];
 
 fn input(access: Access, pos: [u64; WORDS], neg: [u64; WORDS]) -> Input {
-    let wires = Wires { pos, neg };
-    Input { access, wires }
+    let sample = Sample::of(Wires { pos, neg });
+    Input { access, sample }
 }
 
 #[test]

@@ -104,7 +104,7 @@ fn above(places: &[Place], rng: &mut Rng, state: &mut Handler) {
             place.set(state, rng.bits());
         }
     }
-    for (w, word) in state.receivers.armed.iter_mut().enumerate() {
+    for (w, word) in state.links.receivers.armed.iter_mut().enumerate() {
         let used = n.saturating_sub(64 * w) as u32;
         *word ^= rng.bits() & u64::MAX.checked_shr(used).unwrap_or(0);
     }

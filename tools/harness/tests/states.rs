@@ -2,7 +2,7 @@
 //! finds what it is there to find.
 
 use handler::registers::Setting;
-use handler::{Access, Answer, Edition, Handler, Ticked, Wires, Word, ALERTS};
+use handler::{Access, Answer, Edition, Handler, Sample, Ticked, Word, ALERTS};
 use harness::bench::{load, start, time, time_boot, LOADS};
 use harness::calls::{handler_of, reference_of, with_spare, Found};
 use harness::compare::ANSWERS;
@@ -22,7 +22,7 @@ fn state(n: usize) -> Handler {
 /// What a tick of the library answers; a batch of no records says the same, an
 /// old one only of up to 64 alerts.
 fn answer(state: &Handler) -> i64 {
-    let given = state.tick(Access::Nothing, Wires::REST);
+    let given = state.tick(Access::Nothing, Sample::AT_REST);
     let (after, answer) = state.batch(Edition::NEWEST, &[], &mut []);
     assert_eq!((given.answer, after), (answer, *state));
     let old = if state.n > 64 { Answer(-7) } else { answer };
@@ -179,10 +179,10 @@ fn found(subject: Subject) -> Found {
 
 #[test]
 fn a_tick_that_takes_a_broken_state_is_found() {
-    fn tick(mut h: Handler, access: Access, wires: Wires) -> Ticked {
+    fn tick(mut h: Handler, access: Access, sample: Sample) -> Ticked {
         // Takes a cause of 2 and 3 for 0 and 1.
         h.locals.cause[6] &= !2;
-        h.tick(access, wires)
+        h.tick(access, sample)
     }
     let odd = found(Subject { tick, ..PROVED }).odd;
     assert_eq!(odd.call, "tick");
@@ -191,11 +191,11 @@ fn a_tick_that_takes_a_broken_state_is_found() {
 
 #[test]
 fn a_tick_that_looks_at_unused_entries_is_found() {
-    fn tick(h: Handler, access: Access, wires: Wires) -> Ticked {
+    fn tick(h: Handler, access: Access, sample: Sample) -> Ticked {
         let mut all = h;
         all.n = all.n.max(248);
-        let mut given = h.tick(access, wires);
-        if all.tick(access, wires).answer == Answer(-7) {
+        let mut given = h.tick(access, sample);
+        if all.tick(access, sample).answer == Answer(-7) {
             given.answer = Answer(-7);
         }
         given
@@ -205,8 +205,8 @@ fn a_tick_that_looks_at_unused_entries_is_found() {
 
 #[test]
 fn a_tick_that_tidies_unused_entries_is_found() {
-    fn tick(h: Handler, access: Access, wires: Wires) -> Ticked {
-        let mut given = h.tick(access, wires);
+    fn tick(h: Handler, access: Access, sample: Sample) -> Ticked {
+        let mut given = h.tick(access, sample);
         if given.answer != Answer(-7) && h.n < 248 {
             given.handler.alerts.cause[247] = 0;
         }
@@ -218,8 +218,8 @@ fn a_tick_that_tidies_unused_entries_is_found() {
 
 /// A tick after which the stages of the classes are as before it, where the
 /// access answers so.
-fn keeps_stages(h: Handler, access: Access, wires: Wires, on: impl Fn(Answer) -> bool) -> Ticked {
-    let mut given = h.tick(access, wires);
+fn keeps_stages(h: Handler, access: Access, sample: Sample, on: impl Fn(Answer) -> bool) -> Ticked {
+    let mut given = h.tick(access, sample);
     if on(given.answer) {
         given.handler.stages.classes = h.stages.classes;
     }
@@ -228,9 +228,9 @@ fn keeps_stages(h: Handler, access: Access, wires: Wires, on: impl Fn(Answer) ->
 
 #[test]
 fn a_read_that_keeps_the_stage_is_found() {
-    fn tick(h: Handler, access: Access, wires: Wires) -> Ticked {
+    fn tick(h: Handler, access: Access, sample: Sample) -> Ticked {
         let reads = matches!(access, Access::Read(_));
-        keeps_stages(h, access, wires, |_| reads)
+        keeps_stages(h, access, sample, |_| reads)
     }
     let odd = found(Subject { tick, ..PROVED }).odd;
     assert!(odd.field.starts_with("stage of class "), "{}", odd.field);
@@ -239,8 +239,8 @@ fn a_read_that_keeps_the_stage_is_found() {
 /// No word shows it: what is locked stays so.
 #[test]
 fn a_locked_write_that_keeps_the_stage_is_found() {
-    fn tick(h: Handler, access: Access, wires: Wires) -> Ticked {
-        keeps_stages(h, access, wires, |answer| answer == Answer(-3))
+    fn tick(h: Handler, access: Access, sample: Sample) -> Ticked {
+        keeps_stages(h, access, sample, |answer| answer == Answer(-3))
     }
     let odd = found(Subject { tick, ..PROVED }).odd;
     assert!(odd.field.starts_with("stage of class "), "{}", odd.field);
@@ -249,13 +249,13 @@ fn a_locked_write_that_keeps_the_stage_is_found() {
 /// No trace shows it: none locks such a class.
 #[test]
 fn a_lock_that_is_refused_on_a_locked_class_is_found() {
-    fn tick(h: Handler, access: Access, wires: Wires) -> Ticked {
+    fn tick(h: Handler, access: Access, sample: Sample) -> Ticked {
         let mut open = h;
         for class in &mut open.classes {
             class.regwen |= 1;
         }
-        let mut given = h.tick(access, wires);
-        if open.tick(access, wires).answer == Answer(-14) {
+        let mut given = h.tick(access, sample);
+        if open.tick(access, sample).answer == Answer(-14) {
             given.answer = Answer(-14);
         }
         given
@@ -265,9 +265,9 @@ fn a_lock_that_is_refused_on_a_locked_class_is_found() {
 
 #[test]
 fn a_tick_that_takes_a_stage_over_its_field_is_found() {
-    fn tick(mut h: Handler, access: Access, wires: Wires) -> Ticked {
+    fn tick(mut h: Handler, access: Access, sample: Sample) -> Ticked {
         h.stages.locals.en[3] = h.stages.locals.en[3].min(2);
-        h.tick(access, wires)
+        h.tick(access, sample)
     }
     let odd = found(Subject { tick, ..PROVED }).odd;
     let fields = ["answer 7", "stage of local 3 EN"];
@@ -290,9 +290,9 @@ fn a_batch_that_writes_a_later_word_is_found() {
 
 #[test]
 fn a_tick_that_changes_what_is_no_alert_is_found() {
-    fn tick(h: Handler, access: Access, wires: Wires) -> Ticked {
-        let mut given = h.tick(access, wires);
-        given.handler.receivers.armed[3] |= 1;
+    fn tick(h: Handler, access: Access, sample: Sample) -> Ticked {
+        let mut given = h.tick(access, sample);
+        given.handler.links.receivers.armed[3] |= 1;
         given
     }
     let odd = found(Subject { tick, ..PROVED }).odd;

@@ -5,7 +5,7 @@ use common::folder::Folder;
 use common::ran::each;
 use common::{ended, explained, given, refused};
 use handler::registers::{Field, Setting, LETTERS, MAP};
-use handler::{Access, Edition, Handler, Lifecycle, Wires, Word, ALERT_NAMES};
+use handler::{Access, Edition, Handler, Lifecycle, Sample, Word, ALERT_NAMES};
 use std::fs;
 
 fn new(n: usize) -> Handler {
@@ -20,7 +20,7 @@ fn shown(words: &[&str]) -> Vec<String> {
 
 /// What a register of the state reads.
 fn read(h: Handler, number: u16) -> u32 {
-    let answer = h.tick(Access::Read(number), Wires::REST).answer;
+    let answer = h.tick(Access::Read(number), Sample::AT_REST).answer;
     answer.value().expect("a value")
 }
 

@@ -69,7 +69,7 @@ fn clears(edition: Edition, t: &Ran, k: usize) -> bool {
 
 /// The pair, event and cause of an alert in a tick.
 fn alert(edition: Edition, t: &Ran, i: usize) -> (u8, bool, bool) {
-    let armed = |h: &handler::Handler| h.receivers.armed[i / 64] >> (63 - i % 64) & 1 == 1;
+    let armed = |h: &handler::Handler| h.links.receivers.armed[i / 64] >> (63 - i % 64) & 1 == 1;
     let event = armed(&t.before) && !armed(&t.after);
     (t.pair(edition, i), event, t.after.alerts.cause[i] == 1)
 }

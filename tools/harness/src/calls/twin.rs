@@ -2,8 +2,8 @@
 //! so that no field can be forgotten.
 
 use handler::{
-    Access, AlertStages, Alerts, Class, ClassStages, Edition, Handler, Interrupts, LocalStages,
-    Locals, Receivers, Stages, ALERTS, WORDS,
+    Access, AlertStages, Alerts, Class, ClassStages, Edition, Handler, Interrupts, Links,
+    LocalStages, Locals, Receivers, Stages, ALERTS, WORDS,
 };
 use reference::stages::SourceStages;
 use reference::Source;
@@ -28,7 +28,7 @@ pub fn reference_of(state: &Handler) -> reference::Handler {
             class: alerts.class[i],
             cause: alerts.cause[i],
         }),
-        armed: from_fn(|i| (state.receivers.armed[i / 64] >> (63 - i % 64)) & 1 == 1),
+        armed: from_fn(|i| (state.links.receivers.armed[i / 64] >> (63 - i % 64)) & 1 == 1),
         classes: from_fn(|k| reference_class(&state.classes[k])),
         stages: reference_stages(&state.stages),
     }
@@ -78,8 +78,8 @@ const SPARE: u64 = (1 << (64 * WORDS - ALERTS)) - 1;
 /// The state with those bits of another one: the reference has no such bits,
 /// and no call changes them.
 pub fn with_spare(mut state: Handler, other: &Handler) -> Handler {
-    let last = &mut state.receivers.armed[WORDS - 1];
-    *last = *last & !SPARE | other.receivers.armed[WORDS - 1] & SPARE;
+    let last = &mut state.links.receivers.armed[WORDS - 1];
+    *last = *last & !SPARE | other.links.receivers.armed[WORDS - 1] & SPARE;
     state
 }
 
@@ -91,8 +91,10 @@ pub fn handler_of(state: &reference::Handler) -> Handler {
     let word = |w: usize| (0..64).fold(0, |word, at| word << 1 | bit(64 * w + at));
     Handler {
         n: state.n as usize,
-        receivers: Receivers {
-            armed: from_fn(word),
+        links: Links {
+            receivers: Receivers {
+                armed: from_fn(word),
+            },
         },
         classes: from_fn(|k| handler_class(&state.classes[k])),
         alerts: Alerts {

@@ -40,7 +40,7 @@ impl Place {
     fn slot(self, state: &mut Handler) -> Slot<'_> {
         match self {
             Place::N => Slot::Size(&mut state.n),
-            Place::Armed(word) => Slot::Long(&mut state.receivers.armed[word]),
+            Place::Armed(word) => Slot::Long(&mut state.links.receivers.armed[word]),
             Place::IntrState => Slot::Byte(&mut state.interrupts.state),
             Place::IntrEnable => Slot::Byte(&mut state.interrupts.enable),
             Place::Class(k, setting) => class_slot(&mut state.classes[k], setting),

@@ -7,7 +7,7 @@ use crate::calls::{
     access, handler_of, reference_access, reference_edition, reference_of, wires, with_spare, Odd,
 };
 use crate::rng::Rng;
-use handler::{Edition, Handler};
+use handler::{Edition, Handler, Sample};
 
 /// The answer to a state that breaks the rule.
 const BROKEN: i64 = -7;
@@ -23,7 +23,7 @@ pub fn tick(
     let mut twin = reference_of(state);
     let valid = twin.valid();
     let wanted = twin.tick(reference_access(access), &wires.pos, &wires.neg);
-    let got = (subject.tick)(*state, access, wires);
+    let got = (subject.tick)(*state, access, Sample::of(wires));
     if valid {
         summary.ticks[wanted.answer.min(0).unsigned_abs() as usize] += 1;
     }

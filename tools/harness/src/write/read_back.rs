@@ -6,7 +6,7 @@ use crate::calls::reference_access;
 use crate::calls::Odd;
 use crate::entries::{Entries, Row};
 use crate::record::{wires_of, WRITTEN_BYTES};
-use handler::{Edition, Handler, Ticked, Word};
+use handler::{Edition, Handler, Sample, Ticked, Word};
 use reference::trace::{parse, word};
 use reference::writer::WRITTEN;
 
@@ -61,7 +61,7 @@ fn proved_odd(subject: &Subject, n: usize, rows: &[Row], bytes: &[u8]) -> Option
         return Some(Odd::new(PROVED_BATCH, "answer", 0, answer.0));
     }
     for (at, (row, got)) in rows.iter().zip(&words).enumerate() {
-        let given = (subject.tick)(state, row.access(), row.wires);
+        let given = (subject.tick)(state, row.access(), Sample::of(row.wires));
         state = given.handler;
         let wanted = ticked_word(&given);
         if wanted != got.0 {

@@ -3,7 +3,7 @@
 
 use crate::slip::Slip::{self, Gives, GoesOn, Takes, Ticks};
 use handler::boot::{inputs, Entry};
-use handler::{Access, Answer, Handler, Input, Installed, Wires};
+use handler::{Access, Answer, Handler, Input, Installed, Sample, Wires};
 
 /// The ticks of an entry without some of them.
 fn without(entry: Entry, dropped: fn(usize, &Access) -> bool) -> Vec<Input> {
@@ -15,7 +15,9 @@ fn without(entry: Entry, dropped: fn(usize, &Access) -> bool) -> Vec<Input> {
 /// The ticks of an entry with other wires.
 fn rewired(entry: Entry, change: fn(&mut Wires)) -> Vec<Input> {
     let mut ticks = inputs(entry);
-    ticks.iter_mut().for_each(|tick| change(&mut tick.wires));
+    ticks
+        .iter_mut()
+        .for_each(|tick| change(&mut tick.sample.alerts));
     ticks
 }
 
@@ -96,7 +98,7 @@ pub const ENDS: &[Slip] = &[
     Gives("a tick before the refusal", |before, given| {
         match given.answer.0 {
             -13 => {
-                let handler = before.tick(Access::Nothing, Wires::REST).handler;
+                let handler = before.tick(Access::Nothing, Sample::AT_REST).handler;
                 Installed { handler, ..given }
             }
             _ => given,

@@ -2,7 +2,7 @@
 //! that an installer may have.
 
 use handler::boot::{entries, inputs};
-use handler::{Access, Handler, Input, Lifecycle, Wires};
+use handler::{Access, Handler, Input, Lifecycle, Sample};
 use harness::boot::{reference_install, try_boots, Install, Summary, DEFAULT_BOOTS, PROVED};
 use harness::calls::{reference_access, Found};
 use harness::compare::DEFAULT_SEED;
@@ -81,7 +81,7 @@ fn the_tools_have_the_accesses_of_the_reference() {
     for lifecycle in Lifecycle::ALL {
         let after = Handler::new(58).0.install(lifecycle).handler;
         let ticks: Vec<Input> = entries(&after).into_iter().flat_map(inputs).collect();
-        assert!(ticks.iter().all(|tick| tick.wires == Wires::REST));
+        assert!(ticks.iter().all(|tick| tick.sample == Sample::AT_REST));
         let own: Vec<_> = ticks
             .iter()
             .map(|tick| reference_access(tick.access))

@@ -85,7 +85,7 @@ impl Installer<'_> {
                 _ => inputs(*entry),
             };
             for tick in ticks {
-                let given = state.tick(tick.access, tick.wires);
+                let given = state.tick(tick.access, tick.sample);
                 state = given.handler;
                 if let Some(register) = self.stops(tick.access, given.answer, entry.1) {
                     return stopped(state, given.answer, register);

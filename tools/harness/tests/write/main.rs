@@ -1,11 +1,12 @@
 //! That the run over the trace writer reaches what it is there for, and finds
 //! the slips that a writer may have.
 
-use handler::{Access, Answer, Edition, Handler, Ticked, Wires, Word};
+use handler::{Access, Answer, Edition, Handler, Sample, Ticked, Wires, Word};
 use harness::compare::DEFAULT_SEED;
 use harness::record::WRITTEN_BYTES;
 use harness::write::{reference_record, try_lists, Found, Subject, Summary, DEFAULT_LISTS, PROVED};
 use slips::SLIPS;
+use std::mem::swap;
 
 mod slip;
 mod slips;
@@ -91,9 +92,10 @@ fn a_batch_that_does_not_read_what_was_written_is_found() {
 
 #[test]
 fn a_tick_that_takes_other_wires_is_found() {
-    fn tick(h: Handler, access: Access, wires: Wires) -> Ticked {
-        let (pos, neg) = (wires.neg, wires.pos);
-        h.tick(access, Wires { pos, neg })
+    fn tick(h: Handler, access: Access, mut sample: Sample) -> Ticked {
+        let Wires { pos, neg } = &mut sample.alerts;
+        swap(pos, neg);
+        h.tick(access, sample)
     }
     let found = found(&Subject { tick, ..RIGHT }).expect("found");
     assert_eq!(found.odd.call, "batch of the written");

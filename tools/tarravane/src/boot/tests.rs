@@ -2,7 +2,7 @@
 use super::said::end;
 use super::table::lines;
 use handler::registers::{Field, Setting, MAP};
-use handler::{Access, Answer, Handler, Installed, Lifecycle, Wires};
+use handler::{Access, Answer, Handler, Installed, Lifecycle, Sample};
 
 fn new() -> Handler {
     Handler::new(58).0
@@ -10,7 +10,7 @@ fn new() -> Handler {
 
 /// The state after one write.
 fn write(h: Handler, number: u16, value: u32) -> Handler {
-    let given = h.tick(Access::Write(number, value), Wires::REST);
+    let given = h.tick(Access::Write(number, value), Sample::AT_REST);
     assert_eq!(given.answer, Answer(0));
     given.handler
 }

@@ -22,7 +22,10 @@ pub fn is_enabled(h: &Handler, alert: usize) -> bool {
 
 /// The bits of the alerts that have an event, enabled or not: those that the tick disarmed.
 pub fn bits(t: &Tick) -> AlertBits {
-    let (before, after) = (t.before.receivers.armed, t.after.receivers.armed);
+    let (before, after) = (
+        t.before.links.receivers.armed,
+        t.after.links.receivers.armed,
+    );
     from_fn(|word| before[word] & !after[word])
 }
 

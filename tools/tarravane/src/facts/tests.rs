@@ -10,7 +10,7 @@ use super::ticks::Ticks;
 use crate::alert_bits::put;
 use crate::trace::record::written;
 use handler::registers::{Field, Register, Setting, INTR_STATE};
-use handler::{Access, Edition, Handler, Input, Refusal, Wires, CLASSES};
+use handler::{Access, Edition, Handler, Input, Refusal, Sample, Wires, CLASSES};
 use harness::configure::configure;
 use harness::rng::Rng;
 
@@ -91,8 +91,8 @@ fn inputs(rng: &mut Rng, edition: Edition) -> Vec<Input> {
     let mut all = Vec::new();
     while all.len() < TICKS {
         for access in accesses(rng, edition) {
-            let wires = wires(rng, edition);
-            all.push(Input { access, wires });
+            let sample = Sample::of(wires(rng, edition));
+            all.push(Input { access, sample });
         }
     }
     all.truncate(TICKS);

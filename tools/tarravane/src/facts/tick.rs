@@ -1,6 +1,6 @@
 //! One tick.
 use handler::registers::Register;
-use handler::{Access, Edition, Handler, Input, Refusal, Wires, Word};
+use handler::{Access, Edition, Handler, Input, Refusal, Sample, Word};
 
 pub struct Tick {
     /// The first record is tick 1.
@@ -25,7 +25,7 @@ impl Tick {
             record: Vec::new(),
             input: Input {
                 access: Access::Nothing,
-                wires: Wires::REST,
+                sample: Sample::AT_REST,
             },
             before: new,
             after: new,

@@ -6,7 +6,7 @@ use std::array::from_fn;
 
 /// The alerts of a tick for which `of` has a 1, below N.
 fn below_n(t: &Tick, of: impl Fn(&Wires, usize) -> u64) -> AlertBits {
-    let all: AlertBits = from_fn(|word| of(&t.input.wires, word));
+    let all: AlertBits = from_fn(|word| of(&t.input.sample.alerts, word));
     let below = alert_bits::below(t.after.n);
     from_fn(|word| all[word] & below[word])
 }

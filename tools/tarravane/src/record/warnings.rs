@@ -34,7 +34,7 @@ fn unheeded(edition: Edition, n: u8, line: &Line) -> Vec<String> {
             all.push(format!("{name} is no register"));
         }
     }
-    if let Some(i) = wires::first_off_rest(input.wires, usize::from(n)) {
+    if let Some(i) = wires::first_off_rest(input.sample.alerts, usize::from(n)) {
         all.push(format!("the wires of alert {i} count for nothing"));
     }
     all

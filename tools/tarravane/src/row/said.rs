@@ -11,7 +11,7 @@ pub fn whole(naming: Naming, edition: Edition, x: &Input) -> String {
 
 /// Wires as the number of alerts that are off rest, after these words; nothing where all are at rest.
 fn number(words: &str, x: &Input) -> String {
-    match wires::count(x.wires) {
+    match wires::count(x.sample.alerts) {
         0 => String::new(),
         alerts => format!("{words}~{alerts}"),
     }
@@ -47,5 +47,5 @@ pub fn numbered(edition: Edition, x: &Input) -> String {
 
 /// All bytes of the record, and its wires, which count also where it is malformed.
 pub fn raw(record: &[u8], x: &Input) -> String {
-    line::raw_words(record) + &wires::words(x.wires)
+    line::raw_words(record) + &wires::words(x.sample.alerts)
 }

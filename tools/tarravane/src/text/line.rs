@@ -2,7 +2,7 @@
 use super::word::{shown, split};
 use super::{access, hex, wires};
 use handler::registers::Naming;
-use handler::{Edition, Input, Wires};
+use handler::{Edition, Input, Sample};
 
 /// What a line after `alerts` gives.
 #[derive(Debug, PartialEq, Eq)]
@@ -22,12 +22,12 @@ pub fn is_blank(line: &str) -> bool {
 fn parse_tick(edition: Edition, line: &str) -> Result<Input, String> {
     let mut words = split(line);
     let access = access::parse(edition, &mut words)?;
-    let wires = match words.next() {
-        None => Wires::REST,
-        Some("wires") => wires::parse(edition, words)?,
+    let sample = match words.next() {
+        None => Sample::AT_REST,
+        Some("wires") => Sample::of(wires::parse(edition, words)?),
         Some(word) => return Err(format!("unexpected: {}", shown(word))),
     };
-    Ok(Input { access, wires })
+    Ok(Input { access, sample })
 }
 
 fn parse_raw(edition: Edition, bytes: Option<Vec<u8>>) -> Result<Line, String> {
@@ -69,7 +69,7 @@ pub fn parse(edition: Edition, line: &str) -> Result<Line, String> {
 
 /// The line of a tick.
 pub fn words(naming: Naming, edition: Edition, input: &Input) -> String {
-    access::words(naming, edition, input.access) + &wires::words(input.wires)
+    access::words(naming, edition, input.access) + &wires::words(input.sample.alerts)
 }
 
 /// The line of a record that is not well-formed.
@@ -92,10 +92,10 @@ mod tests {
     fn spaces_and_tabs_part_words() {
         for edition in Edition::ALL {
             let ctrl = edition.registers().class(0, Setting::Ctrl);
-            let mut wires = Wires::REST;
-            (wires.pos[0], wires.neg[0]) = (1 << 63, u64::MAX >> 1);
+            let mut sample = Sample::AT_REST;
+            (sample.alerts.pos[0], sample.alerts.neg[0]) = (1 << 63, u64::MAX >> 1);
             let access = Access::Write(ctrl, 14655);
-            let input = Input { access, wires };
+            let input = Input { access, sample };
             let line = "write CLASSA_CTRL 0x393f wires 0=10";
             assert_eq!(parse(edition, line), Ok(Line::Tick(input)));
             let odd = format!("\t write  {ctrl}\t14655 wires\t0=10 ");

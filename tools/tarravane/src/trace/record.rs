@@ -1,6 +1,6 @@
 //! The bytes of a record, and what they hold. The proved writer gives those of the newest edition; records of an older one are
 //! packed here, in plain Rust. What is read of a record is for showing only: the library judges it.
-use handler::{Access, Edition, Input, Refusal, Wires, WORDS};
+use handler::{Access, Edition, Input, Refusal, Sample, Wires, WORDS};
 
 /// The words of the wires; at places that the edition has no wires for, those at rest.
 fn words(bytes: &[u8], rest: u8) -> [u64; WORDS] {
@@ -21,11 +21,11 @@ pub fn input(edition: Edition, record: &[u8]) -> Input {
         2 => Access::Write(register, first as u32),
         _ => Access::Malformed,
     };
-    let wires = Wires {
+    let sample = Sample::of(Wires {
         pos: words(pos, 0),
         neg: words(neg, 255),
-    };
-    Input { access, wires }
+    });
+    Input { access, sample }
 }
 
 /// The record that holds the input; none where no well-formed one does.
@@ -42,7 +42,8 @@ fn packed(edition: Edition, input: &Input) -> Option<Vec<u8>> {
     }
     let first = kind << 62 | u64::from(register) << (62 - bits) | u64::from(value);
     let mut record = first.to_be_bytes().to_vec();
-    for wires in [input.wires.pos, input.wires.neg] {
+    let Wires { pos, neg } = input.sample.alerts;
+    for wires in [pos, neg] {
         let bytes = wires.map(u64::to_be_bytes);
         record.extend_from_slice(&bytes.as_flattened()[..edition.wire_bytes()]);
     }
@@ -85,11 +86,11 @@ mod tests {
                 .collect();
             words(&bytes, rest)
         };
-        let wires = Wires {
+        let sample = Sample::of(Wires {
             pos: wires(0),
             neg: wires(255),
-        };
-        Input { access, wires }
+        });
+        Input { access, sample }
     }
 
     fn harness_record(edition: Edition, input: &Input) -> Vec<u8> {
@@ -99,7 +100,7 @@ mod tests {
             Access::Write(register, value) => (2, register, value),
             Access::Malformed => (3, 0, 0),
         };
-        let Wires { pos, neg } = input.wires;
+        let Wires { pos, neg } = input.sample.alerts;
         harness::record::record(edition, kind, register.into(), value.into(), (pos, neg))
     }
 
@@ -134,8 +135,9 @@ mod tests {
                 assert_ne!(words[0].refusal(), Some(Refusal(5)));
                 for alert in [0, last] {
                     let at = |words: [u64; WORDS]| words[alert / 64] >> (63 - alert % 64) & 1;
-                    let event = (at(one.wires.pos), at(one.wires.neg)) == (1, 0);
-                    assert_eq!(at(after.receivers.armed) == 0, event);
+                    let Wires { pos, neg } = one.sample.alerts;
+                    let event = (at(pos), at(neg)) == (1, 0);
+                    assert_eq!(at(after.links.receivers.armed) == 0, event);
                 }
             }
         }
@@ -145,7 +147,7 @@ mod tests {
     fn what_no_record_holds_is_refused_with_10() {
         let rest = |access| Input {
             access,
-            wires: Wires::REST,
+            sample: Sample::AT_REST,
         };
         let good = rest(Access::Nothing);
         for (edition, over) in [(Edition::Bytes24, 1024), (Edition::Bytes70, 2048)] {

@@ -34,7 +34,7 @@ fn causes(t: &Tick) -> AlertBits {
 impl Last {
     /// Goes on by a tick, and gives the alerts that changed, below N.
     pub fn go_on(&mut self, t: &Tick) -> AlertBits {
-        let (wires, events) = (t.input.wires, events::bits(t));
+        let (wires, events) = (t.input.sample.alerts, events::bits(t));
         let (causes, below) = (causes(t), alert_bits::below(t.after.n));
         let changed = from_fn(|w| {
             let pair = wires.pos[w] ^ self.wires.pos[w] | wires.neg[w] ^ self.wires.neg[w];

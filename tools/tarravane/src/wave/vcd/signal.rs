@@ -75,7 +75,7 @@ pub fn scopes(moved: &Moved) -> Vec<Scope> {
 }
 
 fn pair(t: &Tick, i: usize) -> u64 {
-    let wires = &t.input.wires;
+    let wires = &t.input.sample.alerts;
     u64::from(is_set(&wires.pos, i)) << 1 | u64::from(is_set(&wires.neg, i))
 }
 
