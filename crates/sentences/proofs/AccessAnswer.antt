@@ -15,7 +15,7 @@ use Rattle.rules.specs.declared.Handler.{Handler}
 use Rattle.rules.specs.declared.Register.{Register}
 use Rattle.rules.specs.declared.Verdict.{Verdict}
 use Rattle.sentences.specs.Access.{Answered}
-use Rattle.sentences.specs.AccessMap.{held}
+use Rattle.sentences.specs.Raw.{held}
 use Rattle.sentences.specs.AccessRefusals.{Reads, Accepted}
 use Rattle.sentences.proofs.AccessMap.{held-is}
 use Rattle.sentences.proofs.AccessRefusals.{read-is}

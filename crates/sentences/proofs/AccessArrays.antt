@@ -28,7 +28,7 @@ use Rattle.rules.specs.declared.Register.{Register}
 use Rattle.rules.specs.declared.Register.the-variants.{IntrState, IntrEnable, IntrTest, Local, Alert, Block, Unassigned}
 use Rattle.rules.specs.declared.Stages.{Stages}
 use Rattle.sentences.specs.AccessArrays.{Sized}
-use Rattle.sentences.specs.AccessMap.{alertList, localList, block}
+use Rattle.sentences.specs.Raw.{classOf, localList, alertList}
 use Rattle.sentences.proofs.AccessStays.{stored-either}
 
 -- a list with an entry put
@@ -47,7 +47,7 @@ record Columns (g : Handler) : Type 0 where
   alerts : (f : Field) → length (alertColumn f (g .alerts)) ≡ 248
   locals : (f : Field) → length (localColumn f (g .locals)) ≡ 7
   classes : length (g .classes) ≡ 4
-  lengths : (k : ℕ) → k < 4 → length (block g k .lengths) ≡ 4
+  lengths : (k : ℕ) → k < 4 → length (classOf g k .lengths) ≡ 4
 
 module _ (h : Handler) (v : ℕ) (s : Columns h) where
   alert-stored : (g : Field) (i : ℕ) (f : Field) → length (alertColumn f (store h (Alert g i) v .alerts)) ≡ 248
@@ -64,7 +64,7 @@ module _ (h : Handler) (v : ℕ) (s : Columns h) where
       ap length (local-column g f x (h .locals))
       ∙ either-length (eqb (fieldIndex g) (fieldIndex f)) 7 x (localColumn f (h .locals)) (put-length 7 (localColumn g (h .locals)) 0 j _) (s .locals f)
 
-  store-lengths : (q : Register) (k : ℕ) → k < 4 → length (block (store h q v) k .lengths) ≡ 4
+  store-lengths : (q : Register) (k : ℕ) → k < 4 → length (classOf (store h q v) k .lengths) ≡ 4
   store-lengths q k l =
       ap (λ (c : Class). length (c .lengths)) (class-stored h q v k l)
       ∙ by-kind (λ q. length (classStored q v k (classAt h k) .lengths) ≡ 4) e e e (λ f j. e) (λ f i. e)

@@ -18,7 +18,8 @@ use Rattle.rules.specs.declared.Register.{Register}
 use Rattle.rules.specs.declared.Register.the-variants.{IntrState, IntrEnable, IntrTest, Local, Alert, Block, Unassigned}
 use Rattle.rules.specs.declared.Setting.{Setting}
 use Rattle.rules.specs.declared.Setting.the-variants.{Ctrl, ClrRegwen, Clr, AccumCnt, AccumThresh, TimeoutCyc, PhaseCyc, EscCnt}
-use Rattle.sentences.specs.AccessMap.{Row, held, code}
+use Rattle.sentences.specs.AccessMap.{Row}
+use Rattle.sentences.specs.Raw.{held, code}
 
 -- what the rules say of a row of the table
 pub record Found (n r : ℕ) (q : Register) (b : ℕ) : Type 0 where

@@ -17,7 +17,8 @@ use Rattle.rules.specs.declared.Register.the-variants.{Alert, Block}
 use Rattle.rules.specs.declared.Setting.{Setting}
 use Rattle.rules.specs.declared.Setting.the-variants.{Ctrl, ClrRegwen, AccumCnt, AccumThresh, TimeoutCyc, PhaseCyc, EscCnt}
 use Rattle.sentences.specs.AccessArrays.{Sized}
-use Rattle.sentences.specs.AccessMap.{Row, Shadowed, noBlock, block, held, noBlockStages, blockStages, code}
+use Rattle.sentences.specs.AccessMap.{Row, Shadowed}
+use Rattle.sentences.specs.Raw.{noClass, classOf, noStages, stagesOf, held, code}
 use Rattle.sentences.specs.AccessRefusals.{Reads, Writes, Malformed, NoRegister, WrongWay, TooWide, SillyThreshold, Locked, Differs, Accepted, Given3, Given12}
 use Rattle.sentences.specs.AccessWrites.{Commits, Changes, Written}
 use Rattle.sentences.specs.StageWrites.{Staged}
@@ -86,10 +87,10 @@ module _ (h : Handler) (x : Access) (f g : Handler) (a : Written h x f) (b : Wri
         cause : f .locals .cause ≡ g .locals .cause
         cause = same-list 0 7 _ _ (s .locals Field.Cause) (t .locals Field.Cause) (λ j l. same-held _ _ _ (Row.local-cause j l))
 
-    same-block : (k : ℕ) → k < 4 → block f k ≡ block g k
+    same-block : (k : ℕ) → k < 4 → classOf f k ≡ classOf g k
     same-block k l = λ i.
         record {
-          lengths = same-list 0 4 (block f k .lengths) (block g k .lengths) (s .lengths k l) (t .lengths k l) (λ p m. same-held _ (Block (PhaseCyc p) k) _ (Row.phase-cyc k p l m)) i;
+          lengths = same-list 0 4 (classOf f k .lengths) (classOf g k .lengths) (s .lengths k l) (t .lengths k l) (λ p m. same-held _ (Block (PhaseCyc p) k) _ (Row.phase-cyc k p l m)) i;
           timeout = same-held _ (Block TimeoutCyc k) _ (Row.timeout-cyc k l) i;
           count = same-held _ (Block EscCnt k) _ (Row.esc-cnt k l) i;
           ctrl = same-held _ (Block Ctrl k) _ (Row.ctrl k l) i;
@@ -101,7 +102,7 @@ module _ (h : Handler) (x : Access) (f g : Handler) (a : Written h x f) (b : Wri
         }
 
     same-classes : f .classes ≡ g .classes
-    same-classes = same-list noBlock 4 (f .classes) (g .classes) (s .classes) (t .classes) same-block
+    same-classes = same-list noClass 4 (f .classes) (g .classes) (s .classes) (t .classes) same-block
 
     same-interrupts : f .interrupts ≡ g .interrupts
     same-interrupts = λ i. record { state = same-held _ _ _ Row.intr-state i; enable = same-held _ _ _ Row.intr-enable i }
@@ -182,10 +183,10 @@ module _ (h : Handler) (x : Access) (f g : Handler) (a : Written h x f) (b : Wri
           class : f .stages .locals .class ≡ g .stages .locals .class
           class = same-list 0 7 _ _ (s .local-class) (t .local-class) (λ j l. same-code _ _ _ (Row.local-class j l) (Shadowed.local-class j))
 
-      same-block-stages : (k : ℕ) → k < 4 → blockStages f k ≡ blockStages g k
+      same-block-stages : (k : ℕ) → k < 4 → stagesOf f k ≡ stagesOf g k
       same-block-stages k l = λ i.
           record {
-            lengths = same-list 0 4 (blockStages f k .lengths) (blockStages g k .lengths) (s .stage-lengths k l) (t .stage-lengths k l)
+            lengths = same-list 0 4 (stagesOf f k .lengths) (stagesOf g k .lengths) (s .stage-lengths k l) (t .stage-lengths k l)
                 (λ p m. same-code _ (Block (PhaseCyc p) k) _ (Row.phase-cyc k p l m) (Shadowed.phase-cyc k p)) i;
             timeout = same-code _ (Block TimeoutCyc k) _ (Row.timeout-cyc k l) (Shadowed.timeout-cyc k) i;
             ctrl = same-code _ (Block Ctrl k) _ (Row.ctrl k l) (Shadowed.ctrl k) i;
@@ -195,7 +196,7 @@ module _ (h : Handler) (x : Access) (f g : Handler) (a : Written h x f) (b : Wri
       same-stages : f .stages ≡ g .stages
       same-stages = λ i.
           record {
-            classes = same-list noBlockStages 4 (f .stages .classes) (g .stages .classes) (s .stages) (t .stages) same-block-stages i;
+            classes = same-list noStages 4 (f .stages .classes) (g .stages .classes) (s .stages) (t .stages) same-block-stages i;
             alerts = same-alert-stages i;
             locals = same-local-stages i;
           }

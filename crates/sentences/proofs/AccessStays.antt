@@ -27,7 +27,7 @@ use Rattle.rules.specs.declared.Handler.{Handler}
 use Rattle.rules.specs.declared.Refusal.{Refusal}
 use Rattle.rules.specs.declared.Register.{Register}
 use Rattle.rules.specs.declared.Verdict.{Verdict}
-use Rattle.sentences.specs.AccessMap.{alertList}
+use Rattle.sentences.specs.Raw.{alertList}
 use Rattle.sentences.specs.AccessWrites.{Written}
 use Rattle.sentences.proofs.AccessVerdict.{refusalOf, verdict-of, is-5, is-1, is-2, is-4, is-14}
 use Rattle.sentences.proofs.AccessWrites.{takes, local-cause, alert-cause, intr-state, intr-test, intr-width, stays}

@@ -26,7 +26,8 @@ use Rattle.rules.specs.declared.Field.{Field}
 use Rattle.rules.specs.declared.Handler.{Handler}
 use Rattle.rules.specs.declared.Register.{Register}
 use Rattle.rules.specs.declared.Register.the-variants.{IntrState, IntrEnable, IntrTest, Local, Alert, Block}
-use Rattle.sentences.specs.AccessMap.{Names, Plain, Shadowed, held, code}
+use Rattle.sentences.specs.AccessMap.{Names, Plain, Shadowed}
+use Rattle.sentences.specs.Raw.{held, code}
 use Rattle.sentences.specs.AccessWrites.{Commits, Changes}
 use Rattle.sentences.proofs.AccessCases.{or-is}
 use Rattle.sentences.proofs.AccessMap.{found, held-is, code-is}

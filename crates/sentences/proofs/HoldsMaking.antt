@@ -17,7 +17,7 @@ use Rattle.rules.specs.Stages.{noClassStages}
 use Rattle.rules.specs.State.{resetClass, newHandler, badCount, made}
 use Rattle.rules.specs.declared.ClassStages.{ClassStages}
 use Rattle.sentences.specs.Making.{Entries, NewClass, NoStages, New, Making}
-use Rattle.sentences.specs.Samples.{arming}
+use Rattle.sentences.specs.Raw.{arming}
 
 -- ── a new handler ──
 

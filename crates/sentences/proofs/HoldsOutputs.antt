@@ -20,7 +20,8 @@ use Rattle.rules.specs.declared.Wires.{Wires}
 use Rattle.sentences.specs.ClassStep.{Stepped}
 use Rattle.sentences.specs.Outputs.{ClassHasEvent, Meets, ClassesStepped, Outputs}
 use Rattle.sentences.specs.Samples.{RaisesFiveOrNone}
-use Rattle.sentences.specs.Valid.{Valid, classOf}
+use Rattle.sentences.specs.Raw.{classOf}
+use Rattle.sentences.specs.Valid.{Valid}
 use Rattle.sentences.proofs.Cases.{and-is, or-is, any-is, then}
 use Rattle.sentences.proofs.HoldsClass.{holds-class}
 use Rattle.sentences.proofs.HoldsLines.{drives-is}

@@ -24,7 +24,8 @@ use Rattle.rules.specs.declared.Wires.{Wires}
 use Rattle.laws.proofs.StateLaws.{alert-sampled, local-sampled}
 use Rattle.laws.proofs.Heard.{heard-armed, heard-event, heard-raise}
 use Rattle.sentences.specs.Valid.{Valid}
-use Rattle.sentences.specs.Samples.{positive, negative, arming, Event, AlertEnabled, EqualWires, DifferingWrite, RaisesFiveOrNone, Occurs, Sampled, SampleStep, AlertEventIs, OccursIs, AssignedIs}
+use Rattle.sentences.specs.Raw.{positive, negative, arming}
+use Rattle.sentences.specs.Samples.{Event, AlertEnabled, EqualWires, DifferingWrite, RaisesFiveOrNone, Occurs, Sampled, SampleStep, AlertEventIs, OccursIs, AssignedIs}
 use Rattle.sentences.proofs.Cases.{off, eq-is, lt-is, not-is, and-is, or-is, any-is, then}
 
 -- ── the pair of wires ──

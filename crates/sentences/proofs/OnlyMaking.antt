@@ -10,7 +10,7 @@ use Rattle.rules.specs.declared.ClassStages.{ClassStages}
 use Rattle.rules.specs.declared.Handler.{Handler}
 use Rattle.rules.specs.declared.Made.{Made}
 use Rattle.sentences.specs.Making.{Entries, NewClass, NoStages, New, Making}
-use Rattle.sentences.specs.Valid.{classOf, stagesOf}
+use Rattle.sentences.specs.Raw.{classOf, stagesOf}
 use Rattle.sentences.proofs.OnlySamples.{same-list, same-words}
 
 same-entries : (n v : ℕ) (xs ys : List ℕ) → Entries n v xs → Entries n v ys → xs ≡ ys

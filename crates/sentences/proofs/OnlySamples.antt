@@ -15,7 +15,8 @@ use Rattle.bits.proofs.WordLaws.{placeIn-at}
 use Rattle.rules.specs.declared.Effects.{Effects}
 use Rattle.rules.specs.declared.Handler.{Handler}
 use Rattle.rules.specs.declared.Wires.{Wires}
-use Rattle.sentences.specs.Samples.{positive, negative, arming, Event, AlertEnabled, Occurs, RaisesFiveOrNone, Sampled, SampleStep, AlertEventIs, OccursIs, AssignedIs}
+use Rattle.sentences.specs.Raw.{positive, negative, arming}
+use Rattle.sentences.specs.Samples.{Event, AlertEnabled, Occurs, RaisesFiveOrNone, Sampled, SampleStep, AlertEventIs, OccursIs, AssignedIs}
 use Rattle.sentences.specs.Valid.{Valid}
 use Rattle.sentences.proofs.Cases.{either, same-test}
 

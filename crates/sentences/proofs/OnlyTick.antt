@@ -5,7 +5,6 @@ use Prim.Native.Nat.{ℕ, _≤_, _<_}
 use mathlib.Core.Path.{_≡_, refl, sym, _∙_, subst}
 use mathlib.Core.Logic.{_↔_}
 use mathlib.Core.Bool.{Bool, true, false, false≢true}
-use mathlib.Core.List.{[]}
 use native.Mathlib.Omega.{arith}
 use lib.IntN.{ℤ}
 use lib.ListN.{getD}
@@ -29,7 +28,8 @@ use Rattle.sentences.specs.Fits.{Fits}
 use Rattle.sentences.specs.Numbers.{Numbers}
 use Rattle.sentences.specs.Outputs.{ClassesStepped, OutputOf, Outputs}
 use Rattle.sentences.specs.Tick.{Runs, Refused7, Tick, Step1}
-use Rattle.sentences.specs.Valid.{Valid, classOf}
+use Rattle.sentences.specs.Raw.{noClass, classOf}
+use Rattle.sentences.specs.Valid.{Valid}
 use Rattle.sentences.proofs.Cases.{same-test}
 use Rattle.sentences.proofs.HoldsValid.{holds-valid}
 use Rattle.sentences.proofs.OnlyClass.{same-class}
@@ -99,7 +99,7 @@ module _ (a : Accessed) (w : Wires) (t u : Ticked) (v : Valid (a .handler)) (x :
   -- step 2 leaves the classes as they were
   fit2 : (j : ℕ) → j < 4 → Fits (classOf (x .state2) j)
   fit2 j l =
-      subst (λ cs. Fits (getD cs j (record { lengths = []; timeout = 0; count = 0; ctrl = 0; accum = 0; thresh = 0; regwen = 0; clrwen = 0; state = 0 })))
+      subst (λ cs. Fits (getD cs j noClass))
       (sym (x .step2 .classes)) (v .classes j l)
 
   same-handler : t .handler ≡ u .handler

@@ -22,7 +22,8 @@ use Rattle.rules.specs.declared.Refusal.{Refusal}
 use Rattle.rules.specs.declared.Register.{Register}
 use Rattle.rules.specs.declared.Register.the-variants.{Alert}
 use Rattle.rules.specs.declared.Verdict.{Verdict}
-use Rattle.sentences.specs.AccessMap.{Row, Names, Shadowed, code}
+use Rattle.sentences.specs.AccessMap.{Row, Names, Shadowed}
+use Rattle.sentences.specs.Raw.{code}
 use Rattle.sentences.specs.AccessRefusals.{Reads, Writes, Accepted}
 use Rattle.sentences.specs.StageWrites.{Staged}
 use Rattle.sentences.proofs.AccessMap.{found, decode-row, code-is}

@@ -17,9 +17,9 @@ use Rattle.rules.specs.declared.Register.the-variants.{Block}
 use Rattle.rules.specs.declared.Setting.the-variants.{Clr}
 use Rattle.rules.specs.declared.Verdict.{Verdict}
 use Rattle.sentences.specs.AccessArrays.{Sized}
-use Rattle.sentences.specs.AccessMap.{held}
 use Rattle.sentences.specs.AccessRefusals.{Reads, Writes, Given5, Given1, Given2, Given4, Given14, Given3, Given12, Accepted}
 use Rattle.sentences.specs.AccessWrites.{Written}
+use Rattle.sentences.specs.Raw.{held}
 use Rattle.sentences.specs.StageWrites.{Staged}
 
 -- ── the answer z to the access x ──

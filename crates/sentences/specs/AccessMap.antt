@@ -1,18 +1,16 @@
--- "Register map", with the numbers of request (iii): which register a number names, its bits, its ways, what locks it, whether it is shadowed,
--- and where the state holds it and its stage. Literal numbers and raw fields, and no definition of the rules.
+-- "Register map", with the numbers of request (iii): which register a number names, its bits, its ways, what locks it, and whether it is
+-- shadowed. Literal numbers and raw fields, and no definition of the rules.
 -- Assumes nothing.
 use Prim.Native.Nat.{ℕ, _+_, _*_, _<_}
 use mathlib.Core.Path.{_≡_}
-use mathlib.Core.List.{List, []}
 use lib.ListN.{getD}
-use Rattle.class_rules.specs.declared.Class.{Class}
-use Rattle.rules.specs.declared.ClassStages.{ClassStages}
 use Rattle.rules.specs.declared.Field.{Field}
 use Rattle.rules.specs.declared.Handler.{Handler}
 use Rattle.rules.specs.declared.Register.{Register}
 use Rattle.rules.specs.declared.Register.the-variants.{IntrState, IntrEnable, IntrTest, Local, Alert, Block, Unassigned}
 use Rattle.rules.specs.declared.Setting.{Setting}
 use Rattle.rules.specs.declared.Setting.the-variants.{Ctrl, ClrRegwen, Clr, AccumCnt, AccumThresh, TimeoutCyc, PhaseCyc, EscCnt}
+use Rattle.sentences.specs.Raw.{classOf}
 
 -- ── the table: number, register, bits ──
 
@@ -48,50 +46,6 @@ pub data Row (n : ℕ) : ℕ → Register → ℕ → Type 0 where
 -- the number r names the register q
 abbrev pub Names : ℕ → ℕ → Register → Type 0
 Names n r q = (b : ℕ) × Row n r q b
-
--- ── what the state holds: a raw field for each register ──
-
--- past the four classes there is none: never read
-abbrev pub noBlock : Class
-noBlock = record { lengths = []; timeout = 0; count = 0; ctrl = 0; accum = 0; thresh = 0; regwen = 0; clrwen = 0; state = 0 }
-
-abbrev pub block : Handler → ℕ → Class
-block h k = getD (h .classes) k noBlock
-
-abbrev pub localList : Handler → Field → List ℕ
-localList h Field.Regwen = h .locals .regwen
-localList h Field.En = h .locals .en
-localList h Field.Class = h .locals .class
-localList h Field.Cause = h .locals .cause
-
-abbrev pub alertList : Handler → Field → List ℕ
-alertList h Field.Regwen = h .alerts .regwen
-alertList h Field.En = h .alerts .en
-alertList h Field.Class = h .alerts .class
-alertList h Field.Cause = h .alerts .cause
-
--- "CLR holds no value"
-abbrev pub settingIn : Class → Setting → ℕ
-settingIn c Setting.Regwen = c .regwen
-settingIn c Ctrl = c .ctrl
-settingIn c ClrRegwen = c .clrwen
-settingIn c Clr = 0
-settingIn c AccumCnt = c .accum
-settingIn c AccumThresh = c .thresh
-settingIn c TimeoutCyc = c .timeout
-settingIn c (PhaseCyc p) = getD (c .lengths) p 0
-settingIn c EscCnt = c .count
-settingIn c Setting.State = c .state
-
--- INTR_TEST holds no value either: both are write only
-abbrev pub held : Handler → Register → ℕ
-held h IntrState = h .interrupts .state
-held h IntrEnable = h .interrupts .enable
-held h IntrTest = 0
-held h (Local f j) = getD (localList h f) j 0
-held h (Alert f i) = getD (alertList h f) i 0
-held h (Block s k) = settingIn (block h k) s
-held h Unassigned = 0
 
 -- ── ways, locks and shadows ──
 
@@ -137,17 +91,17 @@ pub data Shut (h : Handler) : Register → Type 0 where
   alert-en : (i : ℕ) → getD (h .alerts .regwen) i 0 ≡ 0 → Shut h (Alert Field.En i)
   alert-class : (i : ℕ) → getD (h .alerts .regwen) i 0 ≡ 0 → Shut h (Alert Field.Class i)
   -- "class REGWEN guards CTRL, ACCUM_THRESH, TIMEOUT_CYC and the phase lengths"
-  ctrl : (k : ℕ) → block h k .regwen ≡ 0 → Shut h (Block Ctrl k)
-  accum-thresh : (k : ℕ) → block h k .regwen ≡ 0 → Shut h (Block AccumThresh k)
-  timeout-cyc : (k : ℕ) → block h k .regwen ≡ 0 → Shut h (Block TimeoutCyc k)
-  phase-cyc : (k p : ℕ) → block h k .regwen ≡ 0 → Shut h (Block (PhaseCyc p) k)
+  ctrl : (k : ℕ) → classOf h k .regwen ≡ 0 → Shut h (Block Ctrl k)
+  accum-thresh : (k : ℕ) → classOf h k .regwen ≡ 0 → Shut h (Block AccumThresh k)
+  timeout-cyc : (k : ℕ) → classOf h k .regwen ≡ 0 → Shut h (Block TimeoutCyc k)
+  phase-cyc : (k p : ℕ) → classOf h k .regwen ≡ 0 → Shut h (Block (PhaseCyc p) k)
   -- "CLR_REGWEN guards CLR"
-  clr : (k : ℕ) → block h k .clrwen ≡ 0 → Shut h (Block Clr k)
+  clr : (k : ℕ) → classOf h k .clrwen ≡ 0 → Shut h (Block Clr k)
   -- "That REGWEN is then locked too, and CLR_REGWEN is locked while it is 0."
   local-regwen : (j : ℕ) → getD (h .locals .regwen) j 0 ≡ 0 → Shut h (Local Field.Regwen j)
   alert-regwen : (i : ℕ) → getD (h .alerts .regwen) i 0 ≡ 0 → Shut h (Alert Field.Regwen i)
-  regwen : (k : ℕ) → block h k .regwen ≡ 0 → Shut h (Block Setting.Regwen k)
-  clr-regwen : (k : ℕ) → block h k .clrwen ≡ 0 → Shut h (Block ClrRegwen k)
+  regwen : (k : ℕ) → classOf h k .regwen ≡ 0 → Shut h (Block Setting.Regwen k)
+  clr-regwen : (k : ℕ) → classOf h k .clrwen ≡ 0 → Shut h (Block ClrRegwen k)
 
 -- request (v): "EN and CLASS of alerts and local alerts, and CTRL, ACCUM_THRESH, TIMEOUT_CYC and the phase lengths"
 pub data Shadowed : Register → Type 0 where
@@ -159,45 +113,3 @@ pub data Shadowed : Register → Type 0 where
   accum-thresh : (k : ℕ) → Shadowed (Block AccumThresh k)
   timeout-cyc : (k : ℕ) → Shadowed (Block TimeoutCyc k)
   phase-cyc : (k p : ℕ) → Shadowed (Block (PhaseCyc p) k)
-
--- ── what the state holds of a stage, in one code: 0 where none is open, the staged value plus 1 where one is. What is not shadowed has none ──
-
--- past the four classes there is none: never read
-abbrev pub noBlockStages : ClassStages
-noBlockStages = record { lengths = []; timeout = 0; ctrl = 0; thresh = 0 }
-
-abbrev pub blockStages : Handler → ℕ → ClassStages
-blockStages h k = getD (h .stages .classes) k noBlockStages
-
-abbrev pub localStageList : Handler → Field → List ℕ
-localStageList h Field.Regwen = []
-localStageList h Field.En = h .stages .locals .en
-localStageList h Field.Class = h .stages .locals .class
-localStageList h Field.Cause = []
-
-abbrev pub alertStageList : Handler → Field → List ℕ
-alertStageList h Field.Regwen = []
-alertStageList h Field.En = h .stages .alerts .en
-alertStageList h Field.Class = h .stages .alerts .class
-alertStageList h Field.Cause = []
-
-abbrev pub settingStageIn : ClassStages → Setting → ℕ
-settingStageIn c Setting.Regwen = 0
-settingStageIn c Ctrl = c .ctrl
-settingStageIn c ClrRegwen = 0
-settingStageIn c Clr = 0
-settingStageIn c AccumCnt = 0
-settingStageIn c AccumThresh = c .thresh
-settingStageIn c TimeoutCyc = c .timeout
-settingStageIn c (PhaseCyc p) = getD (c .lengths) p 0
-settingStageIn c EscCnt = 0
-settingStageIn c Setting.State = 0
-
-abbrev pub code : Handler → Register → ℕ
-code h IntrState = 0
-code h IntrEnable = 0
-code h IntrTest = 0
-code h (Local f j) = getD (localStageList h f) j 0
-code h (Alert f i) = getD (alertStageList h f) i 0
-code h (Block s k) = settingStageIn (blockStages h k) s
-code h Unassigned = 0

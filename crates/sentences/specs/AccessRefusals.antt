@@ -12,7 +12,8 @@ use Rattle.rules.specs.declared.Handler.{Handler}
 use Rattle.rules.specs.declared.Register.{Register}
 use Rattle.rules.specs.declared.Register.the-variants.{Block}
 use Rattle.rules.specs.declared.Setting.{Setting}
-use Rattle.sentences.specs.AccessMap.{Row, Names, block, WriteOnly, ReadOnly, Regwen, Shut, code}
+use Rattle.sentences.specs.AccessMap.{Row, Names, WriteOnly, ReadOnly, Regwen, Shut}
+use Rattle.sentences.specs.Raw.{classOf, code}
 
 -- ── the access ──
 
@@ -54,7 +55,7 @@ TooWide h x = (r v b : ℕ) × (q : Register) × (x ≡ Write r v) × Row (h .n)
 -- other reading is of steps 3 and 4
 abbrev pub SillyThreshold : Handler → Access → Type 0
 SillyThreshold h x =
-    (k : ℕ) × Writes h x (Block Setting.Regwen k) 0 × (bit (block h k .ctrl) 0 ≡ true) × (block h k .thresh ≡ 65535) × (block h k .regwen ≡ 1)
+    (k : ℕ) × Writes h x (Block Setting.Regwen k) 0 × (bit (classOf h k .ctrl) 0 ≡ true) × (classOf h k .thresh ≡ 65535) × (classOf h k .regwen ≡ 1)
 
 -- 3: "register locked"; in REGWEN and CLR_REGWEN "a written 1 on a locked one is refused with 3, a 0 is accepted again"
 abbrev pub Locked : Handler → Access → Type 0

@@ -11,8 +11,9 @@ use Rattle.rules.specs.declared.Field.{Field}
 use Rattle.rules.specs.declared.Handler.{Handler}
 use Rattle.rules.specs.declared.Register.{Register}
 use Rattle.rules.specs.declared.Register.the-variants.{IntrState, IntrTest, Local, Alert}
-use Rattle.sentences.specs.AccessMap.{Names, Plain, Shadowed, alertList, held, code}
+use Rattle.sentences.specs.AccessMap.{Names, Plain, Shadowed}
 use Rattle.sentences.specs.AccessRefusals.{Writes, Given5, Given1, Given2, Given4, Given14, Accepted}
+use Rattle.sentences.specs.Raw.{alertList, held, code}
 
 -- an accepted write of v to q that is no first write to a shadowed register: these "now take two equal writes: the first is staged, the second
 -- commits". "A staged value acts on nothing": no sentence below reads a stage but through this

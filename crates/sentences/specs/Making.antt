@@ -10,8 +10,7 @@ use Rattle.class_rules.specs.declared.Class.{Class}
 use Rattle.rules.specs.declared.ClassStages.{ClassStages}
 use Rattle.rules.specs.declared.Handler.{Handler}
 use Rattle.rules.specs.declared.Made.{Made}
-use Rattle.sentences.specs.Samples.{arming}
-use Rattle.sentences.specs.Valid.{classOf, stagesOf}
+use Rattle.sentences.specs.Raw.{arming, classOf, stagesOf}
 
 -- so many entries, each at this value
 pub record Entries (count value : ℕ) (xs : List ℕ) : Type 0 where

@@ -13,8 +13,8 @@ use Rattle.rules.specs.declared.Output.{Output}
 use Rattle.rules.specs.declared.Wires.{Wires}
 use Rattle.sentences.specs.ClassStep.{En, Stepped}
 use Rattle.sentences.specs.Lines.{DrivesLine}
+use Rattle.sentences.specs.Raw.{classOf}
 use Rattle.sentences.specs.Samples.{Assigned}
-use Rattle.sentences.specs.Valid.{classOf}
 
 -- ── steps 3 and 4: g is the state before step 2, whose events and occurring local alerts count, w are the wires, f is what step 1 hands on;
 -- m is the state after step 2, and h that after step 4 ──

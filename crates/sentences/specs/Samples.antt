@@ -1,7 +1,7 @@
 -- "One tick, in order", step 2, in sentences: raw fields and plain comparisons, and no definition of the rules.
 -- The state is g before step 2 and h after it, w are the wires, and f is what step 1 hands on.
 -- Assumes nothing.
-use Prim.Native.Nat.{ℕ, _-_, _/_, _%_, _≤_, _<_}
+use Prim.Native.Nat.{ℕ, _≤_, _<_}
 use mathlib.Core.Path.{_≡_}
 use mathlib.Core.Logic.{_↔_, _⊎_}
 use mathlib.Core.Bool.{Bool, true, false}
@@ -10,18 +10,10 @@ use Rattle.bits.specs.Bits.{bit}
 use Rattle.rules.specs.declared.Effects.{Effects}
 use Rattle.rules.specs.declared.Handler.{Handler}
 use Rattle.rules.specs.declared.Wires.{Wires}
+use Rattle.sentences.specs.Raw.{positive, negative, arming}
 use Rattle.sentences.specs.Valid.{Valid}
 
--- ── the words of the sentences: alert i has bit 63 - i % 64 of word i / 64, of the wires and of the arming ──
-
-abbrev pub positive : Wires → ℕ → Bool
-positive w i = bit (getD (w .pos) (i / 64) 0) (63 - i % 64)
-
-abbrev pub negative : Wires → ℕ → Bool
-negative w i = bit (getD (w .neg) (i / 64) 0) (63 - i % 64)
-
-abbrev pub arming : Handler → ℕ → Bool
-arming g i = bit (getD (g .links .receivers .armed) (i / 64) 0) (63 - i % 64)
+-- ── the words of the sentences ──
 
 -- "Pair (1,0) on a re-armed alert is an event"; "Alert i exists for i below N"; "Samples at N and above count for nothing"
 abbrev pub Event : Handler → Wires → ℕ → Type 0

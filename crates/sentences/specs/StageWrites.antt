@@ -7,9 +7,10 @@ use lib.ListN.{getD}
 use Rattle.rules.specs.declared.Access.{Access}
 use Rattle.rules.specs.declared.Handler.{Handler}
 use Rattle.rules.specs.declared.Register.{Register}
-use Rattle.sentences.specs.AccessMap.{Names, Shadowed, code}
+use Rattle.sentences.specs.AccessMap.{Names, Shadowed}
 use Rattle.sentences.specs.AccessRefusals.{Reads, Writes, Given3, Given12, Accepted}
 use Rattle.sentences.specs.AccessWrites.{Commits}
+use Rattle.sentences.specs.Raw.{code}
 
 pub record Staged (h : Handler) (x : Access) (g : Handler) : Type 0 where
   -- "the first is staged"

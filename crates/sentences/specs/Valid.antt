@@ -4,21 +4,10 @@ use Prim.Native.Nat.{ℕ, _+_, _≤_, _<_}
 use mathlib.Core.Path.{_≡_}
 use mathlib.Core.Logic.{_↔_}
 use mathlib.Core.Bool.{Bool, true}
-use mathlib.Core.List.{[]}
 use lib.ListN.{getD}
-use Rattle.class_rules.specs.declared.Class.{Class}
-use Rattle.rules.specs.declared.ClassStages.{ClassStages}
 use Rattle.rules.specs.declared.Handler.{Handler}
 use Rattle.sentences.specs.Fits.{Fits}
-
--- ── entry k of the four classes; an array has its four entries, and a list that is too short is read as zeros ──
-
-abbrev pub classOf : Handler → ℕ → Class
-classOf h k =
-    getD (h .classes) k (record { lengths = []; timeout = 0; count = 0; ctrl = 0; accum = 0; thresh = 0; regwen = 0; clrwen = 0; state = 0 })
-
-abbrev pub stagesOf : Handler → ℕ → ClassStages
-stagesOf h k = getD (h .stages .classes) k (record { lengths = []; timeout = 0; ctrl = 0; thresh = 0 })
+use Rattle.sentences.specs.Raw.{classOf, stagesOf}
 
 -- request (v): a stage holds 0 where nothing is staged, and v + 1 where v is; the staged value is at most this
 abbrev pub StagedUpTo : ℕ → ℕ → Type 0
