@@ -5,8 +5,7 @@ use mathlib.Core.Path.{_≡_, refl, ap, ap₂, _∙_}
 use mathlib.Core.Bool.{true}
 use mathlib.Core.List.{List}
 use native.Mathlib.Omega.{arith}
-use borrow.Author.Tests.{eq-eqb, lt-ltb}
-use lib.Dec.{eqb}
+use borrow.Author.Tests.{lt-ltb}
 use lib.ListN.{take}
 use Rattle.bits.proofs.IndexLaws.{true-and}
 use Rattle.bits.specs.Bits.{bit, field}
@@ -14,27 +13,21 @@ use Rattle.class_rules.specs.Class.{lineEnable, lineMap, phaseCyc}
 use Rattle.class_rules.specs.declared.Class.{Class}
 use Rattle.escalation.specs.Escalation.{phaseStart}
 use Rattle.escalation.specs.List.{before, inputAt, classRead}
-use Rattle.laws.proofs.KeepsValid.{run-valid}
-use Rattle.laws.proofs.Locks.{acted-locked}
-use Rattle.laws.proofs.ValidLaws.{facts}
-use Rattle.laws.specs.InMap.{inMap}
-use Rattle.rules.specs.Access.{value, locked, acted}
+use Rattle.rules.specs.Access.{value, locked}
 use Rattle.rules.specs.Map.{guard}
 use Rattle.rules.specs.Run.{run}
 use Rattle.rules.specs.Valid.{valid}
 use Rattle.rules.specs.declared.Handler.{Handler}
 use Rattle.rules.specs.declared.Input.{Input}
-use Rattle.rules.specs.declared.Register.{Register}
 use Rattle.rules.specs.declared.Register.the-variants.{Block}
-use Rattle.rules.specs.declared.Setting.{Setting}
-use Rattle.rules.specs.declared.Setting.the-variants.{Ctrl, TimeoutCyc, PhaseCyc}
-use Rattle.policy.specs.Plan.{locks, ctrlOf, lengthOf, boot}
+use Rattle.rules.specs.declared.Setting.the-variants.{TimeoutCyc, PhaseCyc}
+use Rattle.policy.specs.Plan.{locks, lengthOf, boot}
 use Rattle.boot_laws.specs.Stands.{Stands, Success}
 use Rattle.policy.specs.declared.Lifecycle.{Lifecycle}
 use Rattle.boot_laws.proofs.AnyBoot.{boot-valid}
 use Rattle.boot_laws.proofs.Boot.{went}
 use Rattle.boot_laws.proofs.After.{boot-stands}
-use Rattle.boot_laws.proofs.FromBoot.{run-locked}
+use Rattle.boot_laws.proofs.FromBoot.{still, class-locked, ctrl-is}
 
 -- ── a state that stands so, any list from it, and step 1 of the next tick ──
 
@@ -42,27 +35,18 @@ module _ (l : Lifecycle) (c : locks l ≡ true) (h : Handler) (t : valid h ≡ t
   abbrev read : Class
   read = classRead (run h ys) x 0
 
-  still : (q : Register) → inMap (h .n) q ≡ true → locked h q ≡ true → value (acted (run h ys) (x .access)) q ≡ value h q
-  still q i b =
-      let r = run-locked h ys q t i b in
-      acted-locked (run h ys) (x .access) q (facts (run h ys) (run-valid h ys t) .n) (ap (λ (n : ℕ). inMap n q) (r .0) ∙ i) (r .1) .1 ∙ r .2
-
-  class-locked : eqb (value h (Block Setting.Regwen 0)) 0 ≡ true
-  class-locked = eq-eqb (value h (Block Setting.Regwen 0)) 0 (s .classLocks c .0)
-
   -- the lengths of document 002
   length-is : (p : ℕ) → p < 4 → phaseCyc read p ≡ lengthOf 0 p
   unfolding value locked guard
-  length-is p b = still (Block (PhaseCyc p) 0) (true-and refl (lt-ltb p 4 b)) class-locked ∙ s .lengths 0 p (omega arith) b
+  length-is p b = still h ys (x .access) (Block (PhaseCyc p) 0) t (true-and refl (lt-ltb p 4 b)) (class-locked l h c s) ∙ s .lengths 0 p (omega arith) b
 
   -- and no timeout
   pub timeout-is : read .timeout ≡ 0
   unfolding value locked guard
-  timeout-is = still (Block TimeoutCyc 0) refl class-locked ∙ s .timeout 0 (omega arith)
+  timeout-is = still h ys (x .access) (Block TimeoutCyc 0) t refl (class-locked l h c s) ∙ s .timeout 0 (omega arith)
 
-  ctrl-is : read .ctrl ≡ 0x393F
-  unfolding value locked guard
-  ctrl-is = let d : ctrlOf l 0 ≡ 0x393F = rw c in still (Block Ctrl 0) refl class-locked ∙ s .ctrl 0 (omega arith) ∙ d
+  has-ctrl : read .ctrl ≡ 0x393F
+  has-ctrl = ctrl-is l h ys (x .access) c t s
 
   -- how many ticks after the start Phases 0 to 3 and Terminal start
   pub starts-at : (phaseStart read 0 ≡ 0)
@@ -79,10 +63,10 @@ module _ (l : Lifecycle) (c : locks l ≡ true) (h : Handler) (t : valid h ≡ t
   -- every line is enabled, line e in phase e
   pub line-is : (e : ℕ) → e < 4 → (lineEnable read e ≡ true) × (lineMap read e ≡ e)
   unfolding bit
-  line-is zero b = (ap (λ (x : ℕ). bit x 2) ctrl-is, ap (λ (x : ℕ). field 6 2 x) ctrl-is)
-  line-is (suc zero) b = (ap (λ (x : ℕ). bit x 3) ctrl-is, ap (λ (x : ℕ). field 8 2 x) ctrl-is)
-  line-is (suc (suc zero)) b = (ap (λ (x : ℕ). bit x 4) ctrl-is, ap (λ (x : ℕ). field 10 2 x) ctrl-is)
-  line-is (suc (suc (suc zero))) b = (ap (λ (x : ℕ). bit x 5) ctrl-is, ap (λ (x : ℕ). field 12 2 x) ctrl-is)
+  line-is zero b = (ap (λ (x : ℕ). bit x 2) has-ctrl, ap (λ (x : ℕ). field 6 2 x) has-ctrl)
+  line-is (suc zero) b = (ap (λ (x : ℕ). bit x 3) has-ctrl, ap (λ (x : ℕ). field 8 2 x) has-ctrl)
+  line-is (suc (suc zero)) b = (ap (λ (x : ℕ). bit x 4) has-ctrl, ap (λ (x : ℕ). field 10 2 x) has-ctrl)
+  line-is (suc (suc (suc zero))) b = (ap (λ (x : ℕ). bit x 5) has-ctrl, ap (λ (x : ℕ). field 12 2 x) has-ctrl)
   line-is (suc (suc (suc (suc e)))) b = absurd (omega arith)
 
 -- ── after a boot in PROD or PROD_END that succeeded, in any tick of any list that follows ──

@@ -70,6 +70,13 @@ run-locked h (x ∷ xs) q t a l =
     let r = run-locked (ticked h x .handler) xs q (ticked-valid h x t) (ap (λ (m : ℕ). inMap m q) n ∙ a) (ap (λ (g : Handler). locked g q) e ∙ s .0) in
     (r .0 ∙ n, r .1, r .2 ∙ ap (λ (g : Handler). value g q) e ∙ s .1)
 
+-- what is locked in h holds the same after the list and step 1 of the next tick
+pub still : (h : Handler) (ys : List Input) (x : Access) (q : Register) → valid h ≡ true → inMap (h .n) q ≡ true → locked h q ≡ true
+    → value (acted (run h ys) x) q ≡ value h q
+still h ys x q t i b =
+    let r = run-locked h ys q t i b in
+    acted-locked (run h ys) x q (facts (run h ys) (run-valid h ys t) .n) (ap (λ (n : ℕ). inMap n q) (r .0) ∙ i) (r .1) .1 ∙ r .2
+
 -- ── after the boot class A waits ──
 
 -- valid, as many alerts, INTR_STATE 0 and class A Idle
@@ -133,15 +140,20 @@ a-class X e = refl
 
 -- ── a state that stands so, and any list from it ──
 
+-- class A is locked
+pub class-locked : (l : Lifecycle) (h : Handler) → locks l ≡ true → Stands l h → eqb (value h (Block Setting.Regwen 0)) 0 ≡ true
+class-locked l h c s = eq-eqb (value h (Block Setting.Regwen 0)) 0 (s .classLocks c .0)
+
+-- and keeps its CTRL
+pub ctrl-is : (l : Lifecycle) (h : Handler) (ys : List Input) (x : Access) → locks l ≡ true → valid h ≡ true → Stands l h
+    → classAt (acted (run h ys) x) 0 .ctrl ≡ 0x393F
+unfolding value locked guard
+ctrl-is l h ys x c t s =
+    let d : ctrlOf l 0 ≡ 0x393F = rw c in still h ys x (Block Ctrl 0) t refl (class-locked l h c s) ∙ s .ctrl 0 (omega arith) ∙ d
+
 module _ (l : Lifecycle) (c : locks l ≡ true) (h : Handler) (t : valid h ≡ true) (a : alertCount ≤ h .n) (s : Stands l h) (ys : List Input) (x : Access) where
   abbrev g : Handler
   g = acted (run h ys) x
-
-  -- what is locked in h holds the same after the list and step 1 of the next tick
-  still : (q : Register) → inMap (h .n) q ≡ true → locked h q ≡ true → value g q ≡ value h q
-  still q i b =
-      let r = run-locked h ys q t i b in
-      acted-locked (run h ys) x q (facts (run h ys) (run-valid h ys t) .n) (ap (λ (n : ℕ). inMap n q) (r .0) ∙ i) (r .1) .1 ∙ r .2
 
   alert-locked : (i : ℕ) → i < alertCount → isA (markAt l i) ≡ true → eqb (value h (Alert Field.Regwen i)) 0 ≡ true
   alert-locked i b m = eq-eqb (value h (Alert Field.Regwen i)) 0 (s .alertLocks i b c m)
@@ -152,35 +164,28 @@ module _ (l : Lifecycle) (c : locks l ≡ true) (h : Handler) (t : valid h ≡ t
   -- an alert marked A is enabled in class A
   alert-en : (i : ℕ) → i < alertCount → isA (markAt l i) ≡ true → alert g Field.En i ≡ 1
   unfolding value locked guard
-  alert-en i b m = still (Alert Field.En i) (has-alert i b) (alert-locked i b m) ∙ s .enable i b ∙ a-enables (markAt l i) m
+  alert-en i b m = still h ys x (Alert Field.En i) t (has-alert i b) (alert-locked i b m) ∙ s .enable i b ∙ a-enables (markAt l i) m
 
   alert-class : (i : ℕ) → i < alertCount → isA (markAt l i) ≡ true → alert g Field.Class i ≡ 0
   unfolding value locked guard
-  alert-class i b m = still (Alert Field.Class i) (has-alert i b) (alert-locked i b m) ∙ s .class i b ∙ a-class (markAt l i) m
+  alert-class i b m = still h ys x (Alert Field.Class i) t (has-alert i b) (alert-locked i b m) ∙ s .class i b ∙ a-class (markAt l i) m
 
-  class-locked : eqb (value h (Block Setting.Regwen 0)) 0 ≡ true
-  class-locked = eq-eqb (value h (Block Setting.Regwen 0)) 0 (s .classLocks c .0)
-
-  -- class A is locked, with these settings
+  -- class A, with its settings
   regwen-is : classAt g 0 .regwen ≡ 0
   unfolding value locked guard
-  regwen-is = still (Block Setting.Regwen 0) refl class-locked ∙ s .classLocks c .0
+  regwen-is = still h ys x (Block Setting.Regwen 0) t refl (class-locked l h c s) ∙ s .classLocks c .0
 
   thresh-is : classAt g 0 .thresh ≡ 0
   unfolding value locked guard
-  thresh-is = still (Block AccumThresh 0) refl class-locked ∙ s .thresh 0 (omega arith)
-
-  ctrl-is : classAt g 0 .ctrl ≡ 0x393F
-  unfolding value locked guard
-  ctrl-is = let d : ctrlOf l 0 ≡ 0x393F = rw c in still (Block Ctrl 0) refl class-locked ∙ s .ctrl 0 (omega arith) ∙ d
+  thresh-is = still h ys x (Block AccumThresh 0) t refl (class-locked l h c s) ∙ s .thresh 0 (omega arith)
 
   is-enabled : enabled (classAt g 0) ≡ true
   unfolding bit anyTo
-  is-enabled = ap (λ (y : ℕ). bit y 0 && anyTo (λ e. bit y (2 + e)) 4) ctrl-is
+  is-enabled = ap (λ (y : ℕ). bit y 0 && anyTo (λ e. bit y (2 + e)) 4) (ctrl-is l h ys x c t s)
 
   has-bits : (en (classAt g 0) ≡ true) × (lock (classAt g 0) ≡ true)
   unfolding bit
-  has-bits = (ap (λ (y : ℕ). bit y 0) ctrl-is, ap (λ (y : ℕ). bit y 1) ctrl-is)
+  has-bits = let e = ctrl-is l h ys x c t s in (ap (λ (y : ℕ). bit y 0) e, ap (λ (y : ℕ). bit y 1) e)
 
 module _ (l : Lifecycle) (c : locks l ≡ true) (h : Handler) (t : valid h ≡ true) (a : alertCount ≤ h .n) (s : Stands l h) (ys : List Input) (x : Input) (i : ℕ) where
   first-starts : run h ys .n ≡ h .n → FirstEvent l (run h ys) x i → Starts (run h ys) x 0
