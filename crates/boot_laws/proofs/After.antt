@@ -23,8 +23,9 @@ use Rattle.rules.specs.Valid.{valid}
 use Rattle.rules.specs.declared.Field.{Field}
 use Rattle.rules.specs.declared.Handler.{Handler}
 use Rattle.rules.specs.declared.Register.{Register}
-use Rattle.rules.specs.declared.Register.the-variants.{IntrState, IntrEnable, Local, Alert, Block}
+use Rattle.rules.specs.declared.Register.the-variants.{Only, Local, Alert, Block}
 use Rattle.rules.specs.declared.Setting.the-variants.{Ctrl, AccumCnt}
+use Rattle.rules.specs.declared.Single.the-variants.{IntrState, IntrEnable}
 use Rattle.policy.specs.Install.{Ask, Entry, under, install, write, read, asks}
 use Rattle.policy.specs.Plan.{locks, ctrlOf, alertEntries, classEntries, planOf, boot}
 use Rattle.boot_laws.specs.Ran.{wants, reach, Among}
@@ -99,7 +100,7 @@ module _ (l : Lifecycle) (h : Handler) (w : Went l h) where
   eventless =
       record {
         values = moved;
-        interrupts = moved IntrState refl refl refl;
+        interrupts = moved (Only IntrState) refl refl refl;
         local-causes = λ j b. moved (Local Field.Cause j) (lt-ltb j localCount b) refl refl;
         causes = λ i b. moved (Alert Field.Cause i) (lt-ltb i (h .n) b) refl refl;
         counts = λ k b. moved (Block AccumCnt k) (true-and (lt-ltb k classCount b) refl) refl refl;
@@ -144,7 +145,7 @@ module _ (l : Lifecycle) (h : Handler) (t : valid h ≡ true) (large : alertCoun
         n = install-kept h (under h) (asks (planOf l)) (record { good = t; n = refl }) .n;
         values = frame;
         stages = stage-same;
-        enables = frame IntrEnable refl (free-of IntrEnable refl) refl;
+        enables = frame (Only IntrEnable) refl (free-of (Only IntrEnable) refl) refl;
         locals = λ f j b m. frame (Local f j) (lt-ltb j localCount b) (free-of (Local f j) (local-out f j b)) m;
         local-stages = λ f j b. stage-same (Local f j) (lt-ltb j localCount b) (free-of (Local f j) (local-out f j b));
         others = λ f i a b m. frame (Alert f i) (lt-ltb i (h .n) b) (free-of (Alert f i) (other-out f i a (below i b))) m;

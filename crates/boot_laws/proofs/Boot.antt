@@ -27,7 +27,8 @@ use Rattle.rules.specs.State.{most, newHandler}
 use Rattle.rules.specs.Valid.{valid}
 use Rattle.rules.specs.declared.Handler.{Handler}
 use Rattle.rules.specs.declared.Register.{Register}
-use Rattle.rules.specs.declared.Register.the-variants.{IntrState}
+use Rattle.rules.specs.declared.Register.the-variants.{Only}
+use Rattle.rules.specs.declared.Single.the-variants.{IntrState}
 use Rattle.policy.specs.Install.{Ask, Entry, under, install, asks}
 use Rattle.policy.specs.Plan.{planOf, barred, boot}
 use Rattle.boot_laws.specs.Ran.{inputs, noAsk, All, StoppedAt}
@@ -112,7 +113,7 @@ new-succeeds l n a b = boot-succeeds l (newHandler n) (new-valid n (omega arith)
 -- no entry's number is 0
 pub not-zero : (n : ℕ) (q : Register) (v : ℕ) → n ≤ most → Fit n q v → numberOf q ≡ 0 → ⊥
 unfolding numberOf
-not-zero n q v m f e = false≢true (ap plain (sym (number-eq n q IntrState m (f .exists) refl e)) ∙ f .takes)
+not-zero n q v m f e = false≢true (ap plain (sym (number-eq n q (Only IntrState) m (f .exists) refl e)) ∙ f .takes)
 
 all-at : {P : Ask → Type 0} (xs : List Ask) → All P xs → (i : ℕ) → i < length xs → P (getD xs i noAsk)
 all-at [] none i l = absurd (not-suc-le-zero l)

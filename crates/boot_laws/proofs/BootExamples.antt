@@ -11,9 +11,10 @@ use Rattle.rules.specs.Stages.{stage}
 use Rattle.rules.specs.State.{newHandler, classAt}
 use Rattle.rules.specs.declared.Field.{Field}
 use Rattle.rules.specs.declared.Handler.{Handler}
-use Rattle.rules.specs.declared.Register.the-variants.{IntrState, IntrEnable, Local, Alert, Block}
+use Rattle.rules.specs.declared.Register.the-variants.{Only, Local, Alert, Block}
 use Rattle.rules.specs.declared.Setting.{Setting}
 use Rattle.rules.specs.declared.Setting.the-variants.{Ctrl, AccumCnt, AccumThresh, TimeoutCyc, PhaseCyc}
+use Rattle.rules.specs.declared.Single.the-variants.{IntrState, IntrEnable}
 use Rattle.policy.specs.Plan.{alertEntries, classEntries, lockEntries, classLock, partsTo, planOf, boot}
 use Rattle.policy.specs.Sound.{unnamed}
 use Rattle.boot_laws.specs.Stands.{Success}
@@ -121,8 +122,8 @@ module _ (h : Handler) where
     after = boot l h .handler
 
     untouched : (after .n ≡ h .n)
-        × (value after IntrState ≡ value h IntrState)
-        × (value after IntrEnable ≡ value h IntrEnable)
+        × (value after (Only IntrState) ≡ value h (Only IntrState))
+        × (value after (Only IntrEnable) ≡ value h (Only IntrEnable))
         × (value after (Local Field.En 6) ≡ value h (Local Field.En 6))
         × (stage after (Local Field.Class 0) ≡ stage h (Local Field.Class 0))
         × (value after (Block AccumCnt 3) ≡ value h (Block AccumCnt 3))

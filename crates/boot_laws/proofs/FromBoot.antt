@@ -37,9 +37,10 @@ use Rattle.rules.specs.declared.Field.{Field}
 use Rattle.rules.specs.declared.Handler.{Handler}
 use Rattle.rules.specs.declared.Input.{Input}
 use Rattle.rules.specs.declared.Register.{Register}
-use Rattle.rules.specs.declared.Register.the-variants.{IntrState, Alert, Block}
+use Rattle.rules.specs.declared.Register.the-variants.{Only, Alert, Block}
 use Rattle.rules.specs.declared.Setting.{Setting}
 use Rattle.rules.specs.declared.Setting.the-variants.{Ctrl, AccumThresh}
+use Rattle.rules.specs.declared.Single.the-variants.{IntrState}
 use Rattle.policy.specs.Install.{under, install, write, read, asks}
 use Rattle.policy.specs.Plan.{isA, enOf, classOf, locks, ctrlOf, planOf, boot}
 use Rattle.boot_laws.specs.FromBoot.{FirstEvent, FromBoot}
@@ -82,15 +83,15 @@ still h ys x q t i b =
 -- valid, as many alerts, INTR_STATE 0 and class A Idle
 pub record Waits (h g : Handler) : Type 0 where
   pub kept : Kept h g
-  pub calm : value g IntrState ≡ 0
+  pub calm : value g (Only IntrState) ≡ 0
   pub idle : stateOf (classAt g 0 .state) ≡ Idle
 
-module _ (l : Lifecycle) (h : Handler) (w : Went l h) (z : value h IntrState ≡ 0) (i : stateOf (classAt h 0 .state) ≡ Idle) where
-  calm-bit : (f : Handler) → value f IntrState ≡ 0 → bit (f .interrupts .state) 0 ≡ false
+module _ (l : Lifecycle) (h : Handler) (w : Went l h) (z : value h (Only IntrState) ≡ 0) (i : stateOf (classAt h 0 .state) ≡ Idle) where
+  calm-bit : (f : Handler) → value f (Only IntrState) ≡ 0 → bit (f .interrupts .state) 0 ≡ false
   unfolding value
   calm-bit f e = ap (λ (x : ℕ). bit x 0) e ∙ bit-none 0
 
-  zero-same : (f : Handler) → Waits h f → Same IntrState h f
+  zero-same : (f : Handler) → Waits h f → Same (Only IntrState) h f
   unfolding stageIn
   zero-same f s = record { kept = s .kept; holds = s .calm ∙ sym z; staged = refl }
 
@@ -104,21 +105,21 @@ module _ (l : Lifecycle) (h : Handler) (w : Went l h) (z : value h IntrState ≡
       (by-write (e .register) (e .value) k d, by-read (e .register) (e .value) k d)))
       h (record { kept = record { good = w .good; n = refl }; calm = z; idle = i }) (w .going)
     where
-      by-write : (q : Register) (v : ℕ) → Fit (h .n) q v → (numberOf q ≡ numberOf IntrState → ⊥) → (f : Handler) → Waits h f
+      by-write : (q : Register) (v : ℕ) → Fit (h .n) q v → (numberOf q ≡ numberOf (Only IntrState) → ⊥) → (f : Handler) → Waits h f
           → wants f (write (numberOf q) v) ≡ true → Waits h (reach f (write (numberOf q) v))
       by-write q v k d f s g =
           record {
             kept = reach-kept h f (write (numberOf q) v) (s .kept);
-            calm = quiet-write h f (s .kept) q v k IntrState refl refl d (zero-same f s) g .holds ∙ z;
+            calm = quiet-write h f (s .kept) q v k (Only IntrState) refl refl d (zero-same f s) g .holds ∙ z;
             idle = idle-write h f (s .kept) q v k 0 (omega arith) g d (calm-bit f (s .calm)) (s .idle);
           }
 
-      by-read : (q : Register) (v : ℕ) → Fit (h .n) q v → (numberOf q ≡ numberOf IntrState → ⊥) → (f : Handler) → Waits h f
+      by-read : (q : Register) (v : ℕ) → Fit (h .n) q v → (numberOf q ≡ numberOf (Only IntrState) → ⊥) → (f : Handler) → Waits h f
           → wants f (read (numberOf q) v) ≡ true → Waits h (reach f (read (numberOf q) v))
       by-read q v k d f s g =
           record {
             kept = reach-kept h f (read (numberOf q) v) (s .kept);
-            calm = quiet-read h f (s .kept) q v k IntrState refl refl d (zero-same f s) g .holds ∙ z;
+            calm = quiet-read h f (s .kept) q v k (Only IntrState) refl refl d (zero-same f s) g .holds ∙ z;
             idle = idle-read h f (s .kept) q v k 0 (omega arith) g (calm-bit f (s .calm)) (s .idle);
           }
 
@@ -204,7 +205,7 @@ module _ (l : Lifecycle) (c : locks l ≡ true) (h : Handler) (t : valid h ≡ t
 
 -- ── the corollary ──
 
-new-waits : (n : ℕ) → (value (newHandler n) IntrState ≡ 0) × (stateOf (classAt (newHandler n) 0 .state) ≡ Idle)
+new-waits : (n : ℕ) → (value (newHandler n) (Only IntrState) ≡ 0) × (stateOf (classAt (newHandler n) 0 .state) ≡ Idle)
 unfolding value newHandler stateOf
 new-waits n = (refl, refl)
 

@@ -38,7 +38,8 @@ use Rattle.rules.specs.declared.Answer.{Answer}
 use Rattle.rules.specs.declared.Handler.{Handler}
 use Rattle.rules.specs.declared.Refusal.{Refusal}
 use Rattle.rules.specs.declared.Register.{Register}
-use Rattle.rules.specs.declared.Register.the-variants.{IntrState, Block}
+use Rattle.rules.specs.declared.Register.the-variants.{Only, Block}
+use Rattle.rules.specs.declared.Single.the-variants.{IntrState}
 use Rattle.rules.specs.declared.Verdict.{Verdict}
 use Rattle.policy.specs.Install.{Ask, rest, is, write, read}
 use Rattle.boot_laws.specs.Ran.{inputOf, wants, reach}
@@ -106,7 +107,7 @@ module _ (h : Handler) (a : Ask) (t : valid h ≡ true) (w : wants h a ≡ true)
 -- a plain register is no CLR
 plain-clr : (k : ℕ) (q : Register) → plain q ≡ true → isClrOf k q ≡ false
 plain-clr k =
-    by-kind P (λ p. refl) (λ p. refl) (λ p. refl) (λ f j p. refl) (λ f i p. refl)
+    by-kind P (λ o p. refl) (λ f j p. refl) (λ f i p. refl)
     (λ s j. by-setting (λ s. P (Block s j)) (λ p. refl) (λ p. refl) (λ p. refl) (λ p. absurd (false≢true p)) (λ p. refl) (λ p. refl) (λ p. refl)
     (λ i p. rw (ne-eqb (7 + i) 3 (λ (d : 7 + i ≡ 3). omega arith))) (λ p. refl) (λ p. refl) s) (λ p. refl)
   where
@@ -150,15 +151,15 @@ module _ (h f : Handler) (w : Kept h f) (q : Register) (v : ℕ) (k : Fit (h .n)
     quiet-read s g = same-by (read (numberOf q) v) s g (λ j. refl) refl (other-name f (w .good) q v in-f (k .takes) o d)
 
   -- an Idle class whose interrupt bit is 0 stays Idle
-  idle-by : (x : Ask) (j : ℕ) → j < classCount → wants f x ≡ true → ((i : ℕ) → writesClr f (x .access) i ≡ false) → commits f (x .access) IntrState ≡ false
+  idle-by : (x : Ask) (j : ℕ) → j < classCount → wants f x ≡ true → ((i : ℕ) → writesClr f (x .access) i ≡ false) → commits f (x .access) (Only IntrState) ≡ false
       → bit (f .interrupts .state) j ≡ false → stateOf (classAt f j .state) ≡ Idle → stateOf (classAt (reach f x) j .state) ≡ Idle
   idle-by x j l g c m b s =
       ap (λ (e : Handler). stateOf (classAt e j .state)) (ticked-handler f (inputOf x) (w .good))
       ∙ quiet-waits f (inputOf x) (w .good) (boot-silent f x (w .good) g) (no-clear (x .access) c) j l m b s
 
-  pub idle-write : (j : ℕ) → j < classCount → wants f (write (numberOf q) v) ≡ true → (numberOf q ≡ numberOf IntrState → ⊥)
+  pub idle-write : (j : ℕ) → j < classCount → wants f (write (numberOf q) v) ≡ true → (numberOf q ≡ numberOf (Only IntrState) → ⊥)
       → bit (f .interrupts .state) j ≡ false → stateOf (classAt f j .state) ≡ Idle → stateOf (classAt (reach f (write (numberOf q) v)) j .state) ≡ Idle
-  idle-write j l g d = idle-by (write (numberOf q) v) j l g write-clr (spares f (w .good) q v in-f (k .takes) IntrState d)
+  idle-write j l g d = idle-by (write (numberOf q) v) j l g write-clr (spares f (w .good) q v in-f (k .takes) (Only IntrState) d)
 
   pub idle-read : (j : ℕ) → j < classCount → wants f (read (numberOf q) v) ≡ true → bit (f .interrupts .state) j ≡ false
       → stateOf (classAt f j .state) ≡ Idle → stateOf (classAt (reach f (read (numberOf q) v)) j .state) ≡ Idle

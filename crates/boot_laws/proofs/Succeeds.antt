@@ -50,7 +50,7 @@ Wise k h es = (value h (thresh k) ≡ 65535 → ⊥) ⊎ (ahead k es ≡ true)
 not-silly : (h : Handler) (q : Register) (v : ℕ) → ((k : ℕ) → q ≡ regwen k → value h (thresh k) ≡ 65535 → ⊥) → silly h q v ≡ false
 unfolding value
 not-silly h q v =
-    by-kind P (λ f. refl) (λ f. refl) (λ f. refl) (λ _ j f. refl) (λ _ i f. refl)
+    by-kind P (λ o f. refl) (λ _ j f. refl) (λ _ i f. refl)
     (λ s k. by-setting (λ s. P (Block s k)) (λ f. own k (f k refl)) (λ f. refl) (λ f. refl) (λ f. refl) (λ f. refl) (λ f. refl) (λ f. refl)
     (λ p f. rw (ne-eqb (7 + p) 0 (λ (d : 7 + p ≡ 0). omega arith))) (λ f. refl) (λ f. refl) s) (λ f. refl) q
   where

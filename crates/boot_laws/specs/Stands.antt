@@ -15,9 +15,10 @@ use Rattle.rules.specs.State.{localCount, classCount, classAt}
 use Rattle.rules.specs.declared.Field.{Field}
 use Rattle.rules.specs.declared.Handler.{Handler}
 use Rattle.rules.specs.declared.Register.{Register}
-use Rattle.rules.specs.declared.Register.the-variants.{IntrState, IntrEnable, Local, Alert, Block}
+use Rattle.rules.specs.declared.Register.the-variants.{Only, Local, Alert, Block}
 use Rattle.rules.specs.declared.Setting.{Setting}
 use Rattle.rules.specs.declared.Setting.the-variants.{Ctrl, AccumCnt, AccumThresh, TimeoutCyc, PhaseCyc}
+use Rattle.rules.specs.declared.Single.the-variants.{IntrState, IntrEnable}
 use Rattle.policy.specs.Plan.{classOf, enOf, isA, locks, ctrlOf, lengthOf, planOf, boot}
 use Rattle.policy.specs.Install.{Entry}
 use Rattle.boot_laws.specs.Ran.{Among}
@@ -49,7 +50,7 @@ pub record Untouched (l : Lifecycle) (h g : Handler) : Type 0 where
   pub n : g .n ≡ h .n
   pub values : (o : Register) → inMap (h .n) o ≡ true → unnamed o (planOf l) ≡ true → movesItself o ≡ false → value g o ≡ value h o
   pub stages : (o : Register) → inMap (h .n) o ≡ true → unnamed o (planOf l) ≡ true → stage g o ≡ stage h o
-  pub enables : value g IntrEnable ≡ value h IntrEnable
+  pub enables : value g (Only IntrEnable) ≡ value h (Only IntrEnable)
   -- so "local alerts and alerts from 58 up are not written"; a CAUSE is an event's to set
   pub locals : (f : Field) (j : ℕ) → j < localCount → fieldRow f .moves ≡ false → value g (Local f j) ≡ value h (Local f j)
   pub local-stages : (f : Field) (j : ℕ) → j < localCount → stage g (Local f j) ≡ stage h (Local f j)
@@ -60,7 +61,7 @@ pub record Untouched (l : Lifecycle) (h g : Handler) : Type 0 where
 -- CLR_REGWEN are the run's: a class in Timeout or a phase moves without an event
 pub record Eventless (h g : Handler) : Type 0 where
   pub values : (o : Register) → inMap (h .n) o ≡ true → movesItself o ≡ true → runs o ≡ false → value g o ≡ value h o
-  pub interrupts : value g IntrState ≡ value h IntrState
+  pub interrupts : value g (Only IntrState) ≡ value h (Only IntrState)
   pub local-causes : (j : ℕ) → j < localCount → value g (Local Field.Cause j) ≡ value h (Local Field.Cause j)
   pub causes : (i : ℕ) → i < h .n → value g (Alert Field.Cause i) ≡ value h (Alert Field.Cause i)
   pub counts : (k : ℕ) → k < classCount → value g (Block AccumCnt k) ≡ value h (Block AccumCnt k)

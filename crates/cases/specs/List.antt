@@ -16,9 +16,10 @@ use Rattle.rules.specs.declared.Field.{Field}
 use Rattle.rules.specs.declared.Handler.{Handler}
 use Rattle.rules.specs.declared.Input.{Input}
 use Rattle.rules.specs.declared.Register.{Register}
-use Rattle.rules.specs.declared.Register.the-variants.{IntrState, Local, Alert, Block}
+use Rattle.rules.specs.declared.Register.the-variants.{Only, Local, Alert, Block}
 use Rattle.rules.specs.declared.Setting.{Setting}
 use Rattle.rules.specs.declared.Setting.the-variants.{Ctrl, Clr, AccumCnt, AccumThresh, TimeoutCyc, PhaseCyc}
+use Rattle.rules.specs.declared.Single.the-variants.{IntrState}
 
 -- ── the stations ──
 
@@ -63,7 +64,7 @@ full = let h = on 65535 0 in withClasses (put 4 (h .classes) noClass 0 (counted 
 
 -- threshold and ACCUM_CNT 2, by two events; the interrupt bit is cleared
 abbrev pub counted2 : Handler
-counted2 = run (on 2 0) (rise none ∷ rest none ∷ rise none ∷ rest (write IntrState 1) ∷ [])
+counted2 = run (on 2 0) (rise none ∷ rest none ∷ rise none ∷ rest (write (Only IntrState) 1) ∷ [])
 
 -- local 2 enabled in class 1, which has EN; alert 0 enabled
 abbrev pub sealed : Handler
@@ -125,12 +126,12 @@ pub record List12 : Type 0 where
   pub P8 :
       (changes 7 0 (heldBy (on 9 1) (rise none ∷ rest none ∷ []) state) ≡ (7, 1) ∷ (8, 4) ∷ []) × (heldBy (on 9 0) (rise none ∷ rest none ∷ []) state ≡ 0 ∷ 0 ∷ [])
   -- P9 Idle, accepted clear with an event at the threshold: ACCUM_CNT 0, no start, interrupt set
-  pub P9-before : (holds counted2 [] state ≡ 0) × (holds counted2 [] (Block AccumThresh 0) ≡ 2) × (holds counted2 [] accum ≡ 2) × (holds counted2 [] IntrState ≡ 0)
+  pub P9-before : (holds counted2 [] state ≡ 0) × (holds counted2 [] (Block AccumThresh 0) ≡ 2) × (holds counted2 [] accum ≡ 2) × (holds counted2 [] (Only IntrState) ≡ 0)
   pub P9 :
       (gives counted2 (rise (write (Block Clr 0) 1)) ≡ pos 0)
       × (holds counted2 (rise (write (Block Clr 0) 1) ∷ []) accum ≡ 0)
       × (holds counted2 (rise (write (Block Clr 0) 1) ∷ []) state ≡ 0)
-      × (holds counted2 (rise (write (Block Clr 0) 1) ∷ []) IntrState ≡ 1)
+      × (holds counted2 (rise (write (Block Clr 0) 1) ∷ []) (Only IntrState) ≡ 1)
   -- without the clear the same event starts it
   pub P9-start : holds counted2 (rise none ∷ []) state ≡ 4
   -- P10 Clear one tick after a LOCK start: -3
@@ -140,4 +141,4 @@ pub record List12 : Type 0 where
   -- P11 Wires (1,1) on enabled alert 0, local 2 enabled in enabled class 1: register 42 reads 1 next tick
   pub P11 : answers sealed (broken (old (Access.Read 42)) ∷ rest (old (Access.Read 42)) ∷ []) ≡ pos 0 ∷ pos 1 ∷ []
   -- P12 INTR_STATE clear with an event: bit is 1 after
-  pub P12 : heldBy (on 9 0) (rise none ∷ rest none ∷ rise (write IntrState 1) ∷ rest (write IntrState 1) ∷ []) IntrState ≡ 1 ∷ 1 ∷ 1 ∷ 0 ∷ []
+  pub P12 : heldBy (on 9 0) (rise none ∷ rest none ∷ rise (write (Only IntrState) 1) ∷ rest (write (Only IntrState) 1) ∷ []) (Only IntrState) ≡ 1 ∷ 1 ∷ 1 ∷ 0 ∷ []

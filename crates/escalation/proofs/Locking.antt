@@ -54,7 +54,7 @@ step-sound q c s = s
 -- what writes a register of a block is a write at it
 is-target : (q : Register) (s : Setting) (k : ℕ) → target q ≡ Block s k → q ≡ Block s k
 is-target q s k =
-    by-kind (λ q. target q ≡ Block s k → q ≡ Block s k) (λ e. cc) (λ e. cc) (λ e. cc) (λ f j e. e) (λ f i e. e) (λ t j e. e) (λ e. e) q
+    by-kind (λ q. target q ≡ Block s k → q ≡ Block s k) (λ o e. cc) (λ f j e. e) (λ f i e. e) (λ t j e. e) (λ e. e) q
 
 module _ (g : Handler) (v : valid g ≡ true) (k : ℕ) (small : k < classCount) where
   abbrev lock : Register

@@ -35,7 +35,7 @@ use Rattle.escalation.proofs.Ticks.{at, input, at-valid, at-next}
 locked-register : (h : Handler) (q : Register) → locked h q ≡ true → isRegister q ≡ true
 unfolding locked guard
 locked-register h q =
-    by-kind (λ q. locked h q ≡ true → isRegister q ≡ true) (λ e. refl) (λ e. refl) (λ e. refl) (λ f j e. refl) (λ f i e. refl)
+    by-kind (λ q. locked h q ≡ true → isRegister q ≡ true) (λ o e. refl) (λ f j e. refl) (λ f i e. refl)
     (λ s k e. refl) (λ e. e) q
 
 -- from the state f to the state g: as many alerts, q is still locked and holds the same, and its stage is the same or none

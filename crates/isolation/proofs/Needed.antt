@@ -19,8 +19,9 @@ use Rattle.rules.specs.declared.Access.{Access}
 use Rattle.rules.specs.declared.ClassStages.{ClassStages}
 use Rattle.rules.specs.declared.Handler.{Handler}
 use Rattle.rules.specs.declared.Input.{Input}
-use Rattle.rules.specs.declared.Register.the-variants.{IntrEnable, IntrTest, Block}
+use Rattle.rules.specs.declared.Register.the-variants.{Only, Block}
 use Rattle.rules.specs.declared.Setting.the-variants.{AccumThresh}
+use Rattle.rules.specs.declared.Single.the-variants.{IntrEnable, IntrTest}
 use Rattle.isolation.specs.Isolation.{Alike, SameClass, SameInterrupt}
 use Rattle.isolation.specs.OwnAccess.{changesEnable}
 use Rattle.isolation.proofs.Traces.{Got, along, gets}
@@ -155,11 +156,11 @@ refused-needed = differs kept dropped-by-refusal (λ e. omega arith)
 
 -- ── without "the same changes by software of its interrupt bits": INTR_TEST starts a timeout, where `calm` has Idle ──
 
-other-change : Told (at 2 0 0 0 eager) (rest (write IntrTest 8) ∷ []) 0 true eager (staging 0) false (entry false none true ∷ []) 1
+other-change : Told (at 2 0 0 0 eager) (rest (write (Only IntrTest) 8) ∷ []) 0 true eager (staging 0) false (entry false none true ∷ []) 1
 unfolding rules xor along
 other-change = record { is-valid = refl; class = refl; stages = refl; bit-3 = refl; tick = refl; reached = refl }
 
-change-needed : SameClass 3 (givenAt 0 (at 2 0 0 0 eager) (rest (write IntrTest 8) ∷ []) 0) (givenAt 0 (at 2 0 0 0 eager) (rest none ∷ []) 0) → ⊥
+change-needed : SameClass 3 (givenAt 0 (at 2 0 0 0 eager) (rest (write (Only IntrTest) 8) ∷ []) 0) (givenAt 0 (at 2 0 0 0 eager) (rest none ∷ []) 0) → ⊥
 change-needed = differs other-change calm (λ e. omega arith)
 
 -- ── without "from accepted states": of 249 alerts the tick is not run, and the class stays Idle, in the first run or in the second ──
@@ -203,7 +204,7 @@ other-enable =
       shown = refl;
     }
 
-enabled-now : Shows (at 2 0 0 0 eager) (raise 0 (write IntrEnable 8)) false true true
+enabled-now : Shows (at 2 0 0 0 eager) (raise 0 (write (Only IntrEnable) 8)) false true true
 unfolding rules xor along
 enabled-now =
     record {
@@ -216,5 +217,5 @@ enabled-now =
 enable-needed : SameInterrupt 3 (givenAt 0 (at 2 0 8 0 eager) (raise 0 none ∷ []) 0) (givenAt 0 (at 2 0 0 0 eager) (raise 0 none ∷ []) 0) → ⊥
 enable-needed e = true≢false (sym (other-enable .shown) ∙ e .interrupt ∙ hidden .shown)
 
-enable-change-needed : SameInterrupt 3 (givenAt 0 (at 2 0 0 0 eager) (raise 0 (write IntrEnable 8) ∷ []) 0) (givenAt 0 (at 2 0 0 0 eager) (raise 0 none ∷ []) 0) → ⊥
+enable-change-needed : SameInterrupt 3 (givenAt 0 (at 2 0 0 0 eager) (raise 0 (write (Only IntrEnable) 8) ∷ []) 0) (givenAt 0 (at 2 0 0 0 eager) (raise 0 none ∷ []) 0) → ⊥
 enable-change-needed e = true≢false (sym (enabled-now .shown) ∙ e .interrupt ∙ hidden .shown)

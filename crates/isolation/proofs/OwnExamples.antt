@@ -14,9 +14,10 @@ use Rattle.rules.specs.Tick.{eventIn}
 use Rattle.rules.specs.declared.Access.{Access}
 use Rattle.rules.specs.declared.Field.{Field}
 use Rattle.rules.specs.declared.Handler.{Handler}
-use Rattle.rules.specs.declared.Register.the-variants.{IntrState, IntrEnable, IntrTest, Local, Alert, Block}
+use Rattle.rules.specs.declared.Register.the-variants.{Only, Local, Alert, Block}
 use Rattle.rules.specs.declared.Setting.{Setting}
 use Rattle.rules.specs.declared.Setting.the-variants.{Ctrl, Clr, AccumThresh}
+use Rattle.rules.specs.declared.Single.the-variants.{IntrState, IntrEnable, IntrTest}
 use Rattle.isolation.specs.OwnAccess.{own, changesState, changesEnable}
 
 -- a locked class 2 with EN and all lines; alert 0 is enabled in it, and alert 1 in class 1, which has EN 0; INTR_STATE and INTR_ENABLE are 5
@@ -54,7 +55,7 @@ others-none = refl
 
 -- so do all that name no register of the block: the last number of its sixteen too
 all-others : map (λ a. own h a 2)
-    (none ∷ Access.Malformed ∷ write IntrState 15 ∷ write (Local Field.Class 2) 2 ∷ write (Alert Field.Class 0) 2 ∷ read 1325 ∷ read 1311 ∷ read 1328 ∷ [])
+    (none ∷ Access.Malformed ∷ write (Only IntrState) 15 ∷ write (Local Field.Class 2) 2 ∷ write (Alert Field.Class 0) 2 ∷ read 1325 ∷ read 1311 ∷ read 1328 ∷ [])
     ≡ replicate 8 none
 unfolding rules
 all-others = refl
@@ -65,18 +66,18 @@ abbrev changes : Access → List Bool
 changes a = changesState h a 2 ∷ changesEnable h a 2 ∷ []
 
 -- a 1 clears bit 2 of INTR_STATE, INTR_ENABLE takes what is written
-changed : map changes (write IntrState 4 ∷ write IntrState 15 ∷ write IntrEnable 1 ∷ write IntrEnable 0 ∷ [])
+changed : map changes (write (Only IntrState) 4 ∷ write (Only IntrState) 15 ∷ write (Only IntrEnable) 1 ∷ write (Only IntrEnable) 0 ∷ [])
     ≡ (true ∷ false ∷ []) ∷ (true ∷ false ∷ []) ∷ (false ∷ true ∷ []) ∷ (false ∷ true ∷ []) ∷ []
 unfolding rules xor
 changed = refl
 
 -- a write that leaves a bit as it is, is no change: a 0, a test of a bit that is set, an enable as it was, one that is refused with 4; nor is a read
-unchanged : map changes (write IntrState 11 ∷ write IntrTest 15 ∷ write IntrEnable 4 ∷ write IntrEnable 16 ∷ read 0 ∷ none ∷ []) ≡ replicate 6 (false ∷ false ∷ [])
+unchanged : map changes (write (Only IntrState) 11 ∷ write (Only IntrTest) 15 ∷ write (Only IntrEnable) 4 ∷ write (Only IntrEnable) 16 ∷ read 0 ∷ none ∷ []) ≡ replicate 6 (false ∷ false ∷ [])
 unfolding rules xor
 unchanged = refl
 
 -- INTR_TEST sets a bit that is 0, of another class
-tested : map (λ k. changesState h (write IntrTest 15) k) (0 ∷ 1 ∷ 2 ∷ 3 ∷ []) ≡ false ∷ true ∷ false ∷ true ∷ []
+tested : map (λ k. changesState h (write (Only IntrTest) 15) k) (0 ∷ 1 ∷ 2 ∷ 3 ∷ []) ≡ false ∷ true ∷ false ∷ true ∷ []
 unfolding rules xor
 tested = refl
 

@@ -27,9 +27,10 @@ use Rattle.rules.specs.declared.Field.{Field}
 use Rattle.rules.specs.declared.Handler.{Handler}
 use Rattle.rules.specs.declared.Input.{Input}
 use Rattle.rules.specs.declared.Register.{Register}
-use Rattle.rules.specs.declared.Register.the-variants.{IntrState, IntrEnable, IntrTest, Local, Alert, Block}
+use Rattle.rules.specs.declared.Register.the-variants.{Only, Local, Alert, Block}
 use Rattle.rules.specs.declared.Setting.{Setting}
 use Rattle.rules.specs.declared.Setting.the-variants.{Ctrl, Clr, AccumThresh, EscCnt}
+use Rattle.rules.specs.declared.Single.the-variants.{IntrState, IntrEnable, IntrTest}
 use Rattle.rules.specs.declared.Ticked.{Ticked}
 use Rattle.isolation.specs.Owner.{byTenant, reaches, alertReaches, Apart, ButTenant, OnlyTenant, startsIn, Undisturbed}
 use Rattle.isolation.proofs.Traces.{along, along-at}
@@ -65,8 +66,8 @@ quiet =
     ∷ rest (read (Block Ctrl 1))
     ∷ rest (write (Local Field.En 0) 0)
     ∷ rest Access.Malformed
-    ∷ rest (write IntrState 1)
-    ∷ rest (write IntrTest 2)
+    ∷ rest (write (Only IntrState) 1)
+    ∷ rest (write (Only IntrTest) 2)
     ∷ []
 
 -- a busy one: his alert starts class B and has equal wires; he writes his block, differs in the second write, stages another class for his alert, clears his
@@ -78,9 +79,9 @@ busy =
     ∷ bothHigh 1 (write (Block AccumThresh 0) 3)
     ∷ rest (write (Block Ctrl 1) 0x3FFF)
     ∷ rest (write (Block Clr 1) 1)
-    ∷ rest (write IntrEnable 2)
-    ∷ rest (write IntrState 1)
-    ∷ rest (write IntrState 3)
+    ∷ rest (write (Only IntrEnable) 2)
+    ∷ rest (write (Only IntrState) 1)
+    ∷ rest (write (Only IntrState) 3)
     ∷ []
 
 -- ── the runs differ in what the tenant does alone ──
@@ -268,7 +269,7 @@ alerts-needed = (refl, refl)
 abbrev timed : Handler
 timed = station 2 (1 ∷ 1 ∷ replicate 246 0) (0 ∷ 1 ∷ replicate 246 0) 0 (settings 0x393F 9 1 zeros)
 
-bits-needed : (states 0 timed (rest none ∷ rest none ∷ []) ≡ 0 ∷ 0 ∷ []) × (states 0 timed (rest (write IntrTest 1) ∷ rest none ∷ []) ≡ 1 ∷ 4 ∷ [])
+bits-needed : (states 0 timed (rest none ∷ rest none ∷ []) ≡ 0 ∷ 0 ∷ []) × (states 0 timed (rest (write (Only IntrTest) 1) ∷ rest none ∷ []) ≡ 1 ∷ 4 ∷ [])
 unfolding rules
 bits-needed = (refl, refl)
 

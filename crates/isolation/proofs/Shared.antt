@@ -9,12 +9,12 @@ use lib.Dec.{eqb}
 use Rattle.bits.specs.Bits.{bit, bitsOf, fits}
 use Rattle.bits.proofs.BitLaws.{bit-bitsOf}
 use Rattle.bits.proofs.IndexLaws.{and-true}
-use Rattle.laws.proofs.Cases.{by-kind, by-field}
+use Rattle.laws.proofs.Cases.{by-kind, by-single, by-field}
 use Rattle.laws.proofs.Named.{named-is, committed-target}
 use Rattle.laws.proofs.RegisterFile.{accepted-in-map, stores-accepted, acted-other, acted-value}
 use Rattle.laws.proofs.StageFile.{in-most, acted-stage}
 use Rattle.laws.specs.InMap.{inMap}
-use Rattle.laws.specs.RegisterFile.{target, newValue, writes, stores, commits}
+use Rattle.laws.specs.RegisterFile.{singleTarget, singleStored, target, newValue, writes, stores, commits}
 use Rattle.laws.specs.StageFile.{names, stageBy}
 use Rattle.rules.specs.Access.{value, locked, silly, bars, unlike, inOrder, verdict, accepts, isFirst, named, drops, acted}
 use Rattle.rules.specs.Answer.{firstOf}
@@ -26,7 +26,8 @@ use Rattle.rules.specs.declared.Access.the-variants.{Nothing, Read, Write, Malf
 use Rattle.rules.specs.declared.Field.{Field}
 use Rattle.rules.specs.declared.Handler.{Handler}
 use Rattle.rules.specs.declared.Register.{Register}
-use Rattle.rules.specs.declared.Register.the-variants.{IntrState, IntrEnable, IntrTest, Local, Alert, Block, Unassigned}
+use Rattle.rules.specs.declared.Register.the-variants.{Only, Local, Alert, Block, Unassigned}
+use Rattle.rules.specs.declared.Single.the-variants.{IntrState, IntrEnable}
 use Rattle.rules.specs.declared.Verdict.{Verdict}
 
 never : {A : Type 0} → false ≡ true → A
@@ -36,9 +37,7 @@ never e = absurd (false≢true e)
 
 -- the interrupt registers and the alerts that are not the tenant's
 abbrev pub mine : (ℕ → Bool) → Register → Bool
-mine his IntrState = true
-mine his IntrEnable = true
-mine his IntrTest = true
+mine his (Only o) = true
 mine his (Local f j) = false
 mine his (Alert f i) = not (his i)
 mine his (Block s j) = false
@@ -65,13 +64,14 @@ module _ (k : ℕ) (his : ℕ → Bool) (g f : Handler) (s : Shared k his g f) w
     same-stage : stage g q ≡ stage f q
     unfolding stageIn
     same-stage =
-        by-kind (λ q. inMap (g .n) q ≡ true → mine his q ≡ true → stage g q ≡ stage f q) (λ a e. refl) (λ a e. refl) (λ a e. refl) (λ d j a. never)
+        by-kind (λ q. inMap (g .n) q ≡ true → mine his q ≡ true → stage g q ≡ stage f q) (λ o a e. refl) (λ d j a. never)
         (λ d i a e. s .stages d i (not-true (his i) e) (ltb-true i (g .n) a)) (λ t j a. never) (λ a. never) q a e
 
     same-locked : locked g q ≡ locked f q
     unfolding locked guard value
     same-locked =
-        by-kind (λ q. inMap (g .n) q ≡ true → mine his q ≡ true → locked g q ≡ locked f q) (λ a e. refl) (λ a e. refl) (λ a e. refl) (λ d j a. never)
+        by-kind (λ q. inMap (g .n) q ≡ true → mine his q ≡ true → locked g q ≡ locked f q)
+        (λ o a e. by-single (λ o. locked g (Only o) ≡ locked f (Only o)) refl refl refl o) (λ d j a. never)
         (λ d i a e. by-field (λ d. locked g (Alert d i) ≡ locked f (Alert d i)) (same i a e) (same i a e) (same i a e) refl d) (λ t j a. never) (λ a. never) q a e
       where
         same : (i : ℕ) → inMap (g .n) (Alert Field.Regwen i) ≡ true → not (his i) ≡ true → eqb (alert g Field.Regwen i) 0 ≡ eqb (alert f Field.Regwen i) 0
@@ -79,7 +79,7 @@ module _ (k : ℕ) (his : ℕ → Bool) (g f : Handler) (s : Shared k his g f) w
 
     same-silly : (v : ℕ) → silly g q v ≡ silly f q v
     same-silly v =
-        by-kind (λ q. mine his q ≡ true → silly g q v ≡ silly f q v) (λ e. refl) (λ e. refl) (λ e. refl) (λ d j. never) (λ d i e. refl) (λ t j. never) never q e
+        by-kind (λ q. mine his q ≡ true → silly g q v ≡ silly f q v) (λ o e. refl) (λ d j. never) (λ d i e. refl) (λ t j. never) never q e
 
     same-first : isFirst g q ≡ isFirst f q
     same-first = ap (λ (c : ℕ). isShadowed q && not (not (eqb c 0))) same-stage
@@ -109,7 +109,7 @@ module _ (k : ℕ) (his : ℕ → Bool) (g f : Handler) (s : Shared k his g f) w
   -- it changes such a register in both or in none
   module _ (r v : ℕ) (p : Register) (a : inMap (g .n) p ≡ true) (e : mine his p ≡ true) where
     mine-target : (q : Register) → mine his (target q) ≡ mine his q
-    mine-target = by-kind (λ q. mine his (target q) ≡ mine his q) refl refl refl (λ d j. refl) (λ d i. refl) (λ t j. refl) refl
+    mine-target = by-kind (λ q. mine his (target q) ≡ mine his q) (λ o. refl) (λ d j. refl) (λ d i. refl) (λ t j. refl) refl
 
     same-commits : commits g (Write r v) p ≡ commits f (Write r v) p
     same-commits = go (commits g (Write r v) p) (commits f (Write r v) p) refl refl
@@ -160,22 +160,24 @@ module _ (k : ℕ) (his : ℕ → Bool) (g f : Handler) (s : Shared k his g f) w
     same-view new Malformed = still Malformed Malformed refl refl
 
   -- bit k of INTR_STATE, once written
-  pub new-bit : k < 4 → (q : Register) (v : ℕ) → target q ≡ IntrState → bit (newValue q (g .interrupts .state) v) k ≡ bit (newValue q (f .interrupts .state) v) k
+  pub new-bit : k < 4 → (q : Register) (v : ℕ) → target q ≡ Only IntrState → bit (newValue q (g .interrupts .state) v) k ≡ bit (newValue q (f .interrupts .state) v) k
   unfolding numberOf
   new-bit l q v =
-      by-kind (λ q. target q ≡ IntrState → bit (newValue q (g .interrupts .state) v) k ≡ bit (newValue q (f .interrupts .state) v) k)
-      (λ e. at (λ b c. b && not c)) (λ e. refl) (λ e. at (λ b c. b || c)) (λ d j e. absurd (omega (arith, ap numberOf e)))
+      by-kind (λ q. target q ≡ Only IntrState → bit (newValue q (g .interrupts .state) v) k ≡ bit (newValue q (f .interrupts .state) v) k)
+      (λ o e. by-single (λ o. bit (singleStored o (g .interrupts .state) v) k ≡ bit (singleStored o (f .interrupts .state) v) k)
+      (at (λ b c. b && not c)) refl (at (λ b c. b || c)) o) (λ d j e. absurd (omega (arith, ap numberOf e)))
       (λ d i e. absurd (omega (arith, ap numberOf e))) (λ t j e. absurd (omega (arith, ap numberOf e))) (λ e. s .bit-k) q
     where
       at : (o : Bool → Bool → Bool) → bit (bitsOf 4 (λ j. o (bit (g .interrupts .state) j) (bit v j))) k ≡ bit (bitsOf 4 (λ j. o (bit (f .interrupts .state) j) (bit v j))) k
       at o = bit-bitsOf 4 (λ j. o (bit (g .interrupts .state) j) (bit v j)) k l ∙ ap (λ (b : Bool). o b (bit v k)) (s .bit-k) ∙ sym (bit-bitsOf 4 (λ j. o (bit (f .interrupts .state) j) (bit v j)) k l)
 
   -- INTR_ENABLE becomes what is written
-  pub new-enable : (q : Register) (v : ℕ) → target q ≡ IntrEnable → bit (newValue q (g .interrupts .enable) v) k ≡ bit (newValue q (f .interrupts .enable) v) k
+  pub new-enable : (q : Register) (v : ℕ) → target q ≡ Only IntrEnable → bit (newValue q (g .interrupts .enable) v) k ≡ bit (newValue q (f .interrupts .enable) v) k
   unfolding numberOf
   new-enable q v =
-      by-kind (λ q. target q ≡ IntrEnable → bit (newValue q (g .interrupts .enable) v) k ≡ bit (newValue q (f .interrupts .enable) v) k)
-      (λ e. absurd (omega (arith, ap numberOf e))) (λ e. refl) (λ e. absurd (omega (arith, ap numberOf e))) (λ d j e. absurd (omega (arith, ap numberOf e)))
+      by-kind (λ q. target q ≡ Only IntrEnable → bit (newValue q (g .interrupts .enable) v) k ≡ bit (newValue q (f .interrupts .enable) v) k)
+      (by-single (λ o. Only (singleTarget o) ≡ Only IntrEnable → bit (singleStored o (g .interrupts .enable) v) k ≡ bit (singleStored o (f .interrupts .enable) v) k)
+      (λ e. absurd (omega (arith, ap numberOf e))) (λ e. refl) (λ e. absurd (omega (arith, ap numberOf e)))) (λ d j e. absurd (omega (arith, ap numberOf e)))
       (λ d i e. absurd (omega (arith, ap numberOf e))) (λ t j e. absurd (omega (arith, ap numberOf e))) (λ e. s .enable-k) q
 
   -- the stage of an alert that is not the tenant's

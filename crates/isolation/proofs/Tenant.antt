@@ -23,7 +23,8 @@ use Rattle.rules.specs.declared.Access.the-variants.{Nothing, Read, Write, Malf
 use Rattle.rules.specs.declared.Field.{Field}
 use Rattle.rules.specs.declared.Handler.{Handler}
 use Rattle.rules.specs.declared.Register.{Register}
-use Rattle.rules.specs.declared.Register.the-variants.{IntrState, IntrEnable, Alert}
+use Rattle.rules.specs.declared.Register.the-variants.{Only, Alert}
+use Rattle.rules.specs.declared.Single.the-variants.{IntrState, IntrEnable}
 use Rattle.isolation.specs.Owner.{mayName, leavesBits, byTenant}
 use Rattle.isolation.specs.OwnAccess.{changesState, changesEnable}
 use Rattle.isolation.proofs.Shared.{Shared, f-small, still, same-view, new-bit, new-enable, same-staged}
@@ -103,7 +104,7 @@ module _ (k : ℕ) (his : ℕ → Bool) (g f : Handler) (s : Shared k his g f) (
     where
       go : (x ≡ y) ⊎ ((byTenant k his g x ≡ true) × (byTenant k his f y ≡ true)) → bit (acted g x .interrupts .state) k ≡ bit (acted f y .interrupts .state) k
       go (inl c) =
-          same-view k his g f s (λ o. bit o k) IntrState refl refl (s .bit-k) (new-bit k his g f s l) x ∙ ap (λ (z : Access). bit (acted f z .interrupts .state) k) c
+          same-view k his g f s (λ o. bit o k) (Only IntrState) refl refl (s .bit-k) (new-bit k his g f s l) x ∙ ap (λ (z : Access). bit (acted f z .interrupts .state) k) c
       go (inr t) = changed _ _ _ _ (s .bit-k) (leaves-state k his g x (t .0) ∙ sym (leaves-state k his f y (t .1)))
 
   enable-acted : bit (acted g x .interrupts .enable) k ≡ bit (acted f y .interrupts .enable) k
@@ -112,7 +113,7 @@ module _ (k : ℕ) (his : ℕ → Bool) (g f : Handler) (s : Shared k his g f) (
     where
       go : (x ≡ y) ⊎ ((byTenant k his g x ≡ true) × (byTenant k his f y ≡ true)) → bit (acted g x .interrupts .enable) k ≡ bit (acted f y .interrupts .enable) k
       go (inl c) =
-          same-view k his g f s (λ o. bit o k) IntrEnable refl refl (s .enable-k) (new-enable k his g f s) x ∙ ap (λ (z : Access). bit (acted f z .interrupts .enable) k) c
+          same-view k his g f s (λ o. bit o k) (Only IntrEnable) refl refl (s .enable-k) (new-enable k his g f s) x ∙ ap (λ (z : Access). bit (acted f z .interrupts .enable) k) c
       go (inr t) = changed _ _ _ _ (s .enable-k) (leaves-enable k his g x (t .0) ∙ sym (leaves-enable k his f y (t .1)))
 
   pub shared-acted : Shared k his (acted g x) (acted f y)

@@ -15,7 +15,8 @@ use Rattle.rules.specs.State.{most}
 use Rattle.rules.specs.Valid.{valid}
 use Rattle.rules.specs.declared.Access.the-variants.{Write}
 use Rattle.rules.specs.declared.Handler.{Handler}
-use Rattle.rules.specs.declared.Register.the-variants.{IntrState, IntrEnable}
+use Rattle.rules.specs.declared.Register.the-variants.{Only}
+use Rattle.rules.specs.declared.Single.the-variants.{IntrState, IntrEnable}
 use Rattle.isolation.specs.Owner.{byTenant}
 use Rattle.isolation.proofs.WholeOwner.{same-bit}
 
@@ -27,7 +28,7 @@ module _ (k : ℕ) (his : ℕ → Bool) (g : Handler) (l : k < 4) (valid-g : val
   state-kept : (r : ℕ) → bit (newValue (decode (g .n) r) (g .interrupts .state) v) k ≡ bit (g .interrupts .state) k
       → bit (g .interrupts .state) k ≡ bit (acted g (Write r v) .interrupts .state) k
   unfolding value
-  state-kept r e = sym (ap (λ (n : ℕ). bit n k) (acted-value g (Write r v) IntrState m refl) ∙ go (commits g (Write r v) IntrState))
+  state-kept r e = sym (ap (λ (n : ℕ). bit n k) (acted-value g (Write r v) (Only IntrState) m refl) ∙ go (commits g (Write r v) (Only IntrState)))
     where
       go : (b : Bool) → bit (cond b (newValue (decode (g .n) r) (g .interrupts .state) v) (g .interrupts .state)) k ≡ bit (g .interrupts .state) k
       go true = e
@@ -36,15 +37,15 @@ module _ (k : ℕ) (his : ℕ → Bool) (g : Handler) (l : k < 4) (valid-g : val
   -- INTR_ENABLE after a write elsewhere, and INTR_STATE after a write to INTR_ENABLE
   enable-kept-0 : bit (g .interrupts .enable) k ≡ bit (acted g (Write 0 v) .interrupts .enable) k
   unfolding value decode numberOf
-  enable-kept-0 = sym (ap (λ (n : ℕ). bit n k) (acted-other g (Write 0 v) IntrEnable m refl (and-false (stores g 0 v))))
+  enable-kept-0 = sym (ap (λ (n : ℕ). bit n k) (acted-other g (Write 0 v) (Only IntrEnable) m refl (and-false (stores g 0 v))))
 
   enable-kept-2 : bit (g .interrupts .enable) k ≡ bit (acted g (Write 2 v) .interrupts .enable) k
   unfolding value decode numberOf
-  enable-kept-2 = sym (ap (λ (n : ℕ). bit n k) (acted-other g (Write 2 v) IntrEnable m refl (and-false (stores g 2 v))))
+  enable-kept-2 = sym (ap (λ (n : ℕ). bit n k) (acted-other g (Write 2 v) (Only IntrEnable) m refl (and-false (stores g 2 v))))
 
   state-kept-1 : bit (g .interrupts .state) k ≡ bit (acted g (Write 1 v) .interrupts .state) k
   unfolding value decode numberOf
-  state-kept-1 = sym (ap (λ (n : ℕ). bit n k) (acted-other g (Write 1 v) IntrState m refl (and-false (stores g 1 v))))
+  state-kept-1 = sym (ap (λ (n : ℕ). bit n k) (acted-other g (Write 1 v) (Only IntrState) m refl (and-false (stores g 1 v))))
 
   -- INTR_STATE, number 0
   pub clears-his : bit v k ≡ false → byTenant k his g (Write 0 v) ≡ true
@@ -71,7 +72,7 @@ module _ (k : ℕ) (his : ℕ → Bool) (g : Handler) (l : k < 4) (valid-g : val
   unfolding decode value
   enables-his e =
       ap₂ _&&_ (same-bit _ _ state-kept-1)
-      (same-bit _ _ (sym (ap (λ (n : ℕ). bit n k) (acted-value g (Write 1 v) IntrEnable m refl) ∙ go (commits g (Write 1 v) IntrEnable))))
+      (same-bit _ _ (sym (ap (λ (n : ℕ). bit n k) (acted-value g (Write 1 v) (Only IntrEnable) m refl) ∙ go (commits g (Write 1 v) (Only IntrEnable)))))
     where
       go : (b : Bool) → bit (cond b v (g .interrupts .enable)) k ≡ bit (g .interrupts .enable) k
       go true = e

@@ -24,9 +24,10 @@ use Rattle.rules.specs.declared.Handler.{Handler}
 use Rattle.rules.specs.declared.Input.{Input}
 use Rattle.rules.specs.declared.Refusal.the-variants.{Locked, BadRecord, Differs}
 use Rattle.rules.specs.declared.Register.{Register}
-use Rattle.rules.specs.declared.Register.the-variants.{IntrState, IntrEnable, Local, Alert, Block}
+use Rattle.rules.specs.declared.Register.the-variants.{Only, Local, Alert, Block}
 use Rattle.rules.specs.declared.Setting.{Setting}
 use Rattle.rules.specs.declared.Setting.the-variants.{Ctrl, Clr, AccumCnt, AccumThresh, TimeoutCyc, PhaseCyc, EscCnt}
+use Rattle.rules.specs.declared.Single.the-variants.{IntrState, IntrEnable}
 use Rattle.rules.specs.declared.Ticked.{Ticked}
 use Rattle.isolation.specs.Isolation.{Alike, AlikeEnable, SameClass, Isolation}
 use Rattle.isolation.proofs.Isolated.{isolation}
@@ -66,12 +67,12 @@ read q = Access.Read (numberOf q)
 abbrev xs : List Input
 xs =
     rest (write (Block AccumThresh 0) 0)
-    ∷ rest (write IntrEnable 1)
+    ∷ rest (write (Only IntrEnable) 1)
     ∷ raise 64 none
     ∷ rest (read (Block Setting.State 0))
     ∷ rest (write (Block TimeoutCyc 0) 7)
     ∷ rest (write (Block TimeoutCyc 0) 8)
-    ∷ rest (write IntrState 1)
+    ∷ rest (write (Only IntrState) 1)
     ∷ rest (write (Block Clr 0) 1)
     ∷ rest (write (Block (PhaseCyc 2) 0) 5)
     ∷ rest (write (Alert Field.En 40) 1)
@@ -82,12 +83,12 @@ xs =
 abbrev ys : List Input
 ys =
     raise 0 (write (Block AccumThresh 0) 0)
-    ∷ rest (write IntrEnable 3)
+    ∷ rest (write (Only IntrEnable) 3)
     ∷ raise 1 (write (Block Clr 1) 1)
     ∷ rest (read (Block Setting.State 0))
     ∷ bothHigh 0 (write (Block TimeoutCyc 0) 7)
     ∷ rest (write (Block TimeoutCyc 0) 8)
-    ∷ rest (write IntrState 15)
+    ∷ rest (write (Only IntrState) 15)
     ∷ raise 0 (write (Block Clr 0) 1)
     ∷ rest (write (Block (PhaseCyc 2) 0) 5)
     ∷ rest (read (Block Ctrl 1))

@@ -53,7 +53,7 @@ use Rattle.isolation.proofs.Tick.{Equal, equal-read, equal-met, equal-a
 
 other-block : (k : ℕ) (his : ℕ → Bool) (q : Register) → mayName k his q ≡ true → ofBlock k q ≡ false
 other-block k his q =
-    by-kind (λ q. mayName k his q ≡ true → ofBlock k q ≡ false) (λ e. refl) (λ e. refl) (λ e. refl) (λ f j e. refl) (λ f i e. refl)
+    by-kind (λ q. mayName k his q ≡ true → ofBlock k q ≡ false) (λ o e. refl) (λ f j e. refl) (λ f i e. refl)
     (λ s j. not-true (eqb k j)) (λ e. refl) q
 
 tenant-own : (k : ℕ) (his : ℕ → Bool) (g : Handler) (x : Access) → byTenant k his g x ≡ true → own g x k ≡ Nothing

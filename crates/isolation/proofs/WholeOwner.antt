@@ -12,7 +12,7 @@ use lib.ListN.{length}
 use Rattle.bits.specs.Bits.{bit}
 use Rattle.class_rules.specs.Step.{starts}
 use Rattle.escalation.specs.List.{IsTick, before, inputAt, givenAt, classRead}
-use Rattle.laws.proofs.Cases.{by-kind}
+use Rattle.laws.proofs.Cases.{by-kind, by-single}
 use Rattle.laws.specs.Block.{ofBlock}
 use Rattle.rules.specs.Access.{named, acted}
 use Rattle.rules.specs.Samples.{positive, negative}
@@ -24,7 +24,7 @@ use Rattle.rules.specs.declared.Field.{Field}
 use Rattle.rules.specs.declared.Handler.{Handler}
 use Rattle.rules.specs.declared.Input.{Input}
 use Rattle.rules.specs.declared.Register.{Register}
-use Rattle.rules.specs.declared.Register.the-variants.{Alert, Block}
+use Rattle.rules.specs.declared.Register.the-variants.{Only, Alert, Block}
 use Rattle.rules.specs.declared.Setting.{Setting}
 use Rattle.isolation.specs.Owner.{mayName, byTenant, Apart, ButTenant, OnlyTenant, Undisturbed}
 use Rattle.isolation.proofs.Undisturbed.{undisturbed}
@@ -41,8 +41,8 @@ record Tenant (k : ℕ) (his : ℕ → Bool) (g : Handler) (a : Access) : Type 0
 may : (k : ℕ) (his : ℕ → Bool) (q : Register) → ((s : Setting) → q ≡ Block s k → ⊥) → ((d : Field) (i : ℕ) → q ≡ Alert d i → his i ≡ true)
     → mayName k his q ≡ true
 may k his q =
-    by-kind (λ q. ((s : Setting) → q ≡ Block s k → ⊥) → ((d : Field) (i : ℕ) → q ≡ Alert d i → his i ≡ true) → mayName k his q ≡ true) (λ b a. refl) (λ b a. refl)
-    (λ b a. refl) (λ d j b a. refl) (λ d i b a. a d i refl)
+    by-kind (λ q. ((s : Setting) → q ≡ Block s k → ⊥) → ((d : Field) (i : ℕ) → q ≡ Alert d i → his i ≡ true) → mayName k his q ≡ true)
+    (λ o b a. by-single (λ o. mayName k his (Only o) ≡ true) refl refl refl o) (λ d j b a. refl) (λ d i b a. a d i refl)
     (λ s j b a. ap not (ne-eqb k j (λ e. b s (ap (Block s) (sym e))))) (λ b a. refl) q
 
 pub same-bit : (p q : Bool) → p ≡ q → not (xor p q) ≡ true

@@ -18,7 +18,8 @@ use Rattle.rules.specs.declared.Field.{Field}
 use Rattle.rules.specs.declared.Handler.{Handler}
 use Rattle.rules.specs.declared.Input.{Input}
 use Rattle.rules.specs.declared.Register.{Register}
-use Rattle.rules.specs.declared.Register.the-variants.{IntrState, IntrEnable, IntrTest, Local, Alert, Block, Unassigned}
+use Rattle.rules.specs.declared.Register.the-variants.{Only, Local, Alert, Block, Unassigned}
+use Rattle.rules.specs.declared.Single.the-variants.{IntrState, IntrEnable, IntrTest}
 use Rattle.isolation.specs.Isolation.{SameClass, SameInterrupt}
 use Rattle.isolation.specs.OwnAccess.{isOwn, changesState, changesEnable}
 
@@ -26,9 +27,9 @@ use Rattle.isolation.specs.OwnAccess.{isOwn, changesState, changesEnable
 
 -- what he may name: the interrupt registers, local alerts, his alerts, the blocks of other classes, and what is no register
 abbrev pub mayName : ℕ → (ℕ → Bool) → Register → Bool
-mayName k his IntrState = true
-mayName k his IntrEnable = true
-mayName k his IntrTest = true
+mayName k his (Only IntrState) = true
+mayName k his (Only IntrEnable) = true
+mayName k his (Only IntrTest) = true
 mayName k his (Local f j) = true
 mayName k his (Alert f i) = his i
 mayName k his (Block s j) = not (eqb k j)

@@ -87,8 +87,7 @@ alert-kept h g j v f i l b =
 store-above : (h : Handler) (q : Register) (v : ℕ) → (isRegister q ≡ true → inMap (h .n) q ≡ true) → SameAbove h (store h q v)
 unfolding store
 store-above h q v =
-    by-kind (λ q. (isRegister q ≡ true → inMap (h .n) q ≡ true) → SameAbove h (store h q v)) (λ e. kept h _ refl refl refl refl)
-    (λ e. kept h _ refl refl refl refl) (λ e. kept h _ refl refl refl refl) (λ g j e. kept h _ refl refl refl refl)
+    by-kind (λ q. (isRegister q ≡ true → inMap (h .n) q ≡ true) → SameAbove h (store h q v)) (λ o e. kept h _ refl refl refl refl) (λ g j e. kept h _ refl refl refl refl)
     (λ g j e. record {
       n = refl;
       alerts = λ f i l b. alert-kept h g j v f i (omega (arith, ltb-true j (h .n) (e refl))) b;

@@ -33,7 +33,7 @@ acted-links h x = acted-but-stages h x (λ g. g .links ≡ h .links) (λ _. go x
     go (Read r) = refl
     go (Write r v) =
         pick (λ (g : Handler). g .links ≡ h .links) (stores h r v) _ _
-        (λ _. by-kind (λ q. store h q v .links ≡ h .links) refl refl refl (λ f j. refl) (λ f i. refl) (λ s k. refl) refl (decode (h .n) r))
+        (λ _. by-kind (λ q. store h q v .links ≡ h .links) (λ o. refl) (λ f j. refl) (λ f i. refl) (λ s k. refl) refl (decode (h .n) r))
         (λ _. refl)
     go Malformed = refl
 

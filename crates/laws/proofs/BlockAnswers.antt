@@ -32,7 +32,7 @@ use Rattle.laws.proofs.MapLaws.{decode-number, number-decode, decode-in
 -- what is of class k's block is one of its registers
 pub block-of : (k : ℕ) (q : Register) → ofBlock k q ≡ true → (s : Setting) × (q ≡ Block s k)
 block-of k q =
-    by-kind (λ q. ofBlock k q ≡ true → (s : Setting) × (q ≡ Block s k)) never never never (λ f j. never) (λ f i. never)
+    by-kind (λ q. ofBlock k q ≡ true → (s : Setting) × (q ≡ Block s k)) (λ o. never) (λ f j. never) (λ f i. never)
     (λ s j e. (s, ap (Block s) (sym (eqb-true k j e)))) never q
   where
     never : {A : Type 0} → false ≡ true → A

@@ -9,16 +9,16 @@ use borrow.Author.Tests.{ltb-true, lt-ltb, le-ltb}
 use lib.Dec.{ltb}
 use Rattle.bits.proofs.IndexLaws.{and-true}
 use Rattle.rules.specs.Edition.{carried24, carry}
-use Rattle.rules.specs.Map.{decode, numberOf, isRegister, offset, stride, classBase}
+use Rattle.rules.specs.Map.{decode, numberOf, isRegister, singleNumber, offset, stride, classBase}
 use Rattle.rules.specs.State.{localCount, classCount, fieldIndex}
 use Rattle.rules.specs.declared.Edition.the-variants.{Bytes24}
 use Rattle.rules.specs.declared.Field.{Field}
 use Rattle.rules.specs.declared.Register.{Register}
-use Rattle.rules.specs.declared.Register.the-variants.{IntrState, IntrEnable, IntrTest, Local, Alert, Block, Unassigned}
+use Rattle.rules.specs.declared.Register.the-variants.{Only, Local, Alert, Block, Unassigned}
 use Rattle.laws.specs.Carry.{number24}
 use Rattle.laws.specs.InMap.{inMap, settingExists}
 use Rattle.laws.proofs.Cases.{by-field}
-use Rattle.laws.proofs.MapLaws.{offset-lt, decode-number, number-decode, decode-in-map}
+use Rattle.laws.proofs.MapLaws.{single-lt, single-number, offset-lt, decode-number, number-decode, decode-in-map}
 
 -- ── a carried number, range by range ──
 
@@ -46,9 +46,7 @@ field-small f = by-field (λ f. fieldIndex f < 4) (omega arith) (omega arith) (o
 -- an old number is carried to the register's number
 carried-number : (n : ℕ) (q : Register) → n ≤ 64 → inMap n q ≡ true → carried24 (number24 q) ≡ numberOf q
 unfolding numberOf
-carried-number n IntrState h e = low 0 (omega arith)
-carried-number n IntrEnable h e = low 1 (omega arith)
-carried-number n IntrTest h e = low 2 (omega arith)
+carried-number n (Only o) h e = low (singleNumber o) (omega (arith, single-lt o))
 carried-number n (Local f j) h e =
     let l : j < localCount = ltb-true j localCount e in
     let m : fieldIndex f < 4 = field-small f in
@@ -78,18 +76,14 @@ module _ (n r : ℕ) (h : n ≤ 64) where
   own q i e m = by (decLt r 64) (decLt r 320) (decLt r 384) q i e m
     where
       low-register : (q : Register) → r < 64 → isRegister q ≡ true → inMap n q ≡ true → numberOf q ≡ r → number24 q ≡ r
-      low-register IntrState l i e m = m
-      low-register IntrEnable l i e m = m
-      low-register IntrTest l i e m = m
+      low-register (Only o) l i e m = m
       low-register (Local f j) l i e m = m
       low-register (Alert f k) l i e m = absurd (omega arith)
       low-register (Block s k) l i e m = absurd (omega arith)
       low-register Unassigned l i e m = absurd (false≢true i)
 
       alert-register : (q : Register) → 64 ≤ r → r < 320 → isRegister q ≡ true → inMap n q ≡ true → numberOf q ≡ r / 64 * stride + r % 64 → number24 q ≡ r
-      alert-register IntrState a b i e m = absurd (omega arith)
-      alert-register IntrEnable a b i e m = absurd (omega arith)
-      alert-register IntrTest a b i e m = absurd (omega arith)
+      alert-register (Only o) a b i e m = absurd (omega (arith, single-lt o))
       alert-register (Local f j) a b i e m =
           let l : j < localCount = ltb-true j localCount e in
           let s : fieldIndex f < 4 = field-small f in absurd (omega arith)
@@ -100,9 +94,7 @@ module _ (n r : ℕ) (h : n ≤ 64) where
       alert-register Unassigned a b i e m = absurd (false≢true i)
 
       class-register : (q : Register) → 320 ≤ r → r < 384 → isRegister q ≡ true → inMap n q ≡ true → numberOf q ≡ classBase + (r - 320) → number24 q ≡ r
-      class-register IntrState a b i e m = absurd (omega arith)
-      class-register IntrEnable a b i e m = absurd (omega arith)
-      class-register IntrTest a b i e m = absurd (omega arith)
+      class-register (Only o) a b i e m = absurd (omega (arith, single-lt o))
       class-register (Local f j) a b i e m =
           let l : j < localCount = ltb-true j localCount e in
           let s : fieldIndex f < 4 = field-small f in absurd (omega arith)
@@ -113,9 +105,7 @@ module _ (n r : ℕ) (h : n ≤ 64) where
       class-register Unassigned a b i e m = absurd (false≢true i)
 
       no-register : (q : Register) → isRegister q ≡ true → numberOf q ≡ 3 → ⊥
-      no-register IntrState i m = omega arith
-      no-register IntrEnable i m = omega arith
-      no-register IntrTest i m = omega arith
+      no-register (Only o) i m = single-number o m
       no-register (Local f j) i m = omega arith
       no-register (Alert f k) i m = omega arith
       no-register (Block s k) i m = omega arith

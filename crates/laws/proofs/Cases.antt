@@ -6,9 +6,11 @@ use mathlib.Core.Bool.{Bool, true, false, cond}
 use Rattle.class_rules.specs.declared.Class.{Class}
 use Rattle.rules.specs.declared.Field.{Field}
 use Rattle.rules.specs.declared.Register.{Register}
-use Rattle.rules.specs.declared.Register.the-variants.{IntrState, IntrEnable, IntrTest, Local, Alert, Block, Unassigned}
+use Rattle.rules.specs.declared.Register.the-variants.{Only, Local, Alert, Block, Unassigned}
 use Rattle.rules.specs.declared.Setting.{Setting}
 use Rattle.rules.specs.declared.Setting.the-variants.{Ctrl, ClrRegwen, Clr, AccumCnt, AccumThresh, TimeoutCyc, PhaseCyc, EscCnt}
+use Rattle.rules.specs.declared.Single.{Single}
+use Rattle.rules.specs.declared.Single.the-variants.{IntrState, IntrEnable, IntrTest}
 
 -- what holds of either arm, each with its test, holds of the choice
 pub pick {ℓ} : {A : Type ℓ} (P : A → Type 0) (b : Bool) (x y : A) → (b ≡ true → P x) → (b ≡ false → P y) → P (cond b x y)
@@ -16,15 +18,19 @@ pick P true x y s t = s refl
 pick P false x y s t = t refl
 
 -- what holds of each kind of register holds of a register
-pub by-kind : (P : Register → Type 0) → P IntrState → P IntrEnable → P IntrTest → ((f : Field) (j : ℕ) → P (Local f j))
+pub by-kind : (P : Register → Type 0) → ((o : Single) → P (Only o)) → ((f : Field) (j : ℕ) → P (Local f j))
     → ((f : Field) (i : ℕ) → P (Alert f i)) → ((s : Setting) (k : ℕ) → P (Block s k)) → P Unassigned → (q : Register) → P q
-by-kind P a b c l r s u IntrState = a
-by-kind P a b c l r s u IntrEnable = b
-by-kind P a b c l r s u IntrTest = c
-by-kind P a b c l r s u (Local f j) = l f j
-by-kind P a b c l r s u (Alert f i) = r f i
-by-kind P a b c l r s u (Block t k) = s t k
-by-kind P a b c l r s u Unassigned = u
+by-kind P a l r s u (Only o) = a o
+by-kind P a l r s u (Local f j) = l f j
+by-kind P a l r s u (Alert f i) = r f i
+by-kind P a l r s u (Block t k) = s t k
+by-kind P a l r s u Unassigned = u
+
+-- of each register that there is one of
+pub by-single : (P : Single → Type 0) → P IntrState → P IntrEnable → P IntrTest → (o : Single) → P o
+by-single P a b c IntrState = a
+by-single P a b c IntrEnable = b
+by-single P a b c IntrTest = c
 
 -- of each field of an alert
 pub by-field : (P : Field → Type 0) → P Field.Regwen → P Field.En → P Field.Class → P Field.Cause → (f : Field) → P f

@@ -40,7 +40,7 @@ setting-clr s =
 -- and only one of them is that of class k
 is-clr : (k : ℕ) (q : Register) → isClrOf k q ≡ true → q ≡ Block Clr k
 is-clr k q =
-    by-kind (λ q. isClrOf k q ≡ true → q ≡ Block Clr k) never never never (λ f j. never) (λ f i. never)
+    by-kind (λ q. isClrOf k q ≡ true → q ≡ Block Clr k) (λ o. never) (λ f j. never) (λ f i. never)
     (λ s j e. let b = and-true (settingIsClr s) (eqb j k) e in ap₂ Block (setting-clr s (b .0)) (eqb-true j k (b .1))) never q
 
 -- a write to CLR is barred while it is locked

@@ -129,7 +129,7 @@ module _ (h : Handler) (r v k : ℕ) where
 -- a store at no register of class k's block
 stored-other : (q : Register) (v k : ℕ) (c : Class) → ofBlock k q ≡ false → classStored q v k c ≡ c
 stored-other q v k c =
-    by-kind (λ q. ofBlock k q ≡ false → classStored q v k c ≡ c) (λ e. refl) (λ e. refl) (λ e. refl) (λ f j e. refl) (λ f i e. refl)
+    by-kind (λ q. ofBlock k q ≡ false → classStored q v k c ≡ c) (λ o e. refl) (λ f j e. refl) (λ f i e. refl)
     (λ s j e. ap (λ (t : Bool). cond t (withSetting s v c) c) e) (λ e. refl) q
 
 -- an access that does not write class k's block leaves it
@@ -159,7 +159,7 @@ same e = (ap (λ (c : Class). c .state) e, ap (λ (c : Class). c .count) e, ap (
 -- a store does not move STATE, ESC_CNT and ACCUM_CNT
 stored-place : (q : Register) (v k : ℕ) (c : Class) → Unmoved c (classStored q v k c)
 stored-place q v k c =
-    by-kind (λ q. Unmoved c (classStored q v k c)) still still still (λ f j. still) (λ f i. still) (λ s j. go s (eqb k j)) still q
+    by-kind (λ q. Unmoved c (classStored q v k c)) (λ o. still) (λ f j. still) (λ f i. still) (λ s j. go s (eqb k j)) still q
   where
     still : Unmoved c c
     still = (refl, refl, refl)

@@ -23,7 +23,7 @@ use Rattle.rules.specs.declared.Heard.{Heard}
 use Rattle.rules.specs.declared.Input.{Input}
 use Rattle.rules.specs.declared.Links.{Links}
 use Rattle.rules.specs.declared.Register.{Register}
-use Rattle.rules.specs.declared.Register.the-variants.{Local, Alert, Block}
+use Rattle.rules.specs.declared.Register.the-variants.{Only, Local, Alert, Block}
 use Rattle.rules.specs.declared.Setting.{Setting}
 use Rattle.rules.specs.declared.Setting.the-variants.{ClrRegwen}
 use Rattle.rules.specs.declared.Stages.{Stages}
@@ -31,7 +31,7 @@ use Rattle.laws.specs.InMap.{inMap, settingExists}
 use Rattle.laws.specs.Frame.{movesItself}
 use Rattle.laws.specs.RegisterFile.{commits}
 use Rattle.laws.specs.StageFile.{names}
-use Rattle.laws.proofs.Cases.{by-kind, by-field, by-setting}
+use Rattle.laws.proofs.Cases.{by-kind, by-single, by-field, by-setting}
 use Rattle.laws.proofs.RegisterFile.{acted-other, acted-n}
 use Rattle.laws.proofs.StageFile.{stage-other}
 
@@ -71,7 +71,7 @@ module _ (g : Handler) (v : Heard) (fx : Effects) where
   pub stepped-frame : (q : Register) → inMap (g .n) q ≡ true → movesItself q ≡ false → value (stepped g v fx) q ≡ value g q
   unfolding stepped sampled value
   stepped-frame =
-      by-kind P (λ a. moving) (λ a e. refl) (λ a e. refl)
+      by-kind P (by-single (λ o. P (Only o)) (λ a. moving) (λ a e. refl) (λ a e. refl))
       (λ f j. by-field (λ f. P (Local f j)) (λ a e. refl) (λ a e. refl) (λ a e. refl) (λ a. moving) f)
       (λ f i. by-field (λ f. P (Alert f i)) (λ a e. refl) (λ a e. refl) (λ a e. refl) (λ a. moving) f) block (λ a e. refl)
     where
@@ -104,7 +104,7 @@ module _ (g : Handler) (v : Heard) (fx : Effects) where
 
 linked-value : (l : Links) (g : Handler) (q : Register) → value (withLinks l g) q ≡ value g q
 unfolding value
-linked-value l g = by-kind (λ q. value (withLinks l g) q ≡ value g q) refl refl refl (λ f j. refl) (λ f i. refl) (λ s k. refl) refl
+linked-value l g = by-kind (λ q. value (withLinks l g) q ≡ value g q) (λ o. refl) (λ f j. refl) (λ f i. refl) (λ s k. refl) refl
 
 -- a register after a tick
 pub after-value : (h : Handler) (x : Input) (q : Register)

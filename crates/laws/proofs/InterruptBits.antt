@@ -10,7 +10,8 @@ use Rattle.rules.specs.State.{classCount}
 use Rattle.rules.specs.Tick.{interrupts, after}
 use Rattle.rules.specs.declared.Handler.{Handler}
 use Rattle.rules.specs.declared.Input.{Input}
-use Rattle.rules.specs.declared.Register.the-variants.{IntrEnable}
+use Rattle.rules.specs.declared.Register.the-variants.{Only}
+use Rattle.rules.specs.declared.Single.the-variants.{IntrEnable}
 use Rattle.laws.proofs.Frame.{after-still}
 
 -- step 5: the interrupt of class k is its bit of INTR_STATE and of INTR_ENABLE
@@ -21,4 +22,4 @@ interrupt-is h k l = bit-bitsOf 4 (λ k. bit (h .interrupts .state) k && bit (h 
 -- only step 1 changes INTR_ENABLE
 pub after-enable : (h : Handler) (x : Input) → after h x .interrupts .enable ≡ acted h (x .access) .interrupts .enable
 unfolding value
-after-enable h x = after-still h x IntrEnable refl refl
+after-enable h x = after-still h x (Only IntrEnable) refl refl

@@ -8,8 +8,8 @@ use borrow.Author.Tests.{eqb-true, ltb-true, not-false}
 use lib.Dec.{eqb}
 use Rattle.bits.proofs.BitLaws.{bitsOf-lt}
 use Rattle.bits.proofs.IndexLaws.{and-true}
-use Rattle.rules.specs.Access.{accepted, accepts, verdict, isFirst, store, fieldStored, withSetting, drops, acted}
-use Rattle.rules.specs.Map.{decode, numberOf, bits, fieldBits, settingBits}
+use Rattle.rules.specs.Access.{accepted, accepts, verdict, isFirst, store, fieldStored, withSingle, withSetting, drops, acted}
+use Rattle.rules.specs.Map.{decode, numberOf, bits, singleBits, fieldBits, settingBits}
 use Rattle.rules.specs.Stages.{stage, stageIn}
 use Rattle.rules.specs.State.{most, localCount, classCount, local, alert, classAt, withStages}
 use Rattle.rules.specs.Valid.{valid}
@@ -18,8 +18,10 @@ use Rattle.rules.specs.declared.Access.the-variants.{Nothing, Read, Write, Malf
 use Rattle.rules.specs.declared.Field.{Field}
 use Rattle.rules.specs.declared.Handler.{Handler}
 use Rattle.rules.specs.declared.Register.{Register}
-use Rattle.rules.specs.declared.Register.the-variants.{IntrState, IntrEnable, IntrTest, Local, Alert, Block, Unassigned}
+use Rattle.rules.specs.declared.Register.the-variants.{Only, Local, Alert, Block, Unassigned}
 use Rattle.rules.specs.declared.Setting.{Setting}
+use Rattle.rules.specs.declared.Single.{Single}
+use Rattle.rules.specs.declared.Single.the-variants.{IntrState, IntrEnable, IntrTest}
 use Rattle.rules.specs.declared.Stages.{Stages}
 use Rattle.rules.specs.declared.Verdict.{Verdict}
 use Rattle.laws.specs.Columns.{sameField}
@@ -55,6 +57,12 @@ chosen-fits f g i j v old x l o b =
 
 -- every register of a valid state, where v is written to one and fits it
 module _ (h : Handler) (t : Valid h) (v : ℕ) where
+  single-store : (o : Single) → v < 2 ^ singleBits o
+      → (withSingle o v (h .interrupts) .state < 2 ^ 4) × (withSingle o v (h .interrupts) .enable < 2 ^ 4)
+  single-store IntrState l = (bitsOf-lt 4 _, t .enable)
+  single-store IntrEnable l = (t .state, l)
+  single-store IntrTest l = (bitsOf-lt 4 _, t .enable)
+
   locals-store : (f : Field) (i : ℕ) → v < 2 ^ fieldBits f → (g : Field) (j : ℕ) → j < localCount → local (store h (Local f i) v) g j < 2 ^ fieldBits g
   locals-store f i l g j b =
       rw (local-store h f i v g j b)
@@ -73,9 +81,9 @@ module _ (h : Handler) (t : Valid h) (v : ℕ) where
 -- a value that fits, stored
 store-valid : (h : Handler) (q : Register) (v : ℕ) → v < 2 ^ bits q → Valid h → Valid (store h q v)
 unfolding store bits
-store-valid h IntrState v l t = record { n = t .n; state = bitsOf-lt 4 _; enable = t .enable; locals = t .locals; alerts = t .alerts; classes = t .classes; stages = t .stages }
-store-valid h IntrEnable v l t = record { n = t .n; state = t .state; enable = l; locals = t .locals; alerts = t .alerts; classes = t .classes; stages = t .stages }
-store-valid h IntrTest v l t = record { n = t .n; state = bitsOf-lt 4 _; enable = t .enable; locals = t .locals; alerts = t .alerts; classes = t .classes; stages = t .stages }
+store-valid h (Only o) v l t =
+    let s = single-store h t v o l in
+    record { n = t .n; state = s .0; enable = s .1; locals = t .locals; alerts = t .alerts; classes = t .classes; stages = t .stages }
 store-valid h (Local f i) v l t =
     record { n = t .n; state = t .state; enable = t .enable; locals = locals-store h t v f i l; alerts = t .alerts; classes = t .classes; stages = t .stages }
 store-valid h (Alert f i) v l t =

@@ -145,7 +145,7 @@ new-block =
 pub new-stage : (n : ℕ) (q : Register) → inMap most q ≡ true → stage (newHandler n) q ≡ 0
 unfolding newHandler stageIn
 new-stage n =
-    by-kind P (λ a. refl) (λ a. refl) (λ a. refl)
+    by-kind P (λ o a. refl)
     (λ f j. by-field (λ f. P (Local f j)) (λ a. refl) (λ a. getD-replicate localCount j 0 0 (ltb-true j localCount a))
     (λ a. getD-replicate localCount j 0 0 (ltb-true j localCount a)) (λ a. refl) f)
     (λ f i. by-field (λ f. P (Alert f i)) (λ a. refl) (λ a. getD-replicate most i 0 0 (ltb-true i most a))

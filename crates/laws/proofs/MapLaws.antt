@@ -7,15 +7,16 @@ use native.Mathlib.Omega.{arith}
 use borrow.Author.Tests.{eqb-true, ltb-true, leb-true, le-leb, lt-ltb, le-ltb, ne-eqb}
 use lib.Dec.{eqb, leb, ltb}
 use Rattle.bits.proofs.IndexLaws.{and-true, true-and}
-use Rattle.rules.specs.Map.{within, blockAt, alertAt, decode, numberOf, isRegister, offset, classBase, stride}
+use Rattle.rules.specs.Map.{within, blockAt, alertAt, decode, numberOf, isRegister, singleNumber, offset, classBase, stride}
 use Rattle.rules.specs.State.{most, localCount, classCount, fieldIndex}
 use Rattle.rules.specs.declared.Field.{Field}
 use Rattle.rules.specs.declared.Register.{Register}
-use Rattle.rules.specs.declared.Register.the-variants.{IntrState, IntrEnable, IntrTest, Local, Alert, Block, Unassigned}
+use Rattle.rules.specs.declared.Register.the-variants.{Only, Local, Alert, Block, Unassigned}
 use Rattle.rules.specs.declared.Setting.{Setting}
 use Rattle.rules.specs.declared.Setting.the-variants.{Ctrl, ClrRegwen, Clr, AccumCnt, AccumThresh, TimeoutCyc, PhaseCyc, EscCnt}
+use Rattle.rules.specs.declared.Single.{Single}
 use Rattle.laws.specs.InMap.{inMap, settingExists}
-use Rattle.laws.proofs.Cases.{by-field, by-setting}
+use Rattle.laws.proofs.Cases.{by-single, by-field, by-setting}
 
 -- ── tests on the way ──
 
@@ -82,6 +83,16 @@ module _ (b d c : ℕ) (K : Field → ℕ → Register) (rest : Register) where
 -- there are four
 field-lt : (f : Field) → fieldIndex f < 4
 field-lt = by-field (λ f. fieldIndex f < 4) (omega arith) (omega arith) (omega arith) (omega arith)
+
+-- ── the registers that there is one of ──
+
+-- they are below the local alerts
+pub single-lt : (o : Single) → singleNumber o < 16
+single-lt = by-single (λ o. singleNumber o < 16) (omega arith) (omega arith) (omega arith)
+
+-- and none is at the number that stands for no register
+pub single-number : (o : Single) → singleNumber o ≡ 3 → ⊥
+single-number = by-single (λ o. singleNumber o ≡ 3 → ⊥) (λ e. omega arith) (λ e. omega arith) (λ e. omega arith)
 
 -- ── the block of a class ──
 
@@ -189,9 +200,7 @@ module _ (n r : ℕ) where
 -- a register's number decodes to it
 pub decode-number : (n : ℕ) (q : Register) → n ≤ most → inMap n q ≡ true → decode n (numberOf q) ≡ q
 unfolding decode numberOf
-decode-number n IntrState h e = refl
-decode-number n IntrEnable h e = refl
-decode-number n IntrTest h e = refl
+decode-number n (Only o) h e = by-single (λ o. decode n (singleNumber o) ≡ Only o) refl refl refl o
 decode-number n (Local f j) h e =
     let l : j < localCount = ltb-true j localCount e in
     decode-local n (16 + 8 * fieldIndex f + j) f (omega arith) (omega arith) ∙ ap (Local f) (omega arith)

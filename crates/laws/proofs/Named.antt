@@ -14,7 +14,7 @@ use Rattle.rules.specs.declared.Access.the-variants.{Nothing, Read, Write, Malf
 use Rattle.rules.specs.declared.Field.{Field}
 use Rattle.rules.specs.declared.Handler.{Handler}
 use Rattle.rules.specs.declared.Register.{Register}
-use Rattle.rules.specs.declared.Register.the-variants.{IntrState, IntrEnable, IntrTest, Local, Alert, Block, Unassigned}
+use Rattle.rules.specs.declared.Register.the-variants.{Only, Local, Alert, Block, Unassigned}
 use Rattle.laws.specs.InMap.{inMap}
 use Rattle.laws.specs.RegisterFile.{target, writes, stores, commits}
 use Rattle.laws.specs.StageFile.{names}
@@ -53,14 +53,12 @@ module _ (h : Handler) (p : Register) (m : h .n ≤ most) (a : inMap (h .n) p �
 -- what writes a register of an alert is itself
 pub alert-target : (d : Field) (i : ℕ) (q : Register) → target q ≡ Alert d i → q ≡ Alert d i
 alert-target d i q =
-    by-kind (λ q. target q ≡ Alert d i → q ≡ Alert d i) (λ e. e) (λ e. e) (λ e. absurd (false≢true (sym (ap interrupt e)))) (λ f j e. e) (λ f j e. e)
+    by-kind (λ q. target q ≡ Alert d i → q ≡ Alert d i) (λ o e. absurd (false≢true (sym (ap single e)))) (λ f j e. e) (λ f j e. e)
     (λ t j e. e) (λ e. e) q
   where
-    interrupt : Register → Bool
-    interrupt IntrState = true
-    interrupt IntrEnable = true
-    interrupt IntrTest = true
-    interrupt (Local f j) = false
-    interrupt (Alert f j) = false
-    interrupt (Block s k) = false
-    interrupt Unassigned = false
+    single : Register → Bool
+    single (Only o) = true
+    single (Local f j) = false
+    single (Alert f j) = false
+    single (Block s k) = false
+    single Unassigned = false

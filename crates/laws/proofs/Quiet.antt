@@ -26,13 +26,14 @@ use Rattle.rules.specs.declared.Handler.{Handler}
 use Rattle.rules.specs.declared.Heard.{Heard}
 use Rattle.rules.specs.declared.Input.{Input}
 use Rattle.rules.specs.declared.Register.{Register}
-use Rattle.rules.specs.declared.Register.the-variants.{IntrState, Local, Alert, Block}
+use Rattle.rules.specs.declared.Register.the-variants.{Only, Local, Alert, Block}
 use Rattle.rules.specs.declared.Setting.the-variants.{AccumCnt}
+use Rattle.rules.specs.declared.Single.the-variants.{IntrState}
 use Rattle.laws.specs.Frame.{movesItself}
 use Rattle.laws.specs.InMap.{inMap}
 use Rattle.laws.specs.Quiet.{Silent, runs}
 use Rattle.laws.specs.RegisterFile.{commits}
-use Rattle.laws.proofs.Cases.{by-kind, by-field, by-setting}
+use Rattle.laws.proofs.Cases.{by-kind, by-single, by-field, by-setting}
 use Rattle.laws.proofs.Content.{acted-place}
 use Rattle.laws.proofs.Frame.{stepped-class, stepped-frame, after-value}
 use Rattle.laws.proofs.KeepsAccess.{acted-valid}
@@ -75,7 +76,7 @@ module _ (g : Handler) (v : Heard) (m : g .n ≤ most) (q : Silent g v) where
   quiet-bit k = ap (λ (b : Bool). bit (g .interrupts .state) k || b) (quiet-event k) ∙ or-false (bit (g .interrupts .state) k)
 
   module _ (fx : Effects) where
-    quiet-state : g .interrupts .state < 16 → value (stepped g v fx) IntrState ≡ value g IntrState
+    quiet-state : g .interrupts .state < 16 → value (stepped g v fx) (Only IntrState) ≡ value g (Only IntrState)
     unfolding stepped value
     quiet-state l = sym (is-bitsOf 4 (g .interrupts .state) (interruptNow g v) l (λ k h. sym (quiet-bit k)))
 
@@ -97,7 +98,7 @@ module _ (g : Handler) (v : Heard) (m : g .n ≤ most) (q : Silent g v) where
     pub quiet-frame : g .interrupts .state < 16 → ((k : ℕ) → k < classCount → bit (fx .clears) k ≡ false)
         → (q : Register) → inMap (g .n) q ≡ true → runs q ≡ false → value (stepped g v fx) q ≡ value g q
     quiet-frame s c =
-        by-kind P (λ a e. quiet-state s) (still _ refl) (still _ refl)
+        by-kind P (by-single (λ o. P (Only o)) (λ a e. quiet-state s) (still _ refl) (still _ refl))
         (λ f j. by-field (λ f. P (Local f j)) (still _ refl) (still _ refl) (still _ refl) (λ a e. quiet-local j (ltb-true j localCount a)) f)
         (λ f i. by-field (λ f. P (Alert f i)) (still _ refl) (still _ refl) (still _ refl)
         (λ a e. quiet-cause i (omega (arith, ltb-true i (g .n) a))) f)
@@ -140,10 +141,10 @@ module _ (h : Handler) (x : Input) (t : valid h ≡ true) (silent : Silent (acte
       ∙ acted-other h (x .access) q (facts h t .n) i d
 
   -- and an Idle class whose interrupt bit is 0 stays so
-  pub quiet-waits : (k : ℕ) → k < classCount → commits h (x .access) IntrState ≡ false → bit (h .interrupts .state) k ≡ false
+  pub quiet-waits : (k : ℕ) → k < classCount → commits h (x .access) (Only IntrState) ≡ false → bit (h .interrupts .state) k ≡ false
       → stateOf (classAt h k .state) ≡ Idle → stateOf (classAt (after h x) k .state) ≡ Idle
   unfolding after value
   quiet-waits k l d b s =
       quiet-idle g (hears h x) bound silent (effects h (x .access)) k l
-      (ap (λ (y : ℕ). bit y k) (acted-other h (x .access) IntrState (facts h t .n) refl d) ∙ b)
+      (ap (λ (y : ℕ). bit y k) (acted-other h (x .access) (Only IntrState) (facts h t .n) refl d) ∙ b)
       (ap stateOf (acted-place h (x .access) k l .0) ∙ s)

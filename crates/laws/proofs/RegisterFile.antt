@@ -10,22 +10,25 @@ use lib.Dec.{eqb, ltb}
 use lib.ListN.{getD}
 use Rattle.bits.proofs.IndexLaws.{and-true}
 use Rattle.class_rules.specs.Class.{noClass}
-use Rattle.rules.specs.Access.{settingValue, value, fieldStored, withSetting, store, accepted, isFirst, acted, answerTo}
-use Rattle.rules.specs.Map.{decode, numberOf, isRegister, fieldRow, row, onlyWritten, writeOnly, offset}
+use Rattle.rules.specs.Access.{singleValue, settingValue, value, fieldStored, withSingle, withSetting, store, accepted, isFirst, acted, answerTo}
+use Rattle.rules.specs.Map.{decode, numberOf, isRegister, singleNumber, singleRow, fieldRow, row, onlyWritten, writeOnly, offset}
 use Rattle.rules.specs.State.{most, localCount, classCount, fieldIndex, local, alert, classAt, localColumn, alertColumn}
 use Rattle.rules.specs.declared.Access.{Access}
 use Rattle.rules.specs.declared.Access.the-variants.{Nothing, Read, Write, Malformed}
 use Rattle.rules.specs.declared.Answer.{Answer}
 use Rattle.rules.specs.declared.Field.{Field}
 use Rattle.rules.specs.declared.Handler.{Handler}
+use Rattle.rules.specs.declared.Interrupts.{Interrupts}
 use Rattle.rules.specs.declared.Register.{Register}
-use Rattle.rules.specs.declared.Register.the-variants.{IntrState, IntrEnable, IntrTest, Local, Alert, Block, Unassigned}
+use Rattle.rules.specs.declared.Register.the-variants.{Only, Local, Alert, Block, Unassigned}
 use Rattle.rules.specs.declared.Setting.{Setting}
+use Rattle.rules.specs.declared.Single.{Single}
+use Rattle.rules.specs.declared.Single.the-variants.{IntrState, IntrEnable, IntrTest}
 use Rattle.rules.specs.declared.Way.{Way}
 use Rattle.laws.specs.InMap.{inMap, settingExists}
 use Rattle.laws.specs.Block.{classStored}
-use Rattle.laws.specs.RegisterFile.{target, newValue, writes, stores, commits, committed, storedBy, asWritten, plain}
-use Rattle.laws.proofs.Cases.{pick, by-kind, by-field}
+use Rattle.laws.specs.RegisterFile.{singleTarget, singleStored, target, newValue, writes, stores, commits, committed, storedBy, asWritten, plain}
+use Rattle.laws.proofs.Cases.{pick, by-kind, by-single, by-field}
 use Rattle.laws.proofs.ColumnLaws.{at-changed, column-stored, local-column, alert-column, setting-value}
 use Rattle.laws.proofs.MapLaws.{decode-in-map, number-eq}
 use Rattle.laws.proofs.Refusals.{unrefused, is-accepted}
@@ -37,13 +40,13 @@ use Rattle.laws.proofs.Step1.{acted-but-stages, answer-accepted}
 -- N stays
 pub store-n : (h : Handler) (q : Register) (v : ℕ) → store h q v .n ≡ h .n
 unfolding store
-store-n h q v = by-kind (λ q. store h q v .n ≡ h .n) refl refl refl (λ f j. refl) (λ f i. refl) (λ s k. refl) refl q
+store-n h q v = by-kind (λ q. store h q v .n ≡ h .n) (λ o. refl) (λ f j. refl) (λ f i. refl) (λ s k. refl) refl q
 
 -- class k
 pub class-stored : (h : Handler) (q : Register) (v k : ℕ) → k < classCount → classAt (store h q v) k ≡ classStored q v k (classAt h k)
 unfolding store
 class-stored h q v k l =
-    by-kind (λ q. classAt (store h q v) k ≡ classStored q v k (classAt h k)) refl refl refl (λ f j. refl) (λ f i. refl)
+    by-kind (λ q. classAt (store h q v) k ≡ classStored q v k (classAt h k)) (λ o. refl) (λ f j. refl) (λ f i. refl)
     (λ s j. at-changed classCount (h .classes) noClass j k l (withSetting s v)) refl q
 
 module _ (h : Handler) (f g : Field) (j i v : ℕ) where
@@ -68,13 +71,26 @@ module _ (h : Handler) (f g : Field) (j i v : ℕ) where
 same : (a : ℕ) → eqb a a ≡ true
 same a = eq-eqb a a refl
 
+module _ (i : Interrupts) (v : ℕ) where
+  -- a register that there is one of
+  single-own : (o : Single) → singleValue (singleTarget o) (withSingle o v i) ≡ singleStored o (singleValue (singleTarget o) i) v
+  single-own = by-single (λ o. singleValue (singleTarget o) (withSingle o v i) ≡ singleStored o (singleValue (singleTarget o) i) v) refl refl refl
+
+  -- another than what is written
+  single-other : (o p : Single) → (singleNumber (singleTarget o) ≡ singleNumber p → ⊥) → singleValue p (withSingle o v i) ≡ singleValue p i
+  single-other o IntrState =
+      by-single (λ o. (singleNumber (singleTarget o) ≡ 0 → ⊥) → withSingle o v i .state ≡ i .state) (λ d. absurd (d refl)) (λ d. refl)
+      (λ d. absurd (d refl)) o
+  single-other o IntrEnable =
+      by-single (λ o. (singleNumber (singleTarget o) ≡ 1 → ⊥) → withSingle o v i .enable ≡ i .enable) (λ d. refl) (λ d. absurd (d refl))
+      (λ d. refl) o
+  single-other o IntrTest = λ d. refl
+
 -- the register that is written
 own : (h : Handler) (q : Register) (v : ℕ) → h .n ≤ most → inMap (h .n) q ≡ true
     → value (store h q v) (target q) ≡ newValue q (value h (target q)) v
 unfolding store value
-own h IntrState v m a = refl
-own h IntrEnable v m a = refl
-own h IntrTest v m a = refl
+own h (Only o) v m a = single-own (h .interrupts) v o
 own h (Local f j) v m a =
     local-stored h f f j j v (ltb-true j localCount a) ∙ simp (same (fieldIndex f), same j)
 own h (Alert f i) v m a =
@@ -115,27 +131,23 @@ module _ (h : Handler) (v : ℕ) where
   other : (q p : Register) → h .n ≤ most → inMap (h .n) p ≡ true → (numberOf (target q) ≡ numberOf p → ⊥)
       → value (store h q v) p ≡ value h p
   unfolding store value numberOf
-  other q IntrState m a =
-      by-kind (λ q. (numberOf (target q) ≡ 0 → ⊥) → store h q v .interrupts .state ≡ h .interrupts .state)
-      (λ d. absurd (d refl)) (λ d. refl) (λ d. absurd (d refl)) (λ f j d. refl) (λ f i d. refl) (λ s k d. refl) (λ d. refl) q
-  other q IntrEnable m a =
-      by-kind (λ q. (numberOf (target q) ≡ 1 → ⊥) → store h q v .interrupts .enable ≡ h .interrupts .enable)
-      (λ d. refl) (λ d. absurd (d refl)) (λ d. refl) (λ f j d. refl) (λ f i d. refl) (λ s k d. refl) (λ d. refl) q
-  other q IntrTest m a = λ d. refl
+  other q (Only p) m a =
+      by-kind (λ q. (numberOf (target q) ≡ singleNumber p → ⊥) → singleValue p (store h q v .interrupts) ≡ singleValue p (h .interrupts))
+      (λ o. single-other (h .interrupts) v o p) (λ f j d. refl) (λ f i d. refl) (λ s k d. refl) (λ d. refl) q
   other q (Local g i) m a =
       by-kind (λ q. (numberOf (target q) ≡ numberOf (Local g i) → ⊥) → local (store h q v) g i ≡ local h g i)
-      (λ d. refl) (λ d. refl) (λ d. refl)
+      (λ o d. refl)
       (λ f j d. local-stored h f g j i v (ltb-true i localCount a) ∙ apart f g i j _ _ (λ e k. d (omega arith)))
       (λ f i d. refl) (λ s k d. refl) (λ d. refl) q
   other q (Alert g i) m a =
       by-kind (λ q. (numberOf (target q) ≡ numberOf (Alert g i) → ⊥) → alert (store h q v) g i ≡ alert h g i)
-      (λ d. refl) (λ d. refl) (λ d. refl) (λ f i d. refl)
+      (λ o d. refl) (λ f i d. refl)
       (λ f j d. alert-stored h f g j i v (omega (arith, ltb-true i (h .n) a)) ∙ apart f g i j _ _ (λ e k. d (omega arith)))
       (λ s k d. refl) (λ d. refl) q
   other q (Block t k) m a =
       let b = and-true (ltb k classCount) (settingExists t) a in
       by-kind (λ q. (numberOf (target q) ≡ numberOf (Block t k) → ⊥) → value (store h q v) (Block t k) ≡ value h (Block t k))
-      (λ d. refl) (λ d. refl) (λ d. refl) (λ f i d. refl) (λ f i d. refl)
+      (λ o d. refl) (λ f i d. refl) (λ f i d. refl)
       (λ s j. block-other s t j k (ltb-true k classCount (b .0)) (b .1)) (λ d. refl) q
   other q Unassigned m a = λ d. refl
 
@@ -143,7 +155,7 @@ module _ (h : Handler) (v : ℕ) where
 pub target-in-map : (n : ℕ) (q : Register) → inMap n q ≡ true → inMap n (target q) ≡ true
 target-in-map n q =
     by-kind (λ q. inMap n q ≡ true → inMap n (target q) ≡ true)
-    (λ a. a) (λ a. a) (λ a. a) (λ f j a. a) (λ f i a. a) (λ s k a. a) (λ a. a) q
+    (λ o a. a) (λ f j a. a) (λ f i a. a) (λ s k a. a) (λ a. a) q
 
 -- v stored at q makes newValue of what q writes, and leaves every other register
 pub value-stored : (h : Handler) (q p : Register) (v : ℕ) → h .n ≤ most → inMap (h .n) q ≡ true → inMap (h .n) p ≡ true
@@ -219,6 +231,11 @@ as-written Way.OneClears e = refl
 as-written Way.ReadOnly e = refl
 as-written Way.WriteOnly e = sym e
 
+single-plain : (o : Single) → asWritten (singleRow o .way) ≡ true → (singleTarget o ≡ o) × ((old v : ℕ) → singleStored o old v ≡ v)
+single-plain =
+    by-single (λ o. asWritten (singleRow o .way) ≡ true → (singleTarget o ≡ o) × ((old v : ℕ) → singleStored o old v ≡ v))
+    (λ e. absurd (false≢true e)) (λ e. (refl, λ old v. refl)) (λ e. absurd (false≢true e))
+
 field-plain : (f : Field) → asWritten (fieldRow f .way) ≡ true → (old v : ℕ) → fieldStored f old v ≡ v
 field-plain =
     by-field (λ f. asWritten (fieldRow f .way) ≡ true → (old v : ℕ) → fieldStored f old v ≡ v)
@@ -228,7 +245,7 @@ field-plain =
 pub plain-takes : (q : Register) → plain q ≡ true → (target q ≡ q) × ((old v : ℕ) → newValue q old v ≡ v)
 plain-takes =
     by-kind (λ q. plain q ≡ true → (target q ≡ q) × ((old v : ℕ) → newValue q old v ≡ v))
-    (λ e. absurd (false≢true e)) (λ e. (refl, λ old v. refl)) (λ e. absurd (false≢true e)) (λ f j e. (refl, field-plain f e))
+    (λ o e. let t = single-plain o e in (ap Only (t .0), t .1)) (λ f j e. (refl, field-plain f e))
     (λ f i e. (refl, field-plain f e)) (λ s k e. (refl, λ old v. ap (λ (t : Bool). cond t v old) e)) (λ e. absurd (false≢true e))
 
 -- an accepted read gives the value

@@ -160,7 +160,7 @@ module _ (h : Handler) (r k : ℕ) (s : Setting) (e : decode (h .n) r ≡ Block 
 other-put : (q : Register) (c : ℕ) (z : Stages) (k : ℕ) → k < classCount → ofBlock k q ≡ false → classStages (withStage q c z) k ≡ classStages z k
 unfolding withStage
 other-put q c z k l =
-    by-kind (λ q. ofBlock k q ≡ false → classStages (withStage q c z) k ≡ classStages z k) (λ e. refl) (λ e. refl) (λ e. refl) (λ f j e. refl)
+    by-kind (λ q. ofBlock k q ≡ false → classStages (withStage q c z) k ≡ classStages z k) (λ o e. refl) (λ f j e. refl)
     (λ f i e. refl)
     (λ s j e. class-put z c s j k l ∙ ap (λ (t : Bool). cond t (withSettingStage s c (classStages z k)) (classStages z k)) e) (λ e. refl) q
 

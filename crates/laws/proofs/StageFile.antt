@@ -27,7 +27,7 @@ use Rattle.laws.proofs.StageLaws.{stage-put, stage-dropped}
 -- a register of a handler is one of the largest
 pub in-most : (n : ℕ) (q : Register) → n ≤ most → inMap n q ≡ true → inMap most q ≡ true
 in-most n q m =
-    by-kind (λ q. inMap n q ≡ true → inMap most q ≡ true) (λ a. a) (λ a. a) (λ a. a) (λ f j a. a)
+    by-kind (λ q. inMap n q ≡ true → inMap most q ≡ true) (λ o a. a) (λ f j a. a)
     (λ f i a. lt-ltb i most (omega (arith, ltb-true i n a))) (λ s k a. a) (λ a. a) q
 
 module _ (h : Handler) (m : h .n ≤ most) (p : Register) (b : inMap most p ≡ true) where

@@ -57,7 +57,7 @@ module _ (n : ℕ) (s : Stages) where
       let l = and-true _ _ (a .0) in
       let b = and-true _ _ (a .1) in
       let r = and-true _ _ (b .0) in
-      by-kind P (λ _. omega arith) (λ _. omega arith) (λ _. omega arith)
+      by-kind P (λ o _. omega arith)
       (λ f j. by-field (λ f. P (Local f j)) (λ _. omega arith) (λ m. codes-at 1 (s .locals .en) localCount (l .0) j (ltb-true j localCount m))
       (λ m. codes-at 2 (s .locals .class) localCount (l .1) j (ltb-true j localCount m)) (λ _. omega arith) f)
       (λ f i. by-field (λ f. P (Alert f i)) (λ _. omega arith) (λ m. codes-at 1 (s .alerts .en) n (r .0) i (ltb-true i n m))

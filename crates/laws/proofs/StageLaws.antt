@@ -11,7 +11,7 @@ use lib.Dec.{eqb, ltb}
 use lib.ListN.{getD}
 use Rattle.bits.proofs.IndexLaws.{and-true, at-each}
 use Rattle.rules.specs.Access.{value, store}
-use Rattle.rules.specs.Map.{numberOf, fieldRow, settingRow, offset, isRegister, isShadowed}
+use Rattle.rules.specs.Map.{numberOf, singleRow, fieldRow, settingRow, offset, isRegister, isShadowed}
 use Rattle.rules.specs.Stages.{localStages, alertStages, settingStage, noClassStages, classStages, stageIn, withLocalStages, withAlertStages, withSettingStage, withStage, dropped}
 use Rattle.rules.specs.State.{most, localCount, classCount, fieldIndex, withStages}
 use Rattle.rules.specs.declared.AlertStages.{AlertStages}
@@ -20,13 +20,13 @@ use Rattle.rules.specs.declared.Field.{Field}
 use Rattle.rules.specs.declared.Handler.{Handler}
 use Rattle.rules.specs.declared.LocalStages.{LocalStages}
 use Rattle.rules.specs.declared.Register.{Register}
-use Rattle.rules.specs.declared.Register.the-variants.{IntrState, IntrEnable, IntrTest, Local, Alert, Block, Unassigned}
+use Rattle.rules.specs.declared.Register.the-variants.{Only, Local, Alert, Block, Unassigned}
 use Rattle.rules.specs.declared.Setting.{Setting}
 use Rattle.rules.specs.declared.Stages.{Stages}
 use Rattle.laws.specs.InMap.{inMap, settingExists}
-use Rattle.laws.proofs.Cases.{pick, by-kind, by-field, by-setting}
+use Rattle.laws.proofs.Cases.{pick, by-kind, by-single, by-field, by-setting}
 use Rattle.laws.proofs.ColumnLaws.{at-changed}
-use Rattle.laws.proofs.MapLaws.{number-eq}
+use Rattle.laws.proofs.MapLaws.{single-number, number-eq}
 use Rattle.laws.proofs.StateLaws.{same-field, column-put}
 
 -- ── what the stages do not touch, and what does not touch them ──
@@ -34,12 +34,12 @@ use Rattle.laws.proofs.StateLaws.{same-field, column-put}
 -- a register holds the same whatever the stages
 pub value-stages : (s : Stages) (h : Handler) (q : Register) → value (withStages s h) q ≡ value h q
 unfolding value
-value-stages s h = by-kind (λ q. value (withStages s h) q ≡ value h q) refl refl refl (λ f j. refl) (λ f i. refl) (λ t k. refl) refl
+value-stages s h = by-kind (λ q. value (withStages s h) q ≡ value h q) (λ o. refl) (λ f j. refl) (λ f i. refl) (λ t k. refl) refl
 
 -- a store leaves them
 pub store-stages : (h : Handler) (q : Register) (v : ℕ) → store h q v .stages ≡ h .stages
 unfolding store
-store-stages h q v = by-kind (λ q. store h q v .stages ≡ h .stages) refl refl refl (λ f j. refl) (λ f i. refl) (λ t k. refl) refl q
+store-stages h q v = by-kind (λ q. store h q v .stages ≡ h .stages) (λ o. refl) (λ f j. refl) (λ f i. refl) (λ t k. refl) refl q
 
 -- ── a column of the alerts, and a class's block ──
 
@@ -111,9 +111,7 @@ module _ (s : Stages) (c : ℕ) where
   -- the register itself
   own : (q : Register) → inMap most q ≡ true → stageIn (withStage q c s) q ≡ cond (isShadowed q) c (stageIn s q)
   unfolding stageIn withStage isShadowed
-  own IntrState a = refl
-  own IntrEnable a = refl
-  own IntrTest a = refl
+  own (Only o) a = by-single (λ o. 0 ≡ cond (singleRow o .shadowed) c 0) refl refl refl o
   own (Local f j) a = local-put f f j j (ltb-true j localCount a) ∙ same (fieldRow f .shadowed) (fieldIndex f) j c (stageIn s (Local f j))
   own (Alert f i) a = alert-put f f i i (ltb-true i most a) ∙ same (fieldRow f .shadowed) (fieldIndex f) i c (stageIn s (Alert f i))
   own (Block t k) a =
@@ -140,23 +138,21 @@ module _ (s : Stages) (c : ℕ) where
   -- any other register
   other : (q p : Register) → inMap most p ≡ true → (numberOf q ≡ numberOf p → ⊥) → stageIn (withStage q c s) p ≡ stageIn s p
   unfolding stageIn withStage numberOf
-  other q IntrState a = λ d. refl
-  other q IntrEnable a = λ d. refl
-  other q IntrTest a = λ d. refl
+  other q (Only o) a = λ d. refl
   other q (Local g i) a =
       by-kind (λ q. (numberOf q ≡ numberOf (Local g i) → ⊥) → stageIn (withStage q c s) (Local g i) ≡ stageIn s (Local g i))
-      (λ d. refl) (λ d. refl) (λ d. refl)
+      (λ o d. refl)
       (λ f j d. local-put f g j i (ltb-true i localCount a) ∙ apart f g i j _ _ (λ e k. d (omega arith)))
       (λ f j d. refl) (λ t k d. refl) (λ d. refl) q
   other q (Alert g i) a =
       by-kind (λ q. (numberOf q ≡ numberOf (Alert g i) → ⊥) → stageIn (withStage q c s) (Alert g i) ≡ stageIn s (Alert g i))
-      (λ d. refl) (λ d. refl) (λ d. refl) (λ f j d. refl)
+      (λ o d. refl) (λ f j d. refl)
       (λ f j d. alert-put f g j i (ltb-true i most a) ∙ apart f g i j _ _ (λ e k. d (omega arith)))
       (λ t k d. refl) (λ d. refl) q
   other q (Block u k) a =
       let b = and-true (ltb k classCount) (settingExists u) a in
       by-kind (λ q. (numberOf q ≡ numberOf (Block u k) → ⊥) → stageIn (withStage q c s) (Block u k) ≡ stageIn s (Block u k))
-      (λ d. refl) (λ d. refl) (λ d. refl) (λ f j d. refl) (λ f j d. refl)
+      (λ o d. refl) (λ f j d. refl) (λ f j d. refl)
       (λ t j. block-other t u j k (ltb-true k classCount (b .0)) (b .1)) (λ d. refl) q
   other q Unassigned a = λ d. refl
 
@@ -181,7 +177,7 @@ never e = absurd (false≢true (sym e))
 pub no-stage : (s : Stages) (q : Register) → isShadowed q ≡ false → stageIn s q ≡ 0
 unfolding stageIn isShadowed
 no-stage s q =
-    by-kind (λ q. isShadowed q ≡ false → stageIn s q ≡ 0) (λ e. refl) (λ e. refl) (λ e. refl)
+    by-kind (λ q. isShadowed q ≡ false → stageIn s q ≡ 0) (λ o e. refl)
     (λ f j. by-field (λ f. isShadowed (Local f j) ≡ false → stageIn s (Local f j) ≡ 0) (λ e. refl) never never (λ e. refl) f)
     (λ f i. by-field (λ f. isShadowed (Alert f i) ≡ false → stageIn s (Alert f i) ≡ 0) (λ e. refl) never never (λ e. refl) f)
     (λ t k. by-setting (λ t. isShadowed (Block t k) ≡ false → stageIn s (Block t k) ≡ 0) (λ e. refl) never (λ e. refl) (λ e. refl) (λ e. refl)
@@ -191,15 +187,15 @@ no-stage s q =
 not-shadowed : (q : Register) → isRegister q ≡ false → isShadowed q ≡ false
 unfolding isShadowed
 not-shadowed =
-    by-kind (λ q. isRegister q ≡ false → isShadowed q ≡ false) never never never (λ f j. never) (λ f i. never) (λ t k. never) (λ e. refl)
+    by-kind (λ q. isRegister q ≡ false → isShadowed q ≡ false) (λ o. never) (λ f j. never) (λ f i. never) (λ t k. never) (λ e. refl)
 
 -- the number of no register is none's
 pub number-none : (q p : Register) → isRegister q ≡ false → inMap most p ≡ true → numberOf q ≡ numberOf p → ⊥
 unfolding numberOf
 number-none q p =
-    by-kind (λ q. isRegister q ≡ false → inMap most p ≡ true → numberOf q ≡ numberOf p → ⊥) never never never (λ f j. never) (λ f i. never)
+    by-kind (λ q. isRegister q ≡ false → inMap most p ≡ true → numberOf q ≡ numberOf p → ⊥) (λ o. never) (λ f j. never) (λ f i. never)
     (λ t k. never)
-    (λ e. by-kind (λ p. inMap most p ≡ true → 3 ≡ numberOf p → ⊥) (λ a d. omega arith) (λ a d. omega arith) (λ a d. omega arith)
+    (λ e. by-kind (λ p. inMap most p ≡ true → 3 ≡ numberOf p → ⊥) (λ o a d. single-number o (sym d))
     (λ f j a d. omega arith) (λ f i a d. omega arith) (λ t k a d. omega arith) (λ a d. false≢true a) p) q
 
 module _ (s : Stages) (q p : Register) (a : isRegister q ≡ true → inMap most q ≡ true) (b : inMap most p ≡ true) where

@@ -12,17 +12,18 @@ use Rattle.bits.specs.Bits.{fits}
 use Rattle.bits.proofs.IndexLaws.{and-true, true-and, all-at, all-of}
 use Rattle.class_rules.specs.Class.{phaseCyc, lengthsFit, classFits}
 use Rattle.class_rules.specs.declared.Class.{Class}
-use Rattle.rules.specs.Access.{value, settingValue}
-use Rattle.rules.specs.Map.{bits, fieldBits, settingBits}
+use Rattle.rules.specs.Access.{value, singleValue, settingValue}
+use Rattle.rules.specs.Map.{bits, singleBits, fieldBits, settingBits}
 use Rattle.rules.specs.State.{localCount, classCount, localColumn, alertColumn, classAt}
 use Rattle.rules.specs.Valid.{valid, columnFits, columnsFit}
 use Rattle.rules.specs.declared.Field.{Field}
 use Rattle.rules.specs.declared.Handler.{Handler}
 use Rattle.rules.specs.declared.Register.{Register}
 use Rattle.rules.specs.declared.Setting.{Setting}
+use Rattle.rules.specs.declared.Single.{Single}
 use Rattle.laws.specs.InMap.{inMap, settingExists}
 use Rattle.laws.specs.Facts.{ClassValid, Valid}
-use Rattle.laws.proofs.Cases.{by-kind, by-setting}
+use Rattle.laws.proofs.Cases.{by-kind, by-single, by-setting}
 use Rattle.laws.proofs.StageFits.{stages-at, stages-of}
 
 four-true : (a b c d : Bool) → (a && (b && (c && d))) ≡ true → (a ≡ true) × (b ≡ true) × (c ≡ true) × (d ≡ true)
@@ -147,6 +148,10 @@ is-valid h v =
 
 -- ── every register ──
 
+-- a register that there is one of
+single-bounded : (h : Handler) → Valid h → (o : Single) → singleValue o (h .interrupts) < 2 ^ singleBits o
+single-bounded h v = by-single (λ o. singleValue o (h .interrupts) < 2 ^ singleBits o) (v .state) (v .enable) (omega arith)
+
 -- a register of a class's block
 setting-bounded : (c : Class) → ClassValid c → (s : Setting) → settingExists s ≡ true → settingValue s c < 2 ^ settingBits s
 setting-bounded c v =
@@ -157,7 +162,8 @@ setting-bounded c v =
 register-bounded : (h : Handler) → Valid h → (q : Register) → inMap (h .n) q ≡ true → value h q < 2 ^ bits q
 unfolding value bits
 register-bounded h v =
-    by-kind (λ q. inMap (h .n) q ≡ true → value h q < 2 ^ bits q) (λ a. v .state) (λ a. v .enable) (λ a. omega arith)
+    by-kind (λ q. inMap (h .n) q ≡ true → value h q < 2 ^ bits q)
+    (λ o a. single-bounded h v o)
     (λ f j a. v .locals f j (ltb-true _ _ a)) (λ f i a. v .alerts f i (ltb-true _ _ a))
     (λ s k a. let b = and-true (ltb k classCount) (settingExists s) a in setting-bounded (classAt h k) (v .classes k (ltb-true _ _ (b .0))) s (b .1))
     (λ a. absurd (false≢true a))

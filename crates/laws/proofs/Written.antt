@@ -25,7 +25,7 @@ use Rattle.rules.specs.declared.Handler.{Handler}
 use Rattle.rules.specs.declared.Input.{Input}
 use Rattle.rules.specs.declared.Refusal.{Refusal}
 use Rattle.rules.specs.declared.Register.{Register}
-use Rattle.rules.specs.declared.Register.the-variants.{Local, Alert, Block}
+use Rattle.rules.specs.declared.Register.the-variants.{Only, Local, Alert, Block}
 use Rattle.rules.specs.declared.Sample.{Sample}
 use Rattle.rules.specs.declared.Ticked.{Ticked}
 use Rattle.rules.specs.declared.Verdict.{Verdict}
@@ -33,7 +33,7 @@ use Rattle.laws.specs.Frame.{movesItself}
 use Rattle.laws.specs.InMap.{inMap}
 use Rattle.laws.specs.RegisterFile.{target, newValue, stores, plain}
 use Rattle.laws.specs.StageFile.{stageBy}
-use Rattle.laws.proofs.Cases.{by-kind, by-field, by-setting}
+use Rattle.laws.proofs.Cases.{by-kind, by-single, by-field, by-setting}
 use Rattle.laws.proofs.Frame.{after-still, after-stage}
 use Rattle.laws.proofs.KeepsValid.{made-valid}
 use Rattle.laws.proofs.Refusal7.{ticked-good}
@@ -121,14 +121,14 @@ write-locked h r v a b c d e =
 -- a larger handler has the registers of a smaller one
 pub in-more : (n m : ℕ) (q : Register) → n ≤ m → inMap n q ≡ true → inMap m q ≡ true
 in-more n m q l =
-    by-kind (λ q. inMap n q ≡ true → inMap m q ≡ true) (λ a. a) (λ a. a) (λ a. a) (λ f j a. a)
+    by-kind (λ q. inMap n q ≡ true → inMap m q ≡ true) (λ o a. a) (λ f j a. a)
     (λ f i a. lt-ltb i m (omega (arith, ltb-true i n a))) (λ s k a. a) (λ a. a) q
 
 -- what guards a register that reads as what is written and does not move by itself does not move either
 pub guard-still : (q : Register) → plain q ≡ true → movesItself q ≡ false → movesItself (guard q) ≡ false
 unfolding guard
 guard-still q =
-    by-kind P (λ p e. refl) (λ p e. refl) (λ p e. refl)
+    by-kind P (by-single (λ o. P (Only o)) (λ p e. refl) (λ p e. refl) (λ p e. refl))
     (λ f j. by-field (λ f. P (Local f j)) (λ p e. refl) (λ p e. refl) (λ p e. refl) (λ p e. refl) f)
     (λ f i. by-field (λ f. P (Alert f i)) (λ p e. refl) (λ p e. refl) (λ p e. refl) (λ p e. refl) f)
     (λ s k. by-setting (λ s. P (Block s k)) (λ p e. refl) (λ p e. refl) (λ p e. e) (λ p e. absurd (false≢true p)) (λ p e. refl)
@@ -141,7 +141,7 @@ guard-still q =
 pub shadowed-apart : (q : Register) → isShadowed q ≡ true → numberOf q ≡ numberOf (guard q) → ⊥
 unfolding isShadowed guard numberOf
 shadowed-apart =
-    by-kind P never never never (λ f j. by-field (λ f. P (Local f j)) never (λ _ e. omega arith) (λ _ e. omega arith) never f)
+    by-kind P (by-single (λ o. P (Only o)) never never never) (λ f j. by-field (λ f. P (Local f j)) never (λ _ e. omega arith) (λ _ e. omega arith) never f)
     (λ f i. by-field (λ f. P (Alert f i)) never (λ _ e. omega arith) (λ _ e. omega arith) never f)
     (λ s k. by-setting (λ s. P (Block s k)) never (λ _ e. omega arith) never never never (λ _ e. omega arith) (λ _ e. omega arith)
     (λ p _ e. omega arith) never never s) never
@@ -155,7 +155,7 @@ shadowed-apart =
 pub shadowed-wise : (h : Handler) (q : Register) (v : ℕ) → isShadowed q ≡ true → silly h q v ≡ false
 unfolding isShadowed
 shadowed-wise h q v =
-    by-kind P (λ e. refl) (λ e. refl) (λ e. refl) (λ f j e. refl) (λ f i e. refl)
+    by-kind P (λ o e. refl) (λ f j e. refl) (λ f i e. refl)
     (λ s k. by-setting (λ s. P (Block s k)) (λ e. absurd (false≢true e)) (λ e. refl) (λ e. refl) (λ e. refl) (λ e. refl) (λ e. refl) (λ e. refl)
     (λ p e. rw (ne-eqb (7 + p) 0 (λ (d : 7 + p ≡ 0). omega arith))) (λ e. refl) (λ e. refl) s) (λ e. refl) q
   where
@@ -187,7 +187,7 @@ new-valid n a b =
 pub new-unlocked : (n : ℕ) (q : Register) → n ≤ most → inMap n q ≡ true → locked (newHandler n) q ≡ false
 unfolding locked guard value newHandler
 new-unlocked n q m =
-    by-kind P (λ a. refl) (λ a. refl) (λ a. refl)
+    by-kind P (by-single (λ o. P (Only o)) (λ a. refl) (λ a. refl) (λ a. refl))
     (λ f j. by-field (λ f. P (Local f j)) (own-local j) (own-local j) (own-local j) (λ a. refl) f)
     (λ f i. by-field (λ f. P (Alert f i)) (own-alert i) (own-alert i) (own-alert i) (λ a. refl) f)
     (λ s k. by-setting (λ s. P (Block s k)) (own-class k true) (own-class k true) (own-clear k true) (own-clear k true) (λ a. refl)

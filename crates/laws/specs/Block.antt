@@ -16,14 +16,12 @@ use Rattle.rules.specs.declared.Guard.{Guard}
 use Rattle.rules.specs.declared.Guard.the-variants.{Free, ByRegwen, ByClrRegwen}
 use Rattle.rules.specs.declared.Handler.{Handler}
 use Rattle.rules.specs.declared.Register.{Register}
-use Rattle.rules.specs.declared.Register.the-variants.{IntrState, IntrEnable, IntrTest, Local, Alert, Block, Unassigned}
+use Rattle.rules.specs.declared.Register.the-variants.{Only, Local, Alert, Block, Unassigned}
 use Rattle.rules.specs.declared.Setting.{Setting}
 
 -- what v stored at q makes of class k
 abbrev pub classStored : Register → ℕ → ℕ → Class → Class
-classStored IntrState v k c = c
-classStored IntrEnable v k c = c
-classStored IntrTest v k c = c
+classStored (Only o) v k c = c
 classStored (Local f j) v k c = c
 classStored (Alert f i) v k c = c
 classStored (Block s j) v k c = cond (eqb k j) (withSetting s v c) c
@@ -71,9 +69,7 @@ blockClears s v c b = blockAccepts s v c b && (settingIsClr s && eqb v 1)
 
 -- is it a register of class k's block?
 abbrev pub ofBlock : ℕ → Register → Bool
-ofBlock k IntrState = false
-ofBlock k IntrEnable = false
-ofBlock k IntrTest = false
+ofBlock k (Only o) = false
 ofBlock k (Local f j) = false
 ofBlock k (Alert f i) = false
 ofBlock k (Block s j) = eqb k j

@@ -1,16 +1,14 @@
 -- "Register map" as document 01 numbers it: what a record of 24 bytes says.
 -- Assumes nothing.
 use Prim.Native.Nat.{ℕ, _+_, _*_}
-use Rattle.rules.specs.Map.{offset}
+use Rattle.rules.specs.Map.{offset, singleNumber}
 use Rattle.rules.specs.State.{fieldIndex}
 use Rattle.rules.specs.declared.Register.{Register}
-use Rattle.rules.specs.declared.Register.the-variants.{IntrState, IntrEnable, IntrTest, Local, Alert, Block, Unassigned}
+use Rattle.rules.specs.declared.Register.the-variants.{Only, Local, Alert, Block, Unassigned}
 
--- 16+j, 24+j, 32+j, 40+j; 64+i, 128+i, 192+i, 256+i; 320+16k and the offset; 3 stands for what is unassigned
+-- 0 to 2; 16+j, 24+j, 32+j, 40+j; 64+i, 128+i, 192+i, 256+i; 320+16k and the offset; 3 stands for what is unassigned
 abbrev pub number24 : Register → ℕ
-number24 IntrState = 0
-number24 IntrEnable = 1
-number24 IntrTest = 2
+number24 (Only o) = singleNumber o
 number24 (Local f j) = 16 + 8 * fieldIndex f + j
 number24 (Alert f i) = 64 + 64 * fieldIndex f + i
 number24 (Block s k) = 320 + 16 * k + offset s

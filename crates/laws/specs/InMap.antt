@@ -5,7 +5,7 @@ use mathlib.Core.Bool.{Bool, true, false, _&&_}
 use lib.Dec.{ltb}
 use Rattle.rules.specs.State.{localCount, classCount}
 use Rattle.rules.specs.declared.Register.{Register}
-use Rattle.rules.specs.declared.Register.the-variants.{IntrState, IntrEnable, IntrTest, Local, Alert, Block, Unassigned}
+use Rattle.rules.specs.declared.Register.the-variants.{Only, Local, Alert, Block, Unassigned}
 use Rattle.rules.specs.declared.Setting.{Setting}
 use Rattle.rules.specs.declared.Setting.the-variants.{Ctrl, ClrRegwen, Clr, AccumCnt, AccumThresh, TimeoutCyc, PhaseCyc, EscCnt}
 
@@ -24,9 +24,7 @@ settingExists Setting.State = true
 
 -- the register is in the map of a handler of n alerts: local alerts 0 to 6, alerts below N, classes 0 to 3
 abbrev pub inMap : ℕ → Register → Bool
-inMap n IntrState = true
-inMap n IntrEnable = true
-inMap n IntrTest = true
+inMap n (Only o) = true
 inMap n (Local f j) = ltb j localCount
 inMap n (Alert f i) = ltb i n
 inMap n (Block s k) = ltb k classCount && settingExists s

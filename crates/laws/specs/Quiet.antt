@@ -8,7 +8,7 @@ use Rattle.rules.specs.State.{most, localCount}
 use Rattle.rules.specs.declared.Handler.{Handler}
 use Rattle.rules.specs.declared.Heard.{Heard}
 use Rattle.rules.specs.declared.Register.{Register}
-use Rattle.rules.specs.declared.Register.the-variants.{IntrState, IntrEnable, IntrTest, Local, Alert, Block, Unassigned}
+use Rattle.rules.specs.declared.Register.the-variants.{Only, Local, Alert, Block, Unassigned}
 use Rattle.rules.specs.declared.Setting.{Setting}
 use Rattle.rules.specs.declared.Setting.the-variants.{Ctrl, ClrRegwen, Clr, AccumCnt, AccumThresh, TimeoutCyc, PhaseCyc, EscCnt}
 use Rattle.rules.specs.declared.Wires.{Wires}
@@ -36,9 +36,7 @@ settingRuns EscCnt = true
 settingRuns Setting.State = true
 
 abbrev pub runs : Register → Bool
-runs IntrState = false
-runs IntrEnable = false
-runs IntrTest = false
+runs (Only o) = false
 runs (Local f j) = false
 runs (Alert f i) = false
 runs (Block s k) = settingRuns s

@@ -10,8 +10,10 @@ use Rattle.rules.specs.declared.Access.{Access}
 use Rattle.rules.specs.declared.Access.the-variants.{Nothing, Read, Write, Malformed}
 use Rattle.rules.specs.declared.Handler.{Handler}
 use Rattle.rules.specs.declared.Register.{Register}
-use Rattle.rules.specs.declared.Register.the-variants.{IntrState, IntrEnable, IntrTest, Local, Alert, Block, Unassigned}
+use Rattle.rules.specs.declared.Register.the-variants.{Only, Local, Alert, Block, Unassigned}
 use Rattle.rules.specs.declared.Setting.{Setting}
+use Rattle.rules.specs.declared.Single.{Single}
+use Rattle.rules.specs.declared.Single.the-variants.{IntrState, IntrEnable, IntrTest}
 use Rattle.rules.specs.declared.Way.{Way}
 use Rattle.rules.specs.declared.Way.the-variants.{Both, OneClears, ReadOnly, WriteOnly}
 
@@ -26,21 +28,28 @@ asWritten WriteOnly = false
 abbrev pub settingStored : Setting → ℕ → ℕ → ℕ
 settingStored s old v = cond (asWritten (settingRow s .way)) v old
 
+abbrev pub singleTarget : Single → Single
+singleTarget IntrState = IntrState
+singleTarget IntrEnable = IntrEnable
+singleTarget IntrTest = IntrState
+
 -- the register that a write at q changes: INTR_TEST writes INTR_STATE, every other one itself
 abbrev pub target : Register → Register
-target IntrState = IntrState
-target IntrEnable = IntrEnable
-target IntrTest = IntrState
+target (Only o) = Only (singleTarget o)
 target (Local f j) = Local f j
 target (Alert f i) = Alert f i
 target (Block s k) = Block s k
 target Unassigned = Unassigned
 
--- what it holds once v is written at q: in INTR_STATE and CAUSE a 1 clears, in INTR_TEST a 1 sets
+-- in INTR_STATE a 1 clears, in INTR_TEST a 1 sets
+abbrev pub singleStored : Single → ℕ → ℕ → ℕ
+singleStored IntrState old v = bitsOf 4 (λ k. bit old k && not (bit v k))
+singleStored IntrEnable old v = v
+singleStored IntrTest old v = bitsOf 4 (λ k. bit old k || bit v k)
+
+-- what it holds once v is written at q
 abbrev pub newValue : Register → ℕ → ℕ → ℕ
-newValue IntrState old v = bitsOf 4 (λ k. bit old k && not (bit v k))
-newValue IntrEnable old v = v
-newValue IntrTest old v = bitsOf 4 (λ k. bit old k || bit v k)
+newValue (Only o) old v = singleStored o old v
 newValue (Local f j) old v = fieldStored f old v
 newValue (Alert f i) old v = fieldStored f old v
 newValue (Block s k) old v = settingStored s old v

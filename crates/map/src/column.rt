@@ -85,9 +85,7 @@ fn lock_of(s: Setting, q: Register) -> Register
     ensures { λ r. ⌜ r ≡ lockOf s q ⌝ }
 {
     match q {
-        Register::IntrState => Register::Unassigned,
-        Register::IntrEnable => Register::Unassigned,
-        Register::IntrTest => Register::Unassigned,
+        Register::Only(_) => Register::Unassigned,
         Register::Local(_, j) => Register::Local(Field::Regwen, j),
         Register::Alert(_, i) => Register::Alert(Field::Regwen, i),
         Register::Block(_, k) => Register::Block(s, k),

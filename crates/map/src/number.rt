@@ -2,6 +2,7 @@
 use rules::Field;
 use rules::Register;
 use rules::Setting;
+use rules::Single;
 
 // From one field of the alerts to the next.
 const STRIDE: usize = 256;
@@ -57,9 +58,9 @@ fn select(n: usize, r: usize) -> Register
     ensures { λ q. ⌜ q ≡ decode n r ⌝ }
 {
     match r {
-        0 => Register::IntrState,
-        1 => Register::IntrEnable,
-        2 => Register::IntrTest,
+        0 => Register::Only(Single::IntrState),
+        1 => Register::Only(Single::IntrEnable),
+        2 => Register::Only(Single::IntrTest),
         16..=22 => Register::Local(Field::Regwen, r - 16),
         24..=30 => Register::Local(Field::En, r - 24),
         32..=38 => Register::Local(Field::Class, r - 32),

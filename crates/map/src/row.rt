@@ -4,9 +4,10 @@ use rules::Guard;
 use rules::Register;
 use rules::Row;
 use rules::Setting;
+use rules::Single;
 use rules::Way;
 ghost use mathlib.Core.Path.{_≡_};
-ghost use Rattle.rules.specs.Map.{fieldRow, settingRow, row};
+ghost use Rattle.rules.specs.Map.{singleRow, fieldRow, settingRow, row};
 
 // A row: bits, way, guard, whether it is a lock, whether steps 2 to 4 of a tick move it, whether it is shadowed.
 fn line(bits: u8, way: Way, guard: Guard, lock: bool, moves: bool, shadowed: bool) -> Row
@@ -19,6 +20,17 @@ fn line(bits: u8, way: Way, guard: Guard, lock: bool, moves: bool, shadowed: boo
         lock,
         moves,
         shadowed,
+    }
+}
+
+// Of a register that there is one of.
+fn single_row(o: Single) -> Row
+    ensures { λ r. ⌜ r ≡ singleRow o ⌝ }
+{
+    match o {
+        Single::IntrState => line(4, Way::OneClears, Guard::Free, false, true, false),
+        Single::IntrEnable => line(4, Way::Both, Guard::Free, false, false, false),
+        Single::IntrTest => line(4, Way::WriteOnly, Guard::Free, false, false, false),
     }
 }
 
@@ -57,9 +69,7 @@ pub fn row_of(q: Register) -> Row
     ensures { λ r. ⌜ r ≡ row q ⌝ }
 {
     match q {
-        Register::IntrState => line(4, Way::OneClears, Guard::Free, false, true, false),
-        Register::IntrEnable => line(4, Way::Both, Guard::Free, false, false, false),
-        Register::IntrTest => line(4, Way::WriteOnly, Guard::Free, false, false, false),
+        Register::Only(o) => single_row(o),
         Register::Local(f, _) => field_row(f),
         Register::Alert(f, _) => field_row(f),
         Register::Block(s, _) => setting_row(s),

@@ -3,14 +3,16 @@ use class_rules::Class;
 use rules::Alerts;
 use rules::Field;
 use rules::Handler;
+use rules::Interrupts;
 use rules::Locals;
 use rules::Register;
 use rules::Setting;
+use rules::Single;
 ghost use mathlib.Core.Path.{_≡_};
 ghost use lib.ListN.{getD};
 ghost use Rattle.class_rules.specs.Class.{noClass};
 ghost use Rattle.rules.specs.State.{localColumn, alertColumn};
-ghost use Rattle.rules.specs.Access.{settingValue, value};
+ghost use Rattle.rules.specs.Access.{singleValue, settingValue, value};
 
 // Entry i of a column, and 0 past its end.
 pub fn entry(xs: &[u8], i: usize) -> u8
@@ -107,14 +109,23 @@ fn block_value(classes: [Class; 4], s: Setting, k: usize) -> u32
     }
 }
 
+// A register that there is one of.
+fn single_value(o: Single, i: Interrupts) -> u32
+    ensures { λ r. ⌜ r ≡ singleValue o i ⌝ }
+{
+    match o {
+        Single::IntrState => i.state as u32,
+        Single::IntrEnable => i.enable as u32,
+        Single::IntrTest => 0,
+    }
+}
+
 // What a register holds. INTR_TEST, CLR and what is no register hold no value.
 pub fn value_of(h: Handler, q: Register) -> u32
     ensures { λ r. ⌜ r ≡ value h q ⌝ }
 {
     match q {
-        Register::IntrState => h.interrupts.state as u32,
-        Register::IntrEnable => h.interrupts.enable as u32,
-        Register::IntrTest => 0,
+        Register::Only(o) => single_value(o, h.interrupts),
         Register::Local(f, j) => local_value(h.locals, f, j) as u32,
         Register::Alert(f, i) => alert_value(h.alerts, f, i) as u32,
         Register::Block(s, k) => {

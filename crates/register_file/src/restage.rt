@@ -128,9 +128,7 @@ fn with_stage(s: Stages, q: Register, c: u64) -> Stages
 {
     let mut out = s;
     match q {
-        Register::IntrState => s,
-        Register::IntrEnable => s,
-        Register::IntrTest => s,
+        Register::Only(_) => s,
         Register::Local(f, j) => {
             let locals = set_local(s.locals, f, j, c as u8);
             out.locals = locals;

@@ -92,9 +92,7 @@ pub fn stage_of(h: Handler, q: Register) -> u64
     ensures { λ r. ⌜ r ≡ stage h q ⌝ }
 {
     match q {
-        Register::IntrState => 0,
-        Register::IntrEnable => 0,
-        Register::IntrTest => 0,
+        Register::Only(_) => 0,
         Register::Local(f, j) => local_stage(h.stages.locals, f, j) as u64,
         Register::Alert(f, i) => alert_stage(h.stages.alerts, f, i) as u64,
         Register::Block(s, k) => {

@@ -5,18 +5,20 @@ use class_rules::Class;
 use rules::Alerts;
 use rules::Field;
 use rules::Handler;
+use rules::Interrupts;
 use rules::Locals;
 use rules::Register;
 use rules::Setting;
+use rules::Single;
 ghost use mathlib.Core.Path.{_≡_};
 ghost use mathlib.Core.Bool.{not, _&&_, _||_};
 ghost use Prim.Native.Nat.{_^_, _<_};
 ghost use lib.ListN.{getD, set};
 ghost use Rattle.bits.specs.Bits.{bit, bitsOf};
 ghost use Rattle.class_rules.specs.Class.{noClass};
-ghost use Rattle.rules.specs.Map.{settingBits, bits};
-ghost use Rattle.rules.specs.State.{most, localCount, classCount, localColumn, alertColumn, withInterrupts, withLocalColumn, withAlertColumn, put};
-ghost use Rattle.rules.specs.Access.{fieldStored, withSetting, store};
+ghost use Rattle.rules.specs.Map.{singleBits, settingBits, bits};
+ghost use Rattle.rules.specs.State.{most, localCount, classCount, localColumn, alertColumn, withLocalColumn, withAlertColumn, put};
+ghost use Rattle.rules.specs.Access.{fieldStored, withSingle, withSetting, store};
 
 // INTR_STATE: a 1 clears.
 fn cleared(state: u8, v: u8) -> u8
@@ -186,13 +188,28 @@ fn set_block(classes: [Class; 4], s: Setting, k: usize, v: u32) -> [Class; 4]
     out
 }
 
-// The state with another INTR_STATE.
-fn with_state(h: Handler, state: u8) -> Handler
-    ensures { λ r. ⌜ r ≡ withInterrupts (record { state = state; enable = h .interrupts .enable }) h ⌝ }
+// The interrupt registers with v written at one of them.
+fn set_single(o: Single, v: u32, i: Interrupts) -> Interrupts
+    requires { ⌜ v < 2 ^ singleBits o ⌝ }
+    ensures { λ r. ⌜ r ≡ withSingle o v i ⌝ }
 {
-    let mut out = h;
-    out.interrupts.state = state;
-    out
+    match o {
+        Single::IntrState => Interrupts {
+            state: cleared(i.state, v as u8),
+            enable: i.enable,
+        },
+        Single::IntrEnable => {
+            let enable = v as u8;
+            Interrupts {
+                state: i.state,
+                enable,
+            }
+        }
+        Single::IntrTest => Interrupts {
+            state: raised(i.state, v as u8),
+            enable: i.enable,
+        },
+    }
 }
 
 // The state after an accepted write; v fits the register.
@@ -202,13 +219,11 @@ pub fn stored(h: Handler, q: Register, v: u32) -> Handler
 {
     let mut out = h;
     match q {
-        Register::IntrState => with_state(h, cleared(h.interrupts.state, v as u8)),
-        Register::IntrEnable => {
-            let enable = v as u8;
-            out.interrupts.enable = enable;
+        Register::Only(o) => {
+            let interrupts = set_single(o, v, h.interrupts);
+            out.interrupts = interrupts;
             out
         }
-        Register::IntrTest => with_state(h, raised(h.interrupts.state, v as u8)),
         Register::Local(f, j) => {
             let old = local_value(h.locals, f, j);
             let locals = set_local(h.locals, f, j, field_stored(f, old, v as u8));

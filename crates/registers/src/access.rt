@@ -47,9 +47,7 @@ fn clears_of(q: Register, v: u32) -> u8
     ensures { λ r. ⌜ r ≡ bitsOf 4 (λ k. isClrOf k q && eqb v 1) ⌝ }
 {
     match q {
-        Register::IntrState => 0,
-        Register::IntrEnable => 0,
-        Register::IntrTest => 0,
+        Register::Only(_) => 0,
         Register::Local(_, _) => 0,
         Register::Alert(_, _) => 0,
         Register::Block(s, k) => class_bit(k, is_clr(s) & (v == 1)),

@@ -53,9 +53,7 @@ pub fn is_silly(h: Handler, q: Register, v: u32) -> bool
     ensures { λ r. ⌜ r ≡ silly h q v ⌝ }
 {
     match q {
-        Register::IntrState => false,
-        Register::IntrEnable => false,
-        Register::IntrTest => false,
+        Register::Only(_) => false,
         Register::Local(_, _) => false,
         Register::Alert(_, _) => false,
         Register::Block(s, k) => {

@@ -14,10 +14,11 @@ use Rattle.rules.specs.Stages.{stage}
 use Rattle.rules.specs.State.{resetClass, withClasses, withLocals}
 use Rattle.rules.specs.declared.Access.{Access}
 use Rattle.rules.specs.declared.Handler.{Handler}
-use Rattle.rules.specs.declared.Register.the-variants.{IntrState, IntrTest, Block}
+use Rattle.rules.specs.declared.Register.the-variants.{Only, Block}
 use Rattle.rules.specs.declared.Setting.{Setting}
 use Rattle.rules.specs.declared.Setting.the-variants.{ClrRegwen, Clr, AccumCnt, AccumThresh}
 use Rattle.rules.specs.Scenes.{ones, wired, wire, rest, raise, bothHigh, none, write}
+use Rattle.rules.specs.declared.Single.the-variants.{IntrState, IntrTest}
 use Rattle.rules.proofs.Scenes.{rules, settings, station}
 
 -- ── alert k is enabled in class k; the classes have EN, LOCK, all lines and these thresholds and timeouts; local alerts are of one class ──
@@ -47,16 +48,16 @@ bitOf = 1 ∷ 2 ∷ 4 ∷ 8 ∷ []
 
 -- ── "due" reads its own interrupt bit, which INTR_TEST sets and INTR_STATE clears for that class alone: STATE 1 is Timeout ──
 
-tests-own : map (λ v. seen Setting.State (accesses (four (replicate 4 9) 50 0) (write IntrTest v ∷ none ∷ []))) bitOf ≡ only
+tests-own : map (λ v. seen Setting.State (accesses (four (replicate 4 9) 50 0) (write (Only IntrTest) v ∷ none ∷ []))) bitOf ≡ only
 unfolding rules
 tests-own = refl
 
-clears-own-bit : map (λ v. seen Setting.State (accesses (four (replicate 4 9) 50 0) (write IntrTest 15 ∷ write IntrState v ∷ []))) bitOf ≡ butOne
+clears-own-bit : map (λ v. seen Setting.State (accesses (four (replicate 4 9) 50 0) (write (Only IntrTest) 15 ∷ write (Only IntrState) v ∷ []))) bitOf ≡ butOne
 unfolding rules
 clears-own-bit = refl
 
-bits-own : (map (λ v. value (accesses (four (replicate 4 9) 50 0) (write IntrTest v ∷ [])) IntrState) bitOf ≡ bitOf)
-    × (map (λ v. value (accesses (four (replicate 4 9) 50 0) (write IntrTest 15 ∷ write IntrState v ∷ [])) IntrState) bitOf ≡ 14 ∷ 13 ∷ 11 ∷ 7 ∷ [])
+bits-own : (map (λ v. value (accesses (four (replicate 4 9) 50 0) (write (Only IntrTest) v ∷ [])) (Only IntrState)) bitOf ≡ bitOf)
+    × (map (λ v. value (accesses (four (replicate 4 9) 50 0) (write (Only IntrTest) 15 ∷ write (Only IntrState) v ∷ [])) (Only IntrState)) bitOf ≡ 14 ∷ 13 ∷ 11 ∷ 7 ∷ [])
 unfolding rules
 bits-own = (refl, refl)
 
@@ -114,7 +115,7 @@ lengths-own : map (λ n. after n (run (paced (λ k. 0) (λ k. 4 - k)) (wired (wi
 unfolding rules
 lengths-own = refl
 
-timeouts-own : map (λ n. after n (accesses (paced (λ k. 4 - k) (λ k. 99)) (write IntrTest 15 ∷ []))) (0 ∷ 1 ∷ 2 ∷ 3 ∷ 4 ∷ [])
+timeouts-own : map (λ n. after n (accesses (paced (λ k. 4 - k) (λ k. 99)) (write (Only IntrTest) 15 ∷ []))) (0 ∷ 1 ∷ 2 ∷ 3 ∷ 4 ∷ [])
     ≡ (1 ∷ 1 ∷ 1 ∷ 1 ∷ []) ∷ (1 ∷ 1 ∷ 1 ∷ 4 ∷ []) ∷ (1 ∷ 1 ∷ 4 ∷ 4 ∷ []) ∷ (1 ∷ 4 ∷ 4 ∷ 4 ∷ []) ∷ (4 ∷ 4 ∷ 4 ∷ 4 ∷ []) ∷ []
 unfolding rules
 timeouts-own = refl

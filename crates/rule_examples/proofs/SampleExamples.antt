@@ -15,9 +15,10 @@ use Rattle.rules.specs.declared.Field.{Field}
 use Rattle.rules.specs.declared.Handler.{Handler}
 use Rattle.rules.specs.declared.Input.{Input}
 use Rattle.rules.specs.declared.Register.{Register}
-use Rattle.rules.specs.declared.Register.the-variants.{IntrState, Local, Alert, Block}
+use Rattle.rules.specs.declared.Register.the-variants.{Only, Local, Alert, Block}
 use Rattle.rules.specs.declared.Setting.the-variants.{AccumCnt}
 use Rattle.rules.specs.Scenes.{ones, wired, wire, rest, raise, bothHigh, bothLow, none, write, gives}
+use Rattle.rules.specs.declared.Single.the-variants.{IntrState}
 use Rattle.rules.proofs.Scenes.{rules, settings, zeros, station, ready}
 
 -- a word of 64 ones
@@ -64,7 +65,7 @@ together = (refl, refl)
 
 -- an alert's event with its class off sets its cause, and no interrupt
 class-off : (holds (newHandler 1) (rest enable ∷ raise 0 enable ∷ []) (Alert Field.Cause 0) ≡ 1)
-    × (holds (newHandler 1) (rest enable ∷ raise 0 enable ∷ []) IntrState ≡ 0)
+    × (holds (newHandler 1) (rest enable ∷ raise 0 enable ∷ []) (Only IntrState) ≡ 0)
     × (accum (newHandler 1) (rest enable ∷ raise 0 enable ∷ []) ≡ 0)
 unfolding rules
 class-off = (refl, refl, refl)
@@ -126,8 +127,8 @@ locals : (holds integrity (bothHigh 1 none ∷ []) (Local Field.Cause 2) ≡ 1)
     × (holds integrity (bothLow 1 none ∷ []) (Local Field.Cause 2) ≡ 1)
     × (holds integrity (bothHigh 0 none ∷ []) (Local Field.Cause 2) ≡ 0)
     × (holds integrity (bothHigh 1 none ∷ []) (Alert Field.Cause 1) ≡ 0)
-    × (holds integrity (bothHigh 1 none ∷ []) IntrState ≡ 0)
-    × (holds on1 (bothHigh 1 none ∷ []) IntrState ≡ 2)
+    × (holds integrity (bothHigh 1 none ∷ []) (Only IntrState) ≡ 0)
+    × (holds on1 (bothHigh 1 none ∷ []) (Only IntrState) ≡ 2)
     × (holds on1 (bothHigh 1 none ∷ []) (Block AccumCnt 1) ≡ 1)
     × (holds on1 (raise 1 none ∷ []) (Local Field.Cause 2) ≡ 0)
     × (holds on1 (rest (write (Local Field.En 2) 0) ∷ bothHigh 1 (write (Local Field.En 2) 0) ∷ []) (Local Field.Cause 2) ≡ 0)

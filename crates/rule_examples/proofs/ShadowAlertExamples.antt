@@ -14,8 +14,9 @@ use Rattle.rules.specs.declared.Field.{Field}
 use Rattle.rules.specs.declared.Handler.{Handler}
 use Rattle.rules.specs.declared.Input.{Input}
 use Rattle.rules.specs.declared.Register.{Register}
-use Rattle.rules.specs.declared.Register.the-variants.{IntrState, Local, Block}
+use Rattle.rules.specs.declared.Register.the-variants.{Only, Local, Block}
 use Rattle.rules.specs.declared.Setting.the-variants.{AccumCnt}
+use Rattle.rules.specs.declared.Single.the-variants.{IntrState}
 use Rattle.rules.proofs.Scenes.{rules, settings, zeros, station, watched}
 
 abbrev holds : Handler → List Access → Register → ℕ
@@ -23,7 +24,7 @@ holds h xs q = value (run h (map rest xs)) q
 
 -- "if enabled": a disabled local alert never occurs; nor by an equal write, a read, a 4, or a write that 3 refuses
 quiet : (holds (watched 0) (Write 1285 7 ∷ Write 1285 8 ∷ []) (Local Field.Cause 5) ≡ 0)
-    × (holds (watched 0) (Write 1285 7 ∷ Write 1285 8 ∷ []) IntrState ≡ 0)
+    × (holds (watched 0) (Write 1285 7 ∷ Write 1285 8 ∷ []) (Only IntrState) ≡ 0)
     × (holds (watched 0) (Write 1285 7 ∷ Write 1285 8 ∷ Write 29 1 ∷ Write 29 1 ∷ none ∷ []) (Local Field.Cause 5) ≡ 0)
     × (holds (watched 1) (Write 1285 7 ∷ Write 1285 7 ∷ []) (Local Field.Cause 5) ≡ 0)
     × (holds (watched 1) (Write 1285 7 ∷ Read 1285 ∷ Write 1285 8 ∷ []) (Local Field.Cause 5) ≡ 0)
@@ -35,8 +36,8 @@ quiet = (refl, refl, refl, refl, refl, refl, refl)
 -- a differing write to local 5's own EN or CLASS: EN and CLASS after step 1 are those before; what is staged at them acts on nothing
 own-registers : (holds (watched 1) (Write 29 0 ∷ Write 29 1 ∷ []) (Local Field.Cause 5) ≡ 1)
     × (holds (watched 0) (Write 29 0 ∷ Write 29 1 ∷ []) (Local Field.Cause 5) ≡ 0)
-    × (holds (watched 1) (Write 37 0 ∷ Write 37 2 ∷ []) IntrState ≡ 2)
-    × (holds (watched 1) (Write 37 2 ∷ Write 1285 7 ∷ Write 1285 8 ∷ []) IntrState ≡ 2)
+    × (holds (watched 1) (Write 37 0 ∷ Write 37 2 ∷ []) (Only IntrState) ≡ 2)
+    × (holds (watched 1) (Write 37 2 ∷ Write 1285 7 ∷ Write 1285 8 ∷ []) (Only IntrState) ≡ 2)
     × (holds (watched 0) (Write 29 1 ∷ Write 1285 7 ∷ Write 1285 8 ∷ []) (Local Field.Cause 5) ≡ 0)
 unfolding rules
 own-registers = (refl, refl, refl, refl, refl)
@@ -55,10 +56,10 @@ meets h x = run h (rest (Write 1285 7) ∷ x (Write 1285 8) ∷ [])
 
 -- with equal wires both local alerts occur, with a rise both classes have their event; each class can be local 5's; a lock and a cause do not hold it
 crowd : (meets (crowded 1 0 1) (bothHigh 0) .locals .cause ≡ 0 ∷ 0 ∷ 1 ∷ 0 ∷ 0 ∷ 1 ∷ 0 ∷ [])
-    × (value (meets (crowded 1 0 1) (bothHigh 0)) IntrState ≡ 3)
-    × (value (meets (crowded 1 0 1) (raise 0)) IntrState ≡ 6)
-    × (map (λ k. value (meets (crowded 1 0 k) rest) IntrState) (0 ∷ 1 ∷ 2 ∷ 3 ∷ []) ≡ 1 ∷ 2 ∷ 4 ∷ 8 ∷ [])
-    × (value (meets (crowded 0 1 3) rest) IntrState ≡ 8)
+    × (value (meets (crowded 1 0 1) (bothHigh 0)) (Only IntrState) ≡ 3)
+    × (value (meets (crowded 1 0 1) (raise 0)) (Only IntrState) ≡ 6)
+    × (map (λ k. value (meets (crowded 1 0 k) rest) (Only IntrState)) (0 ∷ 1 ∷ 2 ∷ 3 ∷ []) ≡ 1 ∷ 2 ∷ 4 ∷ 8 ∷ [])
+    × (value (meets (crowded 0 1 3) rest) (Only IntrState) ≡ 8)
     × (value (meets (crowded 1 0 2) (raise 0)) (Block AccumCnt 2) ≡ 1)
 unfolding rules
 crowd = (refl, refl, refl, refl, refl, refl)

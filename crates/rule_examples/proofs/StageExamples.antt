@@ -13,7 +13,8 @@ use Rattle.rules.specs.State.{newHandler, noStages, withStages}
 use Rattle.rules.specs.Valid.{valid}
 use Rattle.rules.specs.declared.ClassStages.{ClassStages}
 use Rattle.rules.specs.declared.Handler.{Handler}
-use Rattle.rules.specs.declared.Register.the-variants.{IntrState, IntrEnable, IntrTest, Unassigned}
+use Rattle.rules.specs.declared.Register.the-variants.{Only, Unassigned}
+use Rattle.rules.specs.declared.Single.the-variants.{IntrState, IntrEnable, IntrTest}
 use Rattle.rules.specs.declared.Stages.{Stages}
 use Rattle.rules.proofs.Scenes.{rules}
 
@@ -35,7 +36,7 @@ stands : (map (λ r. stageIn every (decode 248 r)) (24 ∷ 30 ∷ 32 ∷ 38 ∷ 
     × (map (λ r. stageIn every (decode 248 r)) (512 ∷ 759 ∷ 768 ∷ 1015 ∷ []) ≡ 1000 ∷ 1247 ∷ 2000 ∷ 2247 ∷ [])
     × (map (λ r. stageIn every (decode 248 r)) (1281 ∷ 1285 ∷ 1286 ∷ 1287 ∷ 1288 ∷ 1289 ∷ 1290 ∷ []) ≡ each 7 (λ i. 3001 + i))
     × (map (λ r. stageIn every (decode 248 r)) (1329 ∷ 1333 ∷ 1334 ∷ 1335 ∷ 1336 ∷ 1337 ∷ 1338 ∷ []) ≡ each 7 (λ i. 3301 + i))
-    × (map (stageIn every) (IntrState ∷ IntrEnable ∷ IntrTest ∷ Unassigned ∷ []) ≡ replicate 4 0)
+    × (map (stageIn every) (Only IntrState ∷ Only IntrEnable ∷ Only IntrTest ∷ Unassigned ∷ []) ≡ replicate 4 0)
     × (map (λ r. stageIn every (decode 248 r)) (16 ∷ 40 ∷ 256 ∷ 1024 ∷ 1280 ∷ 1282 ∷ 1283 ∷ 1284 ∷ 1291 ∷ 1292 ∷ []) ≡ replicate 10 0)
 unfolding rules
 stands = (refl, refl, refl, refl, refl, refl)

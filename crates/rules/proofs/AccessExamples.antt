@@ -11,10 +11,11 @@ use Rattle.rules.specs.State.{newHandler, withInterrupts}
 use Rattle.rules.specs.declared.Access.{Access}
 use Rattle.rules.specs.declared.Field.{Field}
 use Rattle.rules.specs.declared.Handler.{Handler}
-use Rattle.rules.specs.declared.Register.the-variants.{IntrEnable, Local, Alert, Block}
+use Rattle.rules.specs.declared.Register.the-variants.{Only, Local, Alert, Block}
 use Rattle.rules.specs.declared.Setting.{Setting}
 use Rattle.rules.specs.declared.Setting.the-variants.{Ctrl, ClrRegwen, AccumThresh, TimeoutCyc, PhaseCyc}
 use Rattle.rules.specs.Scenes.{raise, write, configure, gives, refused}
+use Rattle.rules.specs.declared.Single.the-variants.{IntrEnable}
 use Rattle.rules.proofs.Scenes.{rules, acts, answers, reads, ready}
 
 -- a handler whose registers all differ where they can
@@ -32,7 +33,7 @@ full =
     ++ configure (Alert Field.Class 247) 3
     ++ configure (Local Field.En 6) 1
     ++ configure (Local Field.Class 6) 2
-    ++ write IntrEnable 9
+    ++ write (Only IntrEnable) 9
     ∷ write (Alert Field.Regwen 246) 0
     ∷ write (Local Field.Regwen 5) 0
     ∷ write (Block ClrRegwen 3) 0

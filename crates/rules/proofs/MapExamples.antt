@@ -8,14 +8,15 @@ use lib.ListN.{replicate}
 use Rattle.rules.specs.Map.{decode, numberOf, row, bits, readOnly, writeOnly, guard, isLock, isShadowed, isRegister}
 use Rattle.rules.specs.declared.Field.{Field}
 use Rattle.rules.specs.declared.Register.{Register}
-use Rattle.rules.specs.declared.Register.the-variants.{IntrState, IntrEnable, IntrTest, Local, Alert, Block, Unassigned}
+use Rattle.rules.specs.declared.Register.the-variants.{Only, Local, Alert, Block, Unassigned}
 use Rattle.rules.specs.declared.Setting.{Setting}
 use Rattle.rules.specs.declared.Setting.the-variants.{Ctrl, ClrRegwen, Clr, AccumCnt, AccumThresh, TimeoutCyc, PhaseCyc, EscCnt}
+use Rattle.rules.specs.declared.Single.the-variants.{IntrState, IntrEnable, IntrTest}
 use Rattle.rules.specs.declared.Way.the-variants.{Both, OneClears, ReadOnly, WriteOnly}
 use Rattle.rules.proofs.Scenes.{rules}
 
 -- the table's first column, at the ends of each range
-fixed : (map (decode 248) (0 ∷ 1 ∷ 2 ∷ []) ≡ IntrState ∷ IntrEnable ∷ IntrTest ∷ [])
+fixed : (map (decode 248) (0 ∷ 1 ∷ 2 ∷ []) ≡ Only IntrState ∷ Only IntrEnable ∷ Only IntrTest ∷ [])
     × (map (decode 248) (16 ∷ 22 ∷ 24 ∷ 30 ∷ []) ≡ Local Field.Regwen 0 ∷ Local Field.Regwen 6 ∷ Local Field.En 0 ∷ Local Field.En 6 ∷ [])
     × (map (decode 248) (32 ∷ 38 ∷ 40 ∷ 46 ∷ []) ≡ Local Field.Class 0 ∷ Local Field.Class 6 ∷ Local Field.Cause 0 ∷ Local Field.Cause 6 ∷ [])
     × (map (decode 248) (256 ∷ 503 ∷ 512 ∷ 759 ∷ []) ≡ Alert Field.Regwen 0 ∷ Alert Field.Regwen 247 ∷ Alert Field.En 0 ∷ Alert Field.En 247 ∷ [])
@@ -65,7 +66,7 @@ unfolding rules
 unassigned = (refl, refl, refl, refl, refl)
 
 -- a register's number in the table's own form
-numbered : (map numberOf (IntrState ∷ IntrEnable ∷ IntrTest ∷ []) ≡ 0 ∷ 1 ∷ 2 ∷ [])
+numbered : (map numberOf (Only IntrState ∷ Only IntrEnable ∷ Only IntrTest ∷ []) ≡ 0 ∷ 1 ∷ 2 ∷ [])
     × (map (λ f. numberOf (Local f 5)) (Field.Regwen ∷ Field.En ∷ Field.Class ∷ Field.Cause ∷ []) ≡ 21 ∷ 29 ∷ 37 ∷ 45 ∷ [])
     × (map (λ f. numberOf (Alert f 5)) (Field.Regwen ∷ Field.En ∷ Field.Class ∷ Field.Cause ∷ []) ≡ 261 ∷ 517 ∷ 773 ∷ 1029 ∷ [])
     × (map numberOf (blockOf 2) ≡ 1312 ∷ 1313 ∷ 1314 ∷ 1315 ∷ 1316 ∷ 1317 ∷ 1318 ∷ 1319 ∷ 1320 ∷ 1321 ∷ 1322 ∷ 1323 ∷ 1324 ∷ 3 ∷ 3 ∷ [])
@@ -75,7 +76,7 @@ numbered = (refl, refl, refl, refl)
 -- ── the columns, of the three single registers, at both ends of each range of local alerts and alerts, and in the block of every class ──
 
 abbrev singles : {A : Type 0} → (Register → A) → List A
-singles f = map f (IntrState ∷ IntrEnable ∷ IntrTest ∷ [])
+singles f = map f (Only IntrState ∷ Only IntrEnable ∷ Only IntrTest ∷ [])
 
 abbrev ends : {A : Type 0} → (Register → A) → List A
 ends f =

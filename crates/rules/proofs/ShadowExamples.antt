@@ -16,10 +16,11 @@ use Rattle.rules.specs.declared.Access.the-variants.{Read, Write}
 use Rattle.rules.specs.declared.Field.{Field}
 use Rattle.rules.specs.declared.Handler.{Handler}
 use Rattle.rules.specs.declared.Register.{Register}
-use Rattle.rules.specs.declared.Register.the-variants.{IntrState, Local, Block}
+use Rattle.rules.specs.declared.Register.the-variants.{Only, Local, Block}
 use Rattle.rules.specs.declared.Setting.{Setting}
 use Rattle.rules.specs.declared.Setting.the-variants.{AccumCnt, AccumThresh}
 use Rattle.rules.specs.Scenes.{rest, raise, none, refused}
+use Rattle.rules.specs.declared.Single.the-variants.{IntrState}
 use Rattle.rules.proofs.Scenes.{rules, acts, answers, ready, watched}
 
 -- ── accesses one after the other to ACCUM_THRESH of class 0, number 1285: the last answer, the value and the stage after it ──
@@ -110,7 +111,7 @@ holds h xs q = value (run h (map rest xs)) q
 
 -- "makes local 5 occur in that tick if enabled": cause, interrupt, ACCUM_CNT and trigger, in that tick and once
 local-5 : (holds (watched 1) (Write 1285 7 ∷ Write 1285 8 ∷ []) (Local Field.Cause 5) ≡ 1)
-    × (holds (watched 1) (Write 1285 7 ∷ Write 1285 8 ∷ []) IntrState ≡ 2)
+    × (holds (watched 1) (Write 1285 7 ∷ Write 1285 8 ∷ []) (Only IntrState) ≡ 2)
     × (holds (watched 1) (Write 1285 7 ∷ Write 1285 8 ∷ []) (Block AccumCnt 1) ≡ 1)
     × (holds (watched 1) (Write 1285 7 ∷ Write 1285 8 ∷ []) (Block Setting.State 1) ≡ 4)
     × (holds (watched 1) (Write 1285 7 ∷ Write 1285 8 ∷ none ∷ none ∷ []) (Block AccumCnt 1) ≡ 1)
@@ -125,7 +126,7 @@ local-5 = (refl, refl, refl, refl, refl, refl, refl)
 inert : (value (run (ready 9) (rest (Write 1285 0) ∷ raise 0 none ∷ [])) (Block Setting.State 0) ≡ 0)
     × (value (run (ready 0) (rest (Write 1285 9) ∷ raise 0 none ∷ [])) (Block Setting.State 0) ≡ 4)
     × (value (run (ready 9) (rest (Write 512 0) ∷ raise 0 none ∷ [])) (Block AccumCnt 0) ≡ 1)
-    × (value (run (ready 9) (rest (Write 768 3) ∷ raise 0 none ∷ [])) IntrState ≡ 1)
+    × (value (run (ready 9) (rest (Write 768 3) ∷ raise 0 none ∷ [])) (Only IntrState) ≡ 1)
     × (value (run (ready 9) (rest (Write 1281 0) ∷ raise 0 none ∷ [])) (Block AccumCnt 0) ≡ 1)
     × (value (run (ready 9) (rest (Write 1286 1) ∷ raise 0 none ∷ [])) (Block Setting.State 0) ≡ 0)
     × (ticked (run (ready 0) (rest (Write 1281 0) ∷ [])) (raise 0 none) .output .lines ≡ 1)

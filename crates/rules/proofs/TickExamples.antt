@@ -13,11 +13,12 @@ use Rattle.rules.specs.declared.Field.{Field}
 use Rattle.rules.specs.declared.Handler.{Handler}
 use Rattle.rules.specs.declared.Input.{Input}
 use Rattle.rules.specs.declared.Register.{Register}
-use Rattle.rules.specs.declared.Register.the-variants.{IntrState, IntrEnable, IntrTest, Alert, Block}
+use Rattle.rules.specs.declared.Register.the-variants.{Only, Alert, Block}
 use Rattle.rules.specs.declared.Setting.{Setting}
 use Rattle.rules.specs.declared.Setting.the-variants.{Ctrl, ClrRegwen, Clr, AccumCnt, TimeoutCyc, EscCnt}
 use Rattle.rules.specs.declared.Ticked.{Ticked}
 use Rattle.rules.specs.Scenes.{rest, raise, none, write, configure, gives, refused}
+use Rattle.rules.specs.declared.Single.the-variants.{IntrState, IntrEnable, IntrTest}
 use Rattle.rules.proofs.Scenes.{rules, settings, zeros, station, pair, ready, lengths, started}
 
 abbrev holds : Handler → List Input → Register → ℕ
@@ -30,8 +31,8 @@ state h xs = holds h xs (Block Setting.State 0)
 abbrev fired : Handler
 fired = run (ready 9) (raise 0 none ∷ rest none ∷ [])
 
-sets-after-clearing : (holds fired (raise 0 (write IntrState 1) ∷ []) IntrState ≡ 1)
-    × (holds fired (rest (write IntrState 1) ∷ []) IntrState ≡ 0)
+sets-after-clearing : (holds fired (raise 0 (write (Only IntrState) 1) ∷ []) (Only IntrState) ≡ 1)
+    × (holds fired (rest (write (Only IntrState) 1) ∷ []) (Only IntrState) ≡ 0)
     × (holds fired (raise 0 (write (Alert Field.Cause 0) 1) ∷ []) (Alert Field.Cause 0) ≡ 1)
 unfolding rules
 sets-after-clearing = (refl, refl, refl)
@@ -64,12 +65,12 @@ abbrev lineless : Handler
 lineless = station 2 (1 ∷ 1 ∷ replicate 246 0) (replicate 248 0) 0 (settings noLines 0 1 zeros)
 
 no-lines : (holds lineless (raise 0 none ∷ []) (Alert Field.Cause 0) ≡ 1)
-    × (holds lineless (raise 0 none ∷ []) IntrState ≡ 0)
+    × (holds lineless (raise 0 none ∷ []) (Only IntrState) ≡ 0)
     × (holds lineless (raise 0 none ∷ []) (Block AccumCnt 0) ≡ 0)
     × (state lineless (raise 0 none ∷ rest none ∷ []) ≡ 0)
     × (holds lineless (raise 0 none ∷ []) (Block ClrRegwen 0) ≡ 1)
-    × (holds lineless (rest (write IntrTest 1) ∷ []) IntrState ≡ 1)
-    × (state lineless (rest (write IntrTest 1) ∷ rest none ∷ []) ≡ 0)
+    × (holds lineless (rest (write (Only IntrTest) 1) ∷ []) (Only IntrState) ≡ 1)
+    × (state lineless (rest (write (Only IntrTest) 1) ∷ rest none ∷ []) ≡ 0)
 unfolding rules
 no-lines = (refl, refl, refl, refl, refl, refl, refl)
 
@@ -82,11 +83,11 @@ due-now : (state (timed 1) (raise 0 none ∷ []) ≡ 1)
     × (state (timed 2) (raise 0 none ∷ rest none ∷ []) ≡ 1)
     × (holds (timed 2) (raise 0 none ∷ rest none ∷ []) (Block EscCnt 0) ≡ 2)
     × (state (timed 0) (raise 0 none ∷ rest none ∷ rest none ∷ []) ≡ 0)
-    × (state (timed 2) (rest (write IntrTest 1) ∷ []) ≡ 1)
-    × (holds (timed 2) (rest (write IntrTest 1) ∷ []) (Block AccumCnt 0) ≡ 0)
-    × (state (timed 2) (raise 0 none ∷ rest (write IntrState 1) ∷ []) ≡ 0)
+    × (state (timed 2) (rest (write (Only IntrTest) 1) ∷ []) ≡ 1)
+    × (holds (timed 2) (rest (write (Only IntrTest) 1) ∷ []) (Block AccumCnt 0) ≡ 0)
+    × (state (timed 2) (raise 0 none ∷ rest (write (Only IntrState) 1) ∷ []) ≡ 0)
     × (state (timed 2) (rest (write (Block TimeoutCyc 0) 0) ∷ raise 0 none ∷ rest (write (Block TimeoutCyc 0) 0) ∷ []) ≡ 0)
-    × (state (timed 2) (rest (write IntrTest 2) ∷ []) ≡ 0)
+    × (state (timed 2) (rest (write (Only IntrTest) 2) ∷ []) ≡ 0)
 unfolding rules
 due-now = (refl, refl, refl, refl, refl, refl, refl, refl, refl, refl)
 
@@ -97,7 +98,7 @@ waiting = rest (write (Block Ctrl 0) noLines) ∷ raise 0 none ∷ rest (write (
 falls-back : (state (timed 9) (raise 0 none ∷ []) ≡ 1)
     × (state (timed 9) waiting ≡ 0)
     × (holds (timed 9) waiting (Block EscCnt 0) ≡ 0)
-    × (holds (timed 9) waiting IntrState ≡ 1)
+    × (holds (timed 9) waiting (Only IntrState) ≡ 1)
     × (state (timed 9) (waiting ++ map rest (configure (Block Ctrl 0) 0x3907)) ≡ 1)
 unfolding rules
 falls-back = (refl, refl, refl, refl, refl)
@@ -105,7 +106,7 @@ falls-back = (refl, refl, refl, refl, refl)
 -- "A trigger is an event with no accepted clear in this tick", "A clear makes ACCUM_CNT 0 and the event isn't counted"; a 0 does nothing
 clearing : (state (ready 0) (raise 0 (write (Block Clr 0) 1) ∷ []) ≡ 0)
     × (holds (ready 0) (raise 0 (write (Block Clr 0) 1) ∷ []) (Block AccumCnt 0) ≡ 0)
-    × (holds (ready 0) (raise 0 (write (Block Clr 0) 1) ∷ []) IntrState ≡ 1)
+    × (holds (ready 0) (raise 0 (write (Block Clr 0) 1) ∷ []) (Only IntrState) ≡ 1)
     × (state (ready 0) (raise 0 (write (Block Clr 0) 0) ∷ []) ≡ 4)
     × (state (ready 0) (raise 0 (write (Block Clr 1) 1) ∷ []) ≡ 4)
     × (holds fired (rest (write (Block Clr 0) 1) ∷ []) (Block AccumCnt 0) ≡ 0)
@@ -123,7 +124,7 @@ under-lock = (refl, refl, refl)
 -- step 5: "interrupts are INTR_STATE and INTR_ENABLE, bit by bit"; "a line is on if any class drives it"
 outputs : (interrupts (withInterrupts (record { state = 12; enable = 10 }) (newHandler 1)) ≡ 8)
     × (map (λ (t : Ticked). t .output .lines) (ticks (lengths 1 1 1 1) (raise 0 none ∷ replicate 4 (rest none))) ≡ 1 ∷ 2 ∷ 4 ∷ 8 ∷ 0 ∷ [])
-    × (map (λ (t : Ticked). t .output .interrupts) (ticks (ready 9) (raise 0 (write IntrEnable 1) ∷ rest (write IntrState 1) ∷ [])) ≡ 1 ∷ 0 ∷ [])
+    × (map (λ (t : Ticked). t .output .interrupts) (ticks (ready 9) (raise 0 (write (Only IntrEnable) 1) ∷ rest (write (Only IntrState) 1) ∷ [])) ≡ 1 ∷ 0 ∷ [])
 unfolding rules
 outputs = (refl, refl, refl)
 
@@ -134,7 +135,7 @@ both =
     (station 2 (1 ∷ 1 ∷ replicate 246 0) (0 ∷ 3 ∷ replicate 246 0) 0 resetClass)
 
 apart : (ticked both (raise 1 none) .output .lines ≡ 4)
-    × (holds both (raise 1 none ∷ []) IntrState ≡ 8)
+    × (holds both (raise 1 none ∷ []) (Only IntrState) ≡ 8)
     × (state both (raise 1 none ∷ []) ≡ 0)
     × (holds both (raise 1 none ∷ []) (Block Setting.State 3) ≡ 4)
     × (ticked (run both (raise 1 none ∷ [])) (raise 0 none) .output .lines ≡ 5)

@@ -19,12 +19,15 @@ use Rattle.rules.specs.declared.Answer.{Answer}
 use Rattle.rules.specs.declared.Effects.{Effects}
 use Rattle.rules.specs.declared.Field.{Field}
 use Rattle.rules.specs.declared.Handler.{Handler}
+use Rattle.rules.specs.declared.Interrupts.{Interrupts}
 use Rattle.rules.specs.declared.Refusal.{Refusal}
 use Rattle.rules.specs.declared.Refusal.the-variants.{NoRegister, WrongWay, Locked, TooWide, BadRecord, Differs, SillyThreshold}
 use Rattle.rules.specs.declared.Register.{Register}
-use Rattle.rules.specs.declared.Register.the-variants.{IntrState, IntrEnable, IntrTest, Local, Alert, Block, Unassigned}
+use Rattle.rules.specs.declared.Register.the-variants.{Only, Local, Alert, Block, Unassigned}
 use Rattle.rules.specs.declared.Setting.{Setting}
 use Rattle.rules.specs.declared.Setting.the-variants.{Ctrl, ClrRegwen, Clr, AccumCnt, AccumThresh, TimeoutCyc, PhaseCyc, EscCnt}
+use Rattle.rules.specs.declared.Single.{Single}
+use Rattle.rules.specs.declared.Single.the-variants.{IntrState, IntrEnable, IntrTest}
 use Rattle.rules.specs.declared.Verdict.{Verdict}
 
 -- ── what a register holds ──
@@ -41,11 +44,14 @@ settingValue (PhaseCyc p) c = phaseCyc c p
 settingValue EscCnt c = c .count
 settingValue Setting.State c = c .state
 
+abbrev pub singleValue : Single → Interrupts → ℕ
+singleValue IntrState i = i .state
+singleValue IntrEnable i = i .enable
+singleValue IntrTest i = 0
+
 -- INTR_TEST, CLR and what is no register hold no value
 unfoldable pub value : Handler → Register → ℕ
-value h IntrState = h .interrupts .state
-value h IntrEnable = h .interrupts .enable
-value h IntrTest = 0
+value h (Only o) = singleValue o (h .interrupts)
 value h (Local f j) = local h f j
 value h (Alert f i) = alert h f i
 value h (Block s k) = settingValue s (classAt h k)
@@ -90,9 +96,7 @@ locksSilly s v c =
     eqb (offset s) (offset Setting.Regwen) && (eqb v 0 && (en c && (eqb (c .thresh) 65535 && eqb (c .regwen) 1)))
 
 abbrev pub silly : Handler → Register → ℕ → Bool
-silly h IntrState v = false
-silly h IntrEnable v = false
-silly h IntrTest v = false
+silly h (Only o) v = false
 silly h (Local f j) v = false
 silly h (Alert f i) v = false
 silly h (Block s k) v = locksSilly s v (classAt h k)
@@ -167,12 +171,13 @@ withSetting s v c =
     }
 
 -- INTR_STATE: a 1 clears; INTR_TEST: a 1 sets INTR_STATE
+abbrev pub withSingle : Single → ℕ → Interrupts → Interrupts
+withSingle IntrState v i = record { state = bitsOf 4 (λ k. bit (i .state) k && not (bit v k)); enable = i .enable }
+withSingle IntrEnable v i = record { state = i .state; enable = v }
+withSingle IntrTest v i = record { state = bitsOf 4 (λ k. bit (i .state) k || bit v k); enable = i .enable }
+
 unfoldable pub store : Handler → Register → ℕ → Handler
-store h IntrState v =
-    withInterrupts (record { state = bitsOf 4 (λ k. bit (h .interrupts .state) k && not (bit v k)); enable = h .interrupts .enable }) h
-store h IntrEnable v = withInterrupts (record { state = h .interrupts .state; enable = v }) h
-store h IntrTest v =
-    withInterrupts (record { state = bitsOf 4 (λ k. bit (h .interrupts .state) k || bit v k); enable = h .interrupts .enable }) h
+store h (Only o) v = withInterrupts (withSingle o v (h .interrupts)) h
 store h (Local f j) v =
     withLocals (withLocalColumn f (put localCount (localColumn f (h .locals)) 0 j (fieldStored f (local h f j) v)) (h .locals)) h
 store h (Alert f i) v =
@@ -218,9 +223,7 @@ abbrev pub settingIsClr : Setting → Bool
 settingIsClr s = eqb (offset s) (offset Clr)
 
 abbrev pub isClrOf : ℕ → Register → Bool
-isClrOf k IntrState = false
-isClrOf k IntrEnable = false
-isClrOf k IntrTest = false
+isClrOf k (Only o) = false
 isClrOf k (Local f j) = false
 isClrOf k (Alert f i) = false
 isClrOf k (Block s j) = settingIsClr s && eqb j k

@@ -8,10 +8,12 @@ use Rattle.rules.specs.declared.Field.{Field}
 use Rattle.rules.specs.declared.Guard.{Guard}
 use Rattle.rules.specs.declared.Guard.the-variants.{Free, ByRegwen, ByClrRegwen}
 use Rattle.rules.specs.declared.Register.{Register}
-use Rattle.rules.specs.declared.Register.the-variants.{IntrState, IntrEnable, IntrTest, Local, Alert, Block, Unassigned}
+use Rattle.rules.specs.declared.Register.the-variants.{Only, Local, Alert, Block, Unassigned}
 use Rattle.rules.specs.declared.Row.{Row}
 use Rattle.rules.specs.declared.Setting.{Setting}
 use Rattle.rules.specs.declared.Setting.the-variants.{Ctrl, ClrRegwen, Clr, AccumCnt, AccumThresh, TimeoutCyc, PhaseCyc, EscCnt}
+use Rattle.rules.specs.declared.Single.{Single}
+use Rattle.rules.specs.declared.Single.the-variants.{IntrState, IntrEnable, IntrTest}
 use Rattle.rules.specs.declared.Way.{Way}
 use Rattle.rules.specs.declared.Way.the-variants.{Both, OneClears, ReadOnly, WriteOnly}
 
@@ -48,9 +50,9 @@ alertAt n f i = cond (ltb i n) (Alert f i) Unassigned
 -- the register number selects one of these ranges; all other numbers are unassigned
 unfoldable pub decode : ℕ → ℕ → Register
 decode n r =
-    cond (eqb r 0) IntrState
-    (cond (eqb r 1) IntrEnable
-    (cond (eqb r 2) IntrTest
+    cond (eqb r 0) (Only IntrState)
+    (cond (eqb r 1) (Only IntrEnable)
+    (cond (eqb r 2) (Only IntrTest)
     (cond (within 16 7 r) (Local Field.Regwen (r - 16))
     (cond (within 24 7 r) (Local Field.En (r - 24))
     (cond (within 32 7 r) (Local Field.Class (r - 32))
@@ -73,20 +75,21 @@ offset (PhaseCyc p) = 7 + p
 offset EscCnt = 11
 offset Setting.State = 12
 
+abbrev pub singleNumber : Single → ℕ
+singleNumber IntrState = 0
+singleNumber IntrEnable = 1
+singleNumber IntrTest = 2
+
 -- a register's number; 3 stands for those that are unassigned
 unfoldable pub numberOf : Register → ℕ
-numberOf IntrState = 0
-numberOf IntrEnable = 1
-numberOf IntrTest = 2
+numberOf (Only o) = singleNumber o
 numberOf (Local f j) = 16 + 8 * fieldIndex f + j
 numberOf (Alert f i) = (1 + fieldIndex f) * stride + i
 numberOf (Block s k) = classBase + 16 * k + offset s
 numberOf Unassigned = 3
 
 abbrev pub isRegister : Register → Bool
-isRegister IntrState = true
-isRegister IntrEnable = true
-isRegister IntrTest = true
+isRegister (Only o) = true
 isRegister (Local f j) = true
 isRegister (Alert f i) = true
 isRegister (Block s k) = true
@@ -98,6 +101,12 @@ isRegister Unassigned = false
 -- local alerts, and CTRL, ACCUM_THRESH, TIMEOUT_CYC and the phase lengths
 abbrev line : ℕ → Way → Guard → Bool → Bool → Bool → Row
 line b w g l m s = record { bits = b; way = w; guard = g; lock = l; moves = m; shadowed = s }
+
+-- of a register that there is one of
+abbrev pub singleRow : Single → Row
+singleRow IntrState = line 4 OneClears Free false true false
+singleRow IntrEnable = line 4 Both Free false false false
+singleRow IntrTest = line 4 WriteOnly Free false false false
 
 -- of an alert or a local alert
 abbrev pub fieldRow : Field → Row
@@ -120,15 +129,16 @@ settingRow EscCnt = line 32 ReadOnly Free false true false
 settingRow Setting.State = line 3 ReadOnly Free false true false
 
 abbrev pub row : Register → Row
-row IntrState = line 4 OneClears Free false true false
-row IntrEnable = line 4 Both Free false false false
-row IntrTest = line 4 WriteOnly Free false false false
+row (Only o) = singleRow o
 row (Local f j) = fieldRow f
 row (Alert f i) = fieldRow f
 row (Block s k) = settingRow s
 row Unassigned = line 0 Both Free false false false
 
 -- ── its columns ──
+
+abbrev pub singleBits : Single → ℕ
+singleBits o = singleRow o .bits
 
 abbrev pub fieldBits : Field → ℕ
 fieldBits f = fieldRow f .bits
@@ -167,9 +177,7 @@ isShadowed q = row q .shadowed
 
 -- the lock of the alert or local alert that q belongs to, and lock s of its class
 abbrev pub lockOf : Setting → Register → Register
-lockOf s IntrState = Unassigned
-lockOf s IntrEnable = Unassigned
-lockOf s IntrTest = Unassigned
+lockOf s (Only o) = Unassigned
 lockOf s (Local f j) = Local Field.Regwen j
 lockOf s (Alert f i) = Alert Field.Regwen i
 lockOf s (Block t k) = Block s k

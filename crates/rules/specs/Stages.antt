@@ -14,7 +14,7 @@ use Rattle.rules.specs.declared.Field.{Field}
 use Rattle.rules.specs.declared.Handler.{Handler}
 use Rattle.rules.specs.declared.LocalStages.{LocalStages}
 use Rattle.rules.specs.declared.Register.{Register}
-use Rattle.rules.specs.declared.Register.the-variants.{IntrState, IntrEnable, IntrTest, Local, Alert, Block, Unassigned}
+use Rattle.rules.specs.declared.Register.the-variants.{Only, Local, Alert, Block, Unassigned}
 use Rattle.rules.specs.declared.Setting.{Setting}
 use Rattle.rules.specs.declared.Setting.the-variants.{Ctrl, ClrRegwen, Clr, AccumCnt, AccumThresh, TimeoutCyc, PhaseCyc, EscCnt}
 use Rattle.rules.specs.declared.Stages.{Stages}
@@ -53,9 +53,7 @@ abbrev pub classStages : Stages → ℕ → ClassStages
 classStages s k = getD (s .classes) k noClassStages
 
 unfoldable pub stageIn : Stages → Register → ℕ
-stageIn s IntrState = 0
-stageIn s IntrEnable = 0
-stageIn s IntrTest = 0
+stageIn s (Only o) = 0
 stageIn s (Local f j) = getD (localStages f (s .locals)) j 0
 stageIn s (Alert f i) = getD (alertStages f (s .alerts)) i 0
 stageIn s (Block t k) = settingStage t (classStages s k)
@@ -85,9 +83,7 @@ withSettingStage s v c =
     }
 
 unfoldable pub withStage : Register → ℕ → Stages → Stages
-withStage IntrState c s = s
-withStage IntrEnable c s = s
-withStage IntrTest c s = s
+withStage (Only o) c s = s
 withStage (Local f j) c s =
     record {
       classes = s .classes;

@@ -85,6 +85,13 @@ pub struct Handler {
 
 // ---- Registers: a register number decoded into kind and index. ----
 
+// The registers that there is one of.
+pub enum Single {
+    IntrState,
+    IntrEnable,
+    IntrTest,
+}
+
 // The registers of an alert or a local alert.
 pub enum Field {
     Regwen,
@@ -108,9 +115,7 @@ pub enum Setting {
 }
 
 pub enum Register {
-    IntrState,
-    IntrEnable,
-    IntrTest,
+    Only(Single),
     Local(Field, usize),
     Alert(Field, usize),
     Block(Setting, usize),

@@ -25,7 +25,7 @@ use Rattle.rules.specs.declared.ClassStages.{ClassStages}
 use Rattle.rules.specs.declared.Field.{Field}
 use Rattle.rules.specs.declared.Handler.{Handler}
 use Rattle.rules.specs.declared.Register.{Register}
-use Rattle.rules.specs.declared.Register.the-variants.{IntrState, IntrEnable, IntrTest, Local, Alert, Block, Unassigned}
+use Rattle.rules.specs.declared.Register.the-variants.{Only, Local, Alert, Block, Unassigned}
 use Rattle.rules.specs.declared.Stages.{Stages}
 use Rattle.sentences.specs.AccessArrays.{Sized}
 use Rattle.sentences.specs.Raw.{classOf, localList, alertList}
@@ -67,7 +67,7 @@ module _ (h : Handler) (v : ℕ) (s : Columns h) where
   store-lengths : (q : Register) (k : ℕ) → k < 4 → length (classOf (store h q v) k .lengths) ≡ 4
   store-lengths q k l =
       ap (λ (c : Class). length (c .lengths)) (class-stored h q v k l)
-      ∙ by-kind (λ q. length (classStored q v k (classAt h k) .lengths) ≡ 4) e e e (λ f j. e) (λ f i. e)
+      ∙ by-kind (λ q. length (classStored q v k (classAt h k) .lengths) ≡ 4) (λ o. e) (λ f j. e) (λ f i. e)
       (λ t j. pick (λ (c : Class). length (c .lengths) ≡ 4) (eqb k j) (withSetting t v (classAt h k)) (classAt h k) (λ _. length-each 4 _) (λ _. e)) e q
     where
       e : length (classAt h k .lengths) ≡ 4
@@ -77,11 +77,11 @@ module _ (h : Handler) (v : ℕ) (s : Columns h) where
   unfolding store
   store-columns q =
       record {
-        alerts = λ f. by-kind (λ q. length (alertColumn f (store h q v .alerts)) ≡ 248) (s .alerts f) (s .alerts f) (s .alerts f) (λ g j. s .alerts f)
+        alerts = λ f. by-kind (λ q. length (alertColumn f (store h q v .alerts)) ≡ 248) (λ o. s .alerts f) (λ g j. s .alerts f)
             (λ g i. alert-stored g i f) (λ t k. s .alerts f) (s .alerts f) q;
-        locals = λ f. by-kind (λ q. length (localColumn f (store h q v .locals)) ≡ 7) (s .locals f) (s .locals f) (s .locals f)
+        locals = λ f. by-kind (λ q. length (localColumn f (store h q v .locals)) ≡ 7) (λ o. s .locals f)
             (λ g j. local-stored g j f) (λ g i. s .locals f) (λ t k. s .locals f) (s .locals f) q;
-        classes = by-kind (λ q. length (store h q v .classes) ≡ 4) (s .classes) (s .classes) (s .classes) (λ f j. s .classes) (λ f i. s .classes)
+        classes = by-kind (λ q. length (store h q v .classes) ≡ 4) (λ o. s .classes) (λ f j. s .classes) (λ f i. s .classes)
             (λ t k. put-length 4 (h .classes) noClass k (withSetting t v (classAt h k))) (s .classes) q;
         lengths = store-lengths q;
       }
@@ -99,9 +99,7 @@ record Codes (t : Stages) : Type 0 where
 module _ (t : Stages) (c : ℕ) (s : Codes t) where
   put-codes : (q : Register) → Codes (withStage q c t)
   unfolding withStage
-  put-codes IntrState = s
-  put-codes IntrEnable = s
-  put-codes IntrTest = s
+  put-codes (Only o) = s
   put-codes (Local f j) =
       record {
         alert-en = s .alert-en;

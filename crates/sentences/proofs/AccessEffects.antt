@@ -18,7 +18,7 @@ use Rattle.rules.specs.declared.Access.{Access}
 use Rattle.rules.specs.declared.Access.the-variants.{Nothing, Read, Write}
 use Rattle.rules.specs.declared.Handler.{Handler}
 use Rattle.rules.specs.declared.Register.{Register}
-use Rattle.rules.specs.declared.Register.the-variants.{IntrState, IntrEnable, IntrTest, Local, Alert, Block, Unassigned}
+use Rattle.rules.specs.declared.Register.the-variants.{Only, Local, Alert, Block, Unassigned}
 use Rattle.rules.specs.declared.Setting.{Setting}
 use Rattle.rules.specs.declared.Setting.the-variants.{Ctrl, ClrRegwen, Clr, AccumCnt, AccumThresh, TimeoutCyc, PhaseCyc, EscCnt}
 use Rattle.rules.specs.declared.Verdict.{Verdict}
@@ -35,9 +35,7 @@ use Rattle.sentences.proofs.Cases.{and-is}
 
 -- the CLR of class k
 clr-is : (k : ℕ) (q : Register) → isClrOf k q ≡ true → q ≡ Block Clr k
-clr-is k IntrState = never
-clr-is k IntrEnable = never
-clr-is k IntrTest = never
+clr-is k (Only o) = never
 clr-is k (Local f j) = never
 clr-is k (Alert f i) = never
 clr-is k (Block s j) = λ e. let a = and-true (settingIsClr s) (eqb j k) e in ap (Block s) (eqb-true j k (a .1)) ∙ go s (a .0)

@@ -7,7 +7,7 @@ use borrow.Author.Tests.{ltb-true, lt-ltb}
 use lib.Dec.{ltb}
 use Rattle.bits.proofs.IndexLaws.{and-true, true-and}
 use Rattle.laws.specs.InMap.{inMap, settingExists}
-use Rattle.laws.proofs.Cases.{by-kind, by-field, by-setting}
+use Rattle.laws.proofs.Cases.{by-kind, by-single, by-field, by-setting}
 use Rattle.laws.proofs.MapLaws.{decode-number, number-decode, decode-in-map}
 use Rattle.rules.specs.Access.{value}
 use Rattle.rules.specs.Map.{decode, numberOf, isRegister, bits}
@@ -15,9 +15,10 @@ use Rattle.rules.specs.Stages.{stage, stageIn}
 use Rattle.rules.specs.declared.Field.{Field}
 use Rattle.rules.specs.declared.Handler.{Handler}
 use Rattle.rules.specs.declared.Register.{Register}
-use Rattle.rules.specs.declared.Register.the-variants.{IntrState, IntrEnable, IntrTest, Local, Alert, Block, Unassigned}
+use Rattle.rules.specs.declared.Register.the-variants.{Only, Local, Alert, Block, Unassigned}
 use Rattle.rules.specs.declared.Setting.{Setting}
 use Rattle.rules.specs.declared.Setting.the-variants.{Ctrl, ClrRegwen, Clr, AccumCnt, AccumThresh, TimeoutCyc, PhaseCyc, EscCnt}
+use Rattle.rules.specs.declared.Single.the-variants.{IntrState, IntrEnable, IntrTest}
 use Rattle.sentences.specs.AccessMap.{Row}
 use Rattle.sentences.specs.Raw.{held, code}
 
@@ -82,9 +83,9 @@ block-row n Setting.State k l e = Row.state k l
 
 pub row : (n : ℕ) (q : Register) → inMap n q ≡ true → Row n (numberOf q) q (bits q)
 unfolding numberOf bits
-row n IntrState e = Row.intr-state
-row n IntrEnable e = Row.intr-enable
-row n IntrTest e = Row.intr-test
+row n (Only IntrState) e = Row.intr-state
+row n (Only IntrEnable) e = Row.intr-enable
+row n (Only IntrTest) e = Row.intr-test
 row n (Local f j) e = local-row n f j (ltb-true j 7 e)
 row n (Alert f i) e = alert-row n f i (ltb-true i n e)
 row n (Block s k) e = let b = and-true (ltb k 4) (settingExists s) e in block-row n s k (ltb-true k 4 (b .0)) (b .1)
@@ -103,7 +104,7 @@ decode-row n r e =
 
 -- what has a row is a register
 in-map-is : (n : ℕ) (q : Register) → inMap n q ≡ true → isRegister q ≡ true
-in-map-is n = by-kind (λ q. inMap n q ≡ true → isRegister q ≡ true) (λ e. refl) (λ e. refl) (λ e. refl) (λ f j e. refl) (λ f i e. refl) (λ s k e. refl) (λ e. e)
+in-map-is n = by-kind (λ q. inMap n q ≡ true → isRegister q ≡ true) (λ o e. refl) (λ f j e. refl) (λ f i e. refl) (λ s k e. refl) (λ e. e)
 
 pub row-is : (n r : ℕ) (q : Register) (b : ℕ) → Row n r q b → isRegister q ≡ true
 row-is n r q b t = in-map-is n q (found n r q b t .exists)
@@ -112,12 +113,13 @@ row-is n r q b t = in-map-is n q (found n r q b t .exists)
 
 pub held-is : (h : Handler) (q : Register) → value h q ≡ held h q
 unfolding value
-held-is h = by-kind (λ q. value h q ≡ held h q) refl refl refl (λ f j. by-field (λ f. value h (Local f j) ≡ held h (Local f j)) refl refl refl refl f)
+held-is h = by-kind (λ q. value h q ≡ held h q) (by-single (λ o. value h (Only o) ≡ held h (Only o)) refl refl refl)
+    (λ f j. by-field (λ f. value h (Local f j) ≡ held h (Local f j)) refl refl refl refl f)
     (λ f i. by-field (λ f. value h (Alert f i) ≡ held h (Alert f i)) refl refl refl refl f)
     (λ s k. by-setting (λ s. value h (Block s k) ≡ held h (Block s k)) refl refl refl refl refl refl refl (λ p. refl) refl refl s) refl
 
 pub code-is : (h : Handler) (q : Register) → stage h q ≡ code h q
 unfolding stageIn
-code-is h = by-kind (λ q. stage h q ≡ code h q) refl refl refl (λ f j. by-field (λ f. stage h (Local f j) ≡ code h (Local f j)) refl refl refl refl f)
+code-is h = by-kind (λ q. stage h q ≡ code h q) (λ o. refl) (λ f j. by-field (λ f. stage h (Local f j) ≡ code h (Local f j)) refl refl refl refl f)
     (λ f i. by-field (λ f. stage h (Alert f i) ≡ code h (Alert f i)) refl refl refl refl f)
     (λ s k. by-setting (λ s. stage h (Block s k) ≡ code h (Block s k)) refl refl refl refl refl refl refl (λ p. refl) refl refl s) refl

@@ -18,7 +18,7 @@ use Rattle.rules.specs.declared.Access.{Access}
 use Rattle.rules.specs.declared.Access.the-variants.{Nothing, Read, Write}
 use Rattle.rules.specs.declared.Handler.{Handler}
 use Rattle.rules.specs.declared.Register.{Register}
-use Rattle.rules.specs.declared.Register.the-variants.{IntrState, IntrEnable, IntrTest, Local, Alert, Block, Unassigned}
+use Rattle.rules.specs.declared.Register.the-variants.{Only, Local, Alert, Block, Unassigned}
 use Rattle.rules.specs.declared.Setting.{Setting}
 use Rattle.rules.specs.declared.Setting.the-variants.{Ctrl, ClrRegwen, Clr, AccumCnt, AccumThresh, TimeoutCyc, PhaseCyc, EscCnt}
 use Rattle.sentences.specs.AccessMap.{Row, Names, Regwen}
@@ -118,9 +118,7 @@ module _ (h : Handler) (m : h .n ≤ 248) where
     where
       -- the register is a class REGWEN and the value 0
       at : (r v : ℕ) (q : Register) → Writes h (Write r v) q v → silly h q v ≡ true → SillyThreshold h (Write r v)
-      at r v IntrState w = never
-      at r v IntrEnable w = never
-      at r v IntrTest w = never
+      at r v (Only o) w = never
       at r v (Local f j) w = never
       at r v (Alert f i) w = never
       at r v (Block s k) w = λ e. block s w (and-true _ _ e)

@@ -47,7 +47,7 @@ module _ (h : Handler) (f : Field) (i : ℕ) (l : h .n ≤ i) (b : i < 248) wher
   store-above : (q : Register) (v : ℕ) → inMap (h .n) q ≡ true → alert (store h q v) f i ≡ alert h f i
   unfolding store
   store-above q v =
-      by-kind (λ q. inMap (h .n) q ≡ true → alert (store h q v) f i ≡ alert h f i) (λ e. refl) (λ e. refl) (λ e. refl) (λ g j e. refl)
+      by-kind (λ q. inMap (h .n) q ≡ true → alert (store h q v) f i ≡ alert h f i) (λ o e. refl) (λ g j e. refl)
       (λ g j e. alert-store h g j v f i b
       ∙ pick (λ (a : ℕ). a ≡ alert h f i) (sameField g f && eqb i j) (fieldStored g (alert h g j) v) (alert h f i)
       (λ d. absurd (omega (arith, eqb-true i j (and-true (sameField g f) (eqb i j) d .1), ltb-true j (h .n) e))) (λ _. refl))

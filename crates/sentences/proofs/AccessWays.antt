@@ -9,9 +9,10 @@ use Rattle.rules.specs.Map.{readOnly, writeOnly, guard, isLock, isShadowed}
 use Rattle.rules.specs.declared.Field.{Field}
 use Rattle.rules.specs.declared.Handler.{Handler}
 use Rattle.rules.specs.declared.Register.{Register}
-use Rattle.rules.specs.declared.Register.the-variants.{IntrState, IntrEnable, IntrTest, Local, Alert, Block, Unassigned}
+use Rattle.rules.specs.declared.Register.the-variants.{Only, Local, Alert, Block, Unassigned}
 use Rattle.rules.specs.declared.Setting.{Setting}
 use Rattle.rules.specs.declared.Setting.the-variants.{Ctrl, ClrRegwen, Clr, AccumCnt, AccumThresh, TimeoutCyc, PhaseCyc, EscCnt}
+use Rattle.rules.specs.declared.Single.the-variants.{IntrState, IntrEnable, IntrTest}
 use Rattle.sentences.specs.AccessMap.{WriteOnly, ReadOnly, Regwen, Shut, Shadowed}
 
 -- a test that is false
@@ -23,9 +24,9 @@ unfolding writeOnly
 write-only-is q = (to q, from q)
   where
     to : (q : Register) → writeOnly q ≡ true → WriteOnly q
-    to IntrState = never
-    to IntrEnable = never
-    to IntrTest = (λ e. WriteOnly.intr-test)
+    to (Only IntrState) = never
+    to (Only IntrEnable) = never
+    to (Only IntrTest) = (λ e. WriteOnly.intr-test)
     to (Local Field.Regwen j) = never
     to (Local Field.En j) = never
     to (Local Field.Class j) = never
@@ -55,9 +56,9 @@ unfolding readOnly
 read-only-is q = (to q, from q)
   where
     to : (q : Register) → readOnly q ≡ true → ReadOnly q
-    to IntrState = never
-    to IntrEnable = never
-    to IntrTest = never
+    to (Only IntrState) = never
+    to (Only IntrEnable) = never
+    to (Only IntrTest) = never
     to (Local Field.Regwen j) = never
     to (Local Field.En j) = never
     to (Local Field.Class j) = never
@@ -88,9 +89,9 @@ unfolding isLock
 regwen-is q = (to q, from q)
   where
     to : (q : Register) → isLock q ≡ true → Regwen q
-    to IntrState = never
-    to IntrEnable = never
-    to IntrTest = never
+    to (Only IntrState) = never
+    to (Only IntrEnable) = never
+    to (Only IntrTest) = never
     to (Local Field.Regwen j) = (λ e. Regwen.local j)
     to (Local Field.En j) = never
     to (Local Field.Class j) = never
@@ -122,9 +123,9 @@ unfolding isShadowed
 shadowed-is q = (to q, from q)
   where
     to : (q : Register) → isShadowed q ≡ true → Shadowed q
-    to IntrState = never
-    to IntrEnable = never
-    to IntrTest = never
+    to (Only IntrState) = never
+    to (Only IntrEnable) = never
+    to (Only IntrTest) = never
     to (Local Field.Regwen j) = never
     to (Local Field.En j) = (λ e. Shadowed.local-en j)
     to (Local Field.Class j) = (λ e. Shadowed.local-class j)
@@ -160,9 +161,9 @@ unfolding locked guard value
 shut-is h q = (to h q, from h q)
   where
     to : (h : Handler) (q : Register) → locked h q ≡ true → Shut h q
-    to h IntrState = never
-    to h IntrEnable = never
-    to h IntrTest = never
+    to h (Only IntrState) = never
+    to h (Only IntrEnable) = never
+    to h (Only IntrTest) = never
     to h (Local Field.Regwen j) = (λ e. Shut.local-regwen j (eqb-true _ 0 e))
     to h (Local Field.En j) = (λ e. Shut.local-en j (eqb-true _ 0 e))
     to h (Local Field.Class j) = (λ e. Shut.local-class j (eqb-true _ 0 e))

@@ -13,7 +13,7 @@ use Rattle.bits.specs.Bits.{bit, bitsOf}
 use Rattle.laws.specs.InMap.{inMap}
 use Rattle.laws.specs.Refusals.{Unrefused}
 use Rattle.laws.specs.RegisterFile.{target, newValue, writes, stores, commits, committed}
-use Rattle.laws.proofs.Cases.{by-kind, by-field, by-setting}
+use Rattle.laws.proofs.Cases.{by-kind, by-single, by-field, by-setting}
 use Rattle.laws.proofs.MapLaws.{number-eq}
 use Rattle.laws.proofs.Refusals.{unrefused}
 use Rattle.laws.proofs.RegisterFile.{accepted-in-map, stores-accepted, acted-value, acted-target, target-in-map}
@@ -25,7 +25,8 @@ use Rattle.rules.specs.declared.Access.the-variants.{Nothing, Read, Write}
 use Rattle.rules.specs.declared.Field.{Field}
 use Rattle.rules.specs.declared.Handler.{Handler}
 use Rattle.rules.specs.declared.Register.{Register}
-use Rattle.rules.specs.declared.Register.the-variants.{IntrState, IntrEnable, IntrTest, Local, Alert, Block}
+use Rattle.rules.specs.declared.Register.the-variants.{Only, Local, Alert, Block}
+use Rattle.rules.specs.declared.Single.the-variants.{IntrState, IntrEnable, IntrTest}
 use Rattle.sentences.specs.AccessMap.{Names, Plain, Shadowed}
 use Rattle.sentences.specs.Raw.{held, code}
 use Rattle.sentences.specs.AccessWrites.{Commits, Changes}
@@ -119,31 +120,31 @@ module _ (h : Handler) (m : h .n ≤ 248) where
     alert-cause i c = sym (held-is (acted h x) (Alert Field.Cause i)) ∙ stored (Alert Field.Cause i) 1 c
 
     -- INTR_STATE
-    cleared : (v : ℕ) → Commits h x IntrState v → acted h x .interrupts .state ≡ bitsOf 4 (λ k. bit (h .interrupts .state) k && not (bit v k))
+    cleared : (v : ℕ) → Commits h x (Only IntrState) v → acted h x .interrupts .state ≡ bitsOf 4 (λ k. bit (h .interrupts .state) k && not (bit v k))
     cleared v c =
-        sym (held-is (acted h x) IntrState) ∙ stored IntrState v c ∙ ap (λ (o : ℕ). bitsOf 4 (λ k. bit o k && not (bit v k))) (held-is h IntrState)
+        sym (held-is (acted h x) (Only IntrState)) ∙ stored (Only IntrState) v c ∙ ap (λ (o : ℕ). bitsOf 4 (λ k. bit o k && not (bit v k))) (held-is h (Only IntrState))
 
-    tested : (v : ℕ) → Commits h x IntrTest v → acted h x .interrupts .state ≡ bitsOf 4 (λ k. bit (h .interrupts .state) k || bit v k)
+    tested : (v : ℕ) → Commits h x (Only IntrTest) v → acted h x .interrupts .state ≡ bitsOf 4 (λ k. bit (h .interrupts .state) k || bit v k)
     tested v c =
-        sym (held-is (acted h x) IntrState) ∙ stored IntrTest v c ∙ ap (λ (o : ℕ). bitsOf 4 (λ k. bit o k || bit v k)) (held-is h IntrState)
+        sym (held-is (acted h x) (Only IntrState)) ∙ stored (Only IntrTest) v c ∙ ap (λ (o : ℕ). bitsOf 4 (λ k. bit o k || bit v k)) (held-is h (Only IntrState))
 
     -- a bit of what was made of bits
     bit-of : (a k : ℕ) (f : ℕ → Bool) {P : Type 0} → a ≡ bitsOf 4 f → k < 4 → (f k ≡ true) ↔ P → (bit a k ≡ true) ↔ P
     bit-of a k f e l i =
         let d : bit a k ≡ f k = ap (λ (b : ℕ). bit b k) e ∙ bit-bitsOf 4 f k l in (λ t. i .0 (sym d ∙ t), λ p. d ∙ i .1 p)
 
-    pub intr-state : (v : ℕ) → Commits h x IntrState v → (k : ℕ) → k < 4
+    pub intr-state : (v : ℕ) → Commits h x (Only IntrState) v → (k : ℕ) → k < 4
         → (bit (acted h x .interrupts .state) k ≡ true) ↔ ((bit (h .interrupts .state) k ≡ true) × (bit v k ≡ false))
     intr-state v c k l =
         bit-of (acted h x .interrupts .state) k (λ k. bit (h .interrupts .state) k && not (bit v k)) (cleared v c) l
         (and-is (bit (h .interrupts .state) k) (not (bit v k)) Iff·rfl (not-is (bit v k)))
 
-    pub intr-test : (v : ℕ) → Commits h x IntrTest v → (k : ℕ) → k < 4
+    pub intr-test : (v : ℕ) → Commits h x (Only IntrTest) v → (k : ℕ) → k < 4
         → (bit (acted h x .interrupts .state) k ≡ true) ↔ ((bit (h .interrupts .state) k ≡ true) ⊎ (bit v k ≡ true))
     intr-test v c k l =
         bit-of (acted h x .interrupts .state) k (λ k. bit (h .interrupts .state) k || bit v k) (tested v c) l (or-is (bit (h .interrupts .state) k) (bit v k))
 
-    pub intr-width : (v : ℕ) → Commits h x IntrState v ⊎ Commits h x IntrTest v → acted h x .interrupts .state < 16
+    pub intr-width : (v : ℕ) → Commits h x (Only IntrState) v ⊎ Commits h x (Only IntrTest) v → acted h x .interrupts .state < 16
     intr-width v =
         ⊎-elim (λ c. subst (λ (a : ℕ). a < 16) (sym (cleared v c)) (bitsOf-lt 4 _)) (λ c. subst (λ (a : ℕ). a < 16) (sym (tested v c)) (bitsOf-lt 4 _))
 
@@ -152,7 +153,8 @@ module _ (h : Handler) (m : h .n ≤ 248) where
     -- a committed write that changes nothing in p keeps what p holds
     kept : (q p : Register) (v old : ℕ) → Commits h x q v → target q ≡ p → ¬ Changes h x p → newValue q old v ≡ old
     kept q p v old c e n = by-kind (λ q. Commits h x q v → target q ≡ p → newValue q old v ≡ old)
-        (λ c e. against (Changes.intr-state v c) e) (λ c e. against (Changes.takes IntrEnable v Plain.intr-enable c) e) (λ c e. against (Changes.intr-test v c) e)
+        (by-single (λ o. Commits h x (Only o) v → target (Only o) ≡ p → newValue (Only o) old v ≡ old) (λ c e. against (Changes.intr-state v c) e)
+        (λ c e. against (Changes.takes (Only IntrEnable) v Plain.intr-enable c) e) (λ c e. against (Changes.intr-test v c) e))
         (λ f j. by-field (λ f. Commits h x (Local f j) v → Local f j ≡ p → newValue (Local f j) old v ≡ old)
         (λ c e. against (Changes.takes _ v (Plain.local-regwen j) c) e) (λ c e. against (Changes.takes _ v (Plain.local-en j) c) e)
         (λ c e. against (Changes.takes _ v (Plain.local-class j) c) e)

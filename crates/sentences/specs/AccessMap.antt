@@ -7,9 +7,10 @@ use lib.ListN.{getD}
 use Rattle.rules.specs.declared.Field.{Field}
 use Rattle.rules.specs.declared.Handler.{Handler}
 use Rattle.rules.specs.declared.Register.{Register}
-use Rattle.rules.specs.declared.Register.the-variants.{IntrState, IntrEnable, IntrTest, Local, Alert, Block, Unassigned}
+use Rattle.rules.specs.declared.Register.the-variants.{Only, Local, Alert, Block, Unassigned}
 use Rattle.rules.specs.declared.Setting.{Setting}
 use Rattle.rules.specs.declared.Setting.the-variants.{Ctrl, ClrRegwen, Clr, AccumCnt, AccumThresh, TimeoutCyc, PhaseCyc, EscCnt}
+use Rattle.rules.specs.declared.Single.the-variants.{IntrState, IntrEnable, IntrTest}
 use Rattle.sentences.specs.Raw.{classOf}
 
 -- ── the table: number, register, bits ──
@@ -17,9 +18,9 @@ use Rattle.sentences.specs.Raw.{classOf}
 -- "The register number selects one of these ranges; all other numbers are unassigned. Alert i exists for i below N; local alert j is 0 to 6;
 -- class k is 0 to 3." Request (iii): "Alert blocks move to 256, 512, 768 and 1024, classes to 1280+16k."
 pub data Row (n : ℕ) : ℕ → Register → ℕ → Type 0 where
-  intr-state : Row n 0 IntrState 4
-  intr-enable : Row n 1 IntrEnable 4
-  intr-test : Row n 2 IntrTest 4
+  intr-state : Row n 0 (Only IntrState) 4
+  intr-enable : Row n 1 (Only IntrEnable) 4
+  intr-test : Row n 2 (Only IntrTest) 4
   -- "16+j, 24+j, 32+j, 40+j | local REGWEN, EN, CLASS, CAUSE | 1, 1, 2, 1"
   local-regwen : (j : ℕ) → j < 7 → Row n (16 + j) (Local Field.Regwen j) 1
   local-en : (j : ℕ) → j < 7 → Row n (24 + j) (Local Field.En j) 1
@@ -51,7 +52,7 @@ Names n r q = (b : ℕ) × Row n r q b
 
 -- "INTR_TEST, write only", "CLR, write only"
 pub data WriteOnly : Register → Type 0 where
-  intr-test : WriteOnly IntrTest
+  intr-test : WriteOnly (Only IntrTest)
   clr : (k : ℕ) → WriteOnly (Block Clr k)
 
 -- "ACCUM_CNT, read only", "ESC_CNT, STATE, read only"
@@ -62,7 +63,7 @@ pub data ReadOnly : Register → Type 0 where
 
 -- the registers that take a written value as it is: not INTR_STATE and CAUSE, where "a 1 clears", and none of the above
 pub data Plain : Register → Type 0 where
-  intr-enable : Plain IntrEnable
+  intr-enable : Plain (Only IntrEnable)
   local-regwen : (j : ℕ) → Plain (Local Field.Regwen j)
   local-en : (j : ℕ) → Plain (Local Field.En j)
   local-class : (j : ℕ) → Plain (Local Field.Class j)

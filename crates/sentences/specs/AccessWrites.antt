@@ -10,7 +10,8 @@ use Rattle.rules.specs.declared.Access.{Access}
 use Rattle.rules.specs.declared.Field.{Field}
 use Rattle.rules.specs.declared.Handler.{Handler}
 use Rattle.rules.specs.declared.Register.{Register}
-use Rattle.rules.specs.declared.Register.the-variants.{IntrState, IntrTest, Local, Alert}
+use Rattle.rules.specs.declared.Register.the-variants.{Only, Local, Alert}
+use Rattle.rules.specs.declared.Single.the-variants.{IntrState, IntrTest}
 use Rattle.sentences.specs.AccessMap.{Names, Plain, Shadowed}
 use Rattle.sentences.specs.AccessRefusals.{Writes, Given5, Given1, Given2, Given4, Given14, Accepted}
 use Rattle.sentences.specs.Raw.{alertList, held, code}
@@ -27,8 +28,8 @@ pub data Changes (h : Handler) (x : Access) : Register → Type 0 where
   takes : (q : Register) (v : ℕ) → Plain q → Commits h x q v → Changes h x q
   local-cause : (j : ℕ) → Commits h x (Local Field.Cause j) 1 → Changes h x (Local Field.Cause j)
   alert-cause : (i : ℕ) → Commits h x (Alert Field.Cause i) 1 → Changes h x (Alert Field.Cause i)
-  intr-state : (v : ℕ) → Commits h x IntrState v → Changes h x IntrState
-  intr-test : (v : ℕ) → Commits h x IntrTest v → Changes h x IntrState
+  intr-state : (v : ℕ) → Commits h x (Only IntrState) v → Changes h x (Only IntrState)
+  intr-test : (v : ℕ) → Commits h x (Only IntrTest) v → Changes h x (Only IntrState)
 
 -- ── the sentences: the state is h before step 1 with the access x, and g after ──
 
@@ -39,13 +40,13 @@ pub record Written (h : Handler) (x : Access) (g : Handler) : Type 0 where
   pub local-cause : (j : ℕ) → Commits h x (Local Field.Cause j) 1 → held g (Local Field.Cause j) ≡ 0
   pub alert-cause : (i : ℕ) → Commits h x (Alert Field.Cause i) 1 → held g (Alert Field.Cause i) ≡ 0
   -- "INTR_STATE, a 1 clears"; "Bit or field for class or line 0 is lowest."
-  pub intr-state : (v : ℕ) → Commits h x IntrState v → (k : ℕ) → k < 4
+  pub intr-state : (v : ℕ) → Commits h x (Only IntrState) v → (k : ℕ) → k < 4
       → (bit (g .interrupts .state) k ≡ true) ↔ ((bit (h .interrupts .state) k ≡ true) × (bit v k ≡ false))
   -- "INTR_TEST, .. a 1 sets INTR_STATE"
-  pub intr-test : (v : ℕ) → Commits h x IntrTest v → (k : ℕ) → k < 4
+  pub intr-test : (v : ℕ) → Commits h x (Only IntrTest) v → (k : ℕ) → k < 4
       → (bit (g .interrupts .state) k ≡ true) ↔ ((bit (h .interrupts .state) k ≡ true) ⊎ (bit v k ≡ true))
   -- "INTR_STATE, a 1 clears | 4": its bits
-  pub intr-width : (v : ℕ) → Commits h x IntrState v ⊎ Commits h x IntrTest v → g .interrupts .state < 16
+  pub intr-width : (v : ℕ) → Commits h x (Only IntrState) v ⊎ Commits h x (Only IntrTest) v → g .interrupts .state < 16
   -- a reading: every other register stays. So a first write, a 0 to CAUSE, and a write to CLR change none ("CLR holds no value"), nor does a write
   -- refused with 3 or 12 ("changes nothing")
   pub stays : (r : ℕ) (q : Register) → Names (h .n) r q → ¬ Changes h x q → held g q ≡ held h q

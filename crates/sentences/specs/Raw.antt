@@ -10,9 +10,10 @@ use Rattle.rules.specs.declared.ClassStages.{ClassStages}
 use Rattle.rules.specs.declared.Field.{Field}
 use Rattle.rules.specs.declared.Handler.{Handler}
 use Rattle.rules.specs.declared.Register.{Register}
-use Rattle.rules.specs.declared.Register.the-variants.{IntrState, IntrEnable, IntrTest, Local, Alert, Block, Unassigned}
+use Rattle.rules.specs.declared.Register.the-variants.{Only, Local, Alert, Block, Unassigned}
 use Rattle.rules.specs.declared.Setting.{Setting}
 use Rattle.rules.specs.declared.Setting.the-variants.{Ctrl, ClrRegwen, Clr, AccumCnt, AccumThresh, TimeoutCyc, PhaseCyc, EscCnt}
+use Rattle.rules.specs.declared.Single.the-variants.{IntrState, IntrEnable, IntrTest}
 use Rattle.rules.specs.declared.Wires.{Wires}
 
 -- ── alert i has bit 63 - i % 64 of word i / 64, of the wires and of the arming ──
@@ -69,9 +70,9 @@ settingIn c Setting.State = c .state
 
 -- INTR_TEST holds no value either: both are write only
 abbrev pub held : Handler → Register → ℕ
-held h IntrState = h .interrupts .state
-held h IntrEnable = h .interrupts .enable
-held h IntrTest = 0
+held h (Only IntrState) = h .interrupts .state
+held h (Only IntrEnable) = h .interrupts .enable
+held h (Only IntrTest) = 0
 held h (Local f j) = getD (localList h f) j 0
 held h (Alert f i) = getD (alertList h f) i 0
 held h (Block s k) = settingIn (classOf h k) s
@@ -104,9 +105,7 @@ settingStageIn c EscCnt = 0
 settingStageIn c Setting.State = 0
 
 abbrev pub code : Handler → Register → ℕ
-code h IntrState = 0
-code h IntrEnable = 0
-code h IntrTest = 0
+code h (Only o) = 0
 code h (Local f j) = getD (localStageList h f) j 0
 code h (Alert f i) = getD (alertStageList h f) i 0
 code h (Block s k) = settingStageIn (stagesOf h k) s

@@ -7,12 +7,6 @@ use Rattle.map.proofs.column.lock_of.Tie as tie
 enum-told : tie.Need-enum-told
 enum-told c = search needs
 
-enum-told-2 : tie.Need-enum-told-2
-enum-told-2 c = search needs
-
-enum-told-3 : tie.Need-enum-told-3
-enum-told-3 c = search needs
-
 enum-known-q : tie.Need-enum-known-q
 enum-known-q c = search needs
 
@@ -22,45 +16,35 @@ enum-known-q-2 c = search needs
 enum-known-q-3 : tie.Need-enum-known-q-3
 enum-known-q-3 c = search needs
 
-enum-told-4 : tie.Need-enum-told-4
-enum-told-4 c = search needs
+enum-told-2 : tie.Need-enum-told-2
+enum-told-2 c = search needs
 
 returns : tie.Need-returns
 returns c = search needs
 
 returns-2 : tie.Need-returns-2
-returns-2 c = search needs
+returns-2 c = rw (c .before .q .given .1)
 
 returns-3 : tie.Need-returns-3
-returns-3 c = search needs
+returns-3 c = rw (c .before .q2 .given .1)
 
 returns-4 : tie.Need-returns-4
-returns-4 c = rw (c .before .q .given .1)
+returns-4 c = rw (c .before .q3 .given .1)
 
 returns-5 : tie.Need-returns-5
-returns-5 c = rw (c .before .q2 .given .1)
-
-returns-6 : tie.Need-returns-6
-returns-6 c = rw (c .before .q3 .given .1)
-
-returns-7 : tie.Need-returns-7
-returns-7 c = search needs
+returns-5 c = search needs
 
 pub lock-of-spec : {M : Type 1} → statement M
 lock-of-spec =
     tie.close
     (tie.spec
     enum-told
-    enum-told-2
-    enum-told-3
     enum-known-q
     enum-known-q-2
     enum-known-q-3
-    enum-told-4
+    enum-told-2
     returns
     returns-2
     returns-3
     returns-4
-    returns-5
-    returns-6
-    returns-7)
+    returns-5)

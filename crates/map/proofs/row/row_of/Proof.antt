@@ -4,91 +4,67 @@ use borrow.Author.Needs.{needs}
 use Rattle.map.proofs.row.row_of.Statement.{statement}
 use Rattle.map.proofs.row.row_of.Tie as tie
 
+enum-known-q : tie.Need-enum-known-q
+enum-known-q c = search needs
+
+single-row-requires : tie.Need-single-row-requires
+single-row-requires c κs = search needs
+
+enum-known-q-2 : tie.Need-enum-known-q-2
+enum-known-q-2 c = search needs
+
+field-row-requires : tie.Need-field-row-requires
+field-row-requires c κs = search needs
+
+enum-known-q-3 : tie.Need-enum-known-q-3
+enum-known-q-3 c = search needs
+
+field-row-requires-2 : tie.Need-field-row-requires-2
+field-row-requires-2 c κs = search needs
+
+enum-known-q-4 : tie.Need-enum-known-q-4
+enum-known-q-4 c = search needs
+
+setting-row-requires : tie.Need-setting-row-requires
+setting-row-requires c κs = search needs
+
 enum-told : tie.Need-enum-told
 enum-told c = search needs
 
 line-requires : tie.Need-line-requires
 line-requires c κs = search needs
 
-enum-told-2 : tie.Need-enum-told-2
-enum-told-2 c = search needs
-
-line-requires-2 : tie.Need-line-requires-2
-line-requires-2 c κs = search needs
-
-enum-told-3 : tie.Need-enum-told-3
-enum-told-3 c = search needs
-
-line-requires-3 : tie.Need-line-requires-3
-line-requires-3 c κs = search needs
-
-enum-known-q : tie.Need-enum-known-q
-enum-known-q c = search needs
-
-field-row-requires : tie.Need-field-row-requires
-field-row-requires c κs = search needs
-
-enum-known-q-2 : tie.Need-enum-known-q-2
-enum-known-q-2 c = search needs
-
-field-row-requires-2 : tie.Need-field-row-requires-2
-field-row-requires-2 c κs = search needs
-
-enum-known-q-3 : tie.Need-enum-known-q-3
-enum-known-q-3 c = search needs
-
-setting-row-requires : tie.Need-setting-row-requires
-setting-row-requires c κs = search needs
-
-enum-told-4 : tie.Need-enum-told-4
-enum-told-4 c = search needs
-
-line-requires-4 : tie.Need-line-requires-4
-line-requires-4 c κs = search needs
-
 returns : tie.Need-returns
-returns c = simp (c .line .ensures, c .before .enum-told .given .1)
+returns c = search needs
 
 returns-2 : tie.Need-returns-2
-returns-2 c = simp (c .line2 .ensures, c .before .enum-told2 .given .1)
+returns-2 c = search needs
 
 returns-3 : tie.Need-returns-3
-returns-3 c = simp (c .line3 .ensures, c .before .enum-told3 .given .1)
+returns-3 c = search needs
 
 returns-4 : tie.Need-returns-4
 returns-4 c = search needs
 
 returns-5 : tie.Need-returns-5
-returns-5 c = search needs
-
-returns-6 : tie.Need-returns-6
-returns-6 c = search needs
-
-returns-7 : tie.Need-returns-7
-returns-7 c = simp (c .line4 .ensures, c .before .enum-told4 .given .1)
+returns-5 c = simp (c .line .ensures, c .before .enum-told .given .1)
 
 pub row-of-spec : {M : Type 1} → statement M
 row-of-spec =
     tie.close
     (tie.spec
+    enum-known-q
+    single-row-requires
+    enum-known-q-2
+    field-row-requires
+    enum-known-q-3
+    field-row-requires-2
+    enum-known-q-4
+    setting-row-requires
     enum-told
     line-requires
-    enum-told-2
-    line-requires-2
-    enum-told-3
-    line-requires-3
-    enum-known-q
-    field-row-requires
-    enum-known-q-2
-    field-row-requires-2
-    enum-known-q-3
-    setting-row-requires
-    enum-told-4
-    line-requires-4
     returns
     returns-2
     returns-3
     returns-4
-    returns-5
-    returns-6
-    returns-7)
+    returns-5)

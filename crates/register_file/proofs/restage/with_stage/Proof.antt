@@ -11,12 +11,6 @@ use Rattle.register_file.proofs.restage.with_stage.Tie as tie
 enum-told : tie.Need-enum-told
 enum-told c = search needs
 
-enum-told-2 : tie.Need-enum-told-2
-enum-told-2 c = search needs
-
-enum-told-3 : tie.Need-enum-told-3
-enum-told-3 c = search needs
-
 enum-known-q : tie.Need-enum-known-q
 enum-known-q c = search needs
 
@@ -52,8 +46,8 @@ set-block-requires : tie.Need-set-block-requires
 unfolding bits
 set-block-requires c κs = rw (c .before .before .q3 .given .1) at (c .before .before .before .before .pre)
 
-enum-told-4 : tie.Need-enum-told-4
-enum-told-4 c = search needs
+enum-told-2 : tie.Need-enum-told-2
+enum-told-2 c = search needs
 
 returns : tie.Need-returns
 unfolding withStage
@@ -61,35 +55,25 @@ returns c = rw (c .enum-told .given .1)
 
 returns-2 : tie.Need-returns-2
 unfolding withStage
-returns-2 c = rw (c .enum-told2 .given .1)
+returns-2 c = rw (c .before .before .q .given .1, c .set-local .ensures)
 
 returns-3 : tie.Need-returns-3
 unfolding withStage
-returns-3 c = rw (c .enum-told3 .given .1)
+returns-3 c = rw (c .before .before .q2 .given .1, c .set-alert .ensures)
 
 returns-4 : tie.Need-returns-4
 unfolding withStage
-returns-4 c = rw (c .before .before .q .given .1, c .set-local .ensures)
+returns-4 c = rw (c .before .before .before .q3 .given .1, c .set-block .ensures)
 
 returns-5 : tie.Need-returns-5
 unfolding withStage
-returns-5 c = rw (c .before .before .q2 .given .1, c .set-alert .ensures)
-
-returns-6 : tie.Need-returns-6
-unfolding withStage
-returns-6 c = rw (c .before .before .before .q3 .given .1, c .set-block .ensures)
-
-returns-7 : tie.Need-returns-7
-unfolding withStage
-returns-7 c = rw (c .enum-told4 .given .1)
+returns-5 c = rw (c .enum-told2 .given .1)
 
 pub with-stage-spec : {M : Type 1} → statement M
 with-stage-spec =
     tie.close
     (tie.spec
     enum-told
-    enum-told-2
-    enum-told-3
     enum-known-q
     cast-set-local
     set-local-requires
@@ -98,11 +82,9 @@ with-stage-spec =
     set-alert-requires
     enum-known-q-3
     set-block-requires
-    enum-told-4
+    enum-told-2
     returns
     returns-2
     returns-3
     returns-4
-    returns-5
-    returns-6
-    returns-7)
+    returns-5)

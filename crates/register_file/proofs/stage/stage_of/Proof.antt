@@ -8,12 +8,6 @@ use Rattle.register_file.proofs.stage.stage_of.Tie as tie
 enum-told : tie.Need-enum-told
 enum-told c = search needs
 
-enum-told-2 : tie.Need-enum-told-2
-enum-told-2 c = search needs
-
-enum-told-3 : tie.Need-enum-told-3
-enum-told-3 c = search needs
-
 enum-known-q : tie.Need-enum-known-q
 enum-known-q c = search needs
 
@@ -38,8 +32,8 @@ enum-known-q-3 c = search needs
 block-stage-requires : tie.Need-block-stage-requires
 block-stage-requires c κs = search needs
 
-enum-told-4 : tie.Need-enum-told-4
-enum-told-4 c = search needs
+enum-told-2 : tie.Need-enum-told-2
+enum-told-2 c = search needs
 
 returns : tie.Need-returns
 unfolding stageIn
@@ -47,35 +41,25 @@ returns c = rw (c .enum-told .given .1)
 
 returns-2 : tie.Need-returns-2
 unfolding stageIn
-returns-2 c = rw (c .enum-told2 .given .1)
+returns-2 c = simp (c .local-stage .ensures, c .before .before .q .given .1)
 
 returns-3 : tie.Need-returns-3
 unfolding stageIn
-returns-3 c = rw (c .enum-told3 .given .1)
+returns-3 c = simp (c .alert-stage .ensures, c .before .before .q2 .given .1)
 
 returns-4 : tie.Need-returns-4
 unfolding stageIn
-returns-4 c = simp (c .local-stage .ensures, c .before .before .q .given .1)
+returns-4 c = simp (c .block-stage .ensures, c .before .before .before .q3 .given .1)
 
 returns-5 : tie.Need-returns-5
 unfolding stageIn
-returns-5 c = simp (c .alert-stage .ensures, c .before .before .q2 .given .1)
-
-returns-6 : tie.Need-returns-6
-unfolding stageIn
-returns-6 c = simp (c .block-stage .ensures, c .before .before .before .q3 .given .1)
-
-returns-7 : tie.Need-returns-7
-unfolding stageIn
-returns-7 c = rw (c .enum-told4 .given .1)
+returns-5 c = rw (c .enum-told2 .given .1)
 
 pub stage-of-spec : {M : Type 1} → statement M
 stage-of-spec =
     tie.close
     (tie.spec
     enum-told
-    enum-told-2
-    enum-told-3
     enum-known-q
     local-stage-requires
     cast-result
@@ -84,11 +68,9 @@ stage-of-spec =
     cast-result-2
     enum-known-q-3
     block-stage-requires
-    enum-told-4
+    enum-told-2
     returns
     returns-2
     returns-3
     returns-4
-    returns-5
-    returns-6
-    returns-7)
+    returns-5)

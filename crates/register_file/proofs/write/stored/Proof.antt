@@ -8,43 +8,15 @@ use borrow.Author.Needs.{needs}
 use Rattle.register_file.proofs.write.stored.Statement.{statement}
 use Rattle.register_file.proofs.write.stored.Tie as tie
 
-enum-told : tie.Need-enum-told
-enum-told c = search needs
-
-cast-cleared : tie.Need-cast-cleared
-unfolding bits
-cast-cleared c = let l : c .before .before .args .v < 16 = rw (c .enum-told .given .1) at (c .before .before .pre) in search needs
-
-cleared-requires : tie.Need-cleared-requires
-unfolding bits
-cleared-requires c κs = let l : c .before .before .args .v < 16 = rw (c .enum-told .given .1) at (c .before .before .pre) in search needs
-
-with-state-requires : tie.Need-with-state-requires
-with-state-requires c κs = search needs
-
-enum-told-2 : tie.Need-enum-told-2
-enum-told-2 c = search needs
-
-cast-enable : tie.Need-cast-enable
-unfolding bits
-cast-enable c = let l : c .before .before .args .v < 16 = rw (c .enum-told2 .given .1) at (c .before .before .pre) in search needs
-
-enum-told-3 : tie.Need-enum-told-3
-enum-told-3 c = search needs
-
-cast-raised : tie.Need-cast-raised
-unfolding bits
-cast-raised c = let l : c .before .before .args .v < 16 = rw (c .enum-told3 .given .1) at (c .before .before .pre) in search needs
-
-raised-requires : tie.Need-raised-requires
-unfolding bits
-raised-requires c κs = let l : c .before .before .args .v < 16 = rw (c .enum-told3 .given .1) at (c .before .before .pre) in search needs
-
-with-state-requires-2 : tie.Need-with-state-requires-2
-with-state-requires-2 c κs = search needs
-
 enum-known-q : tie.Need-enum-known-q
 enum-known-q c = search needs
+
+set-single-requires : tie.Need-set-single-requires
+unfolding bits
+set-single-requires c κs = rw (c .before .q .given .1) at (c .before .before .before .pre)
+
+enum-known-q-2 : tie.Need-enum-known-q-2
+enum-known-q-2 c = search needs
 
 local-value-requires : tie.Need-local-value-requires
 local-value-requires c κs = search needs
@@ -53,7 +25,7 @@ cast-field-stored : tie.Need-cast-field-stored
 unfolding bits
 cast-field-stored c =
     let x = c .before .before .before .before in
-    let g = c .before .before .q .given in
+    let g = c .before .before .q2 .given in
     let l : x .args .v < 2 ^ fieldBits (g .0 .0) = rw (g .1) at (x .pre) in
     let s : x .args .v < 4 = field-small (g .0 .0) (x .args .v) l in search needs
 
@@ -63,8 +35,8 @@ field-stored-requires c κs = search needs
 set-local-requires : tie.Need-set-local-requires
 set-local-requires c κs = search needs
 
-enum-known-q-2 : tie.Need-enum-known-q-2
-enum-known-q-2 c = search needs
+enum-known-q-3 : tie.Need-enum-known-q-3
+enum-known-q-3 c = search needs
 
 alert-value-requires : tie.Need-alert-value-requires
 alert-value-requires c κs = search needs
@@ -73,7 +45,7 @@ cast-field-stored-2 : tie.Need-cast-field-stored-2
 unfolding bits
 cast-field-stored-2 c =
     let x = c .before .before .before .before in
-    let g = c .before .before .q2 .given in
+    let g = c .before .before .q3 .given in
     let l : x .args .v < 2 ^ fieldBits (g .0 .0) = rw (g .1) at (x .pre) in
     let s : x .args .v < 4 = field-small (g .0 .0) (x .args .v) l in search needs
 
@@ -83,75 +55,57 @@ field-stored-requires-2 c κs = search needs
 set-alert-requires : tie.Need-set-alert-requires
 set-alert-requires c κs = search needs
 
-enum-known-q-3 : tie.Need-enum-known-q-3
-enum-known-q-3 c = search needs
+enum-known-q-4 : tie.Need-enum-known-q-4
+enum-known-q-4 c = search needs
 
 set-block-requires : tie.Need-set-block-requires
 unfolding bits
-set-block-requires c κs = rw (c .before .before .q3 .given .1) at (c .before .before .before .before .pre)
+set-block-requires c κs = rw (c .before .before .q4 .given .1) at (c .before .before .before .before .pre)
 
-enum-told-4 : tie.Need-enum-told-4
-enum-told-4 c = search needs
+enum-told : tie.Need-enum-told
+enum-told c = search needs
 
 returns : tie.Need-returns
 unfolding store
-returns c = rw (c .before .before .enum-told .given .1, c .with-state .ensures, c .before .cleared .ensures)
+returns c = rw (c .before .before .q .given .1, c .set-single .ensures)
 
 returns-2 : tie.Need-returns-2
 unfolding store
-returns-2 c = rw (c .before .enum-told2 .given .1)
+returns-2 c = rw (c .before .before .before .before .q2 .given .1, c .set-local .ensures, c .before .field-stored .ensures, c .before .before .local-value .ensures)
 
 returns-3 : tie.Need-returns-3
 unfolding store
-returns-3 c = rw (c .before .before .enum-told3 .given .1, c .with-state2 .ensures, c .before .raised .ensures)
+returns-3 c = rw (c .before .before .before .before .q3 .given .1, c .set-alert .ensures, c .before .field-stored2 .ensures, c .before .before .alert-value .ensures)
 
 returns-4 : tie.Need-returns-4
 unfolding store
-returns-4 c = rw (c .before .before .before .before .q .given .1, c .set-local .ensures, c .before .field-stored .ensures, c .before .before .local-value .ensures)
+returns-4 c = rw (c .before .before .before .q4 .given .1, c .set-block .ensures)
 
 returns-5 : tie.Need-returns-5
 unfolding store
-returns-5 c = rw (c .before .before .before .before .q2 .given .1, c .set-alert .ensures, c .before .field-stored2 .ensures, c .before .before .alert-value .ensures)
-
-returns-6 : tie.Need-returns-6
-unfolding store
-returns-6 c = rw (c .before .before .before .q3 .given .1, c .set-block .ensures)
-
-returns-7 : tie.Need-returns-7
-unfolding store
-returns-7 c = rw (c .enum-told4 .given .1)
+returns-5 c = rw (c .enum-told .given .1)
 
 pub stored-spec : {M : Type 1} → statement M
 stored-spec =
     tie.close
     (tie.spec
-    enum-told
-    cast-cleared
-    cleared-requires
-    with-state-requires
-    enum-told-2
-    cast-enable
-    enum-told-3
-    cast-raised
-    raised-requires
-    with-state-requires-2
     enum-known-q
+    set-single-requires
+    enum-known-q-2
     local-value-requires
     cast-field-stored
     field-stored-requires
     set-local-requires
-    enum-known-q-2
+    enum-known-q-3
     alert-value-requires
     cast-field-stored-2
     field-stored-requires-2
     set-alert-requires
-    enum-known-q-3
+    enum-known-q-4
     set-block-requires
-    enum-told-4
+    enum-told
     returns
     returns-2
     returns-3
     returns-4
-    returns-5
-    returns-6
-    returns-7)
+    returns-5)

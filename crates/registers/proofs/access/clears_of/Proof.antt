@@ -20,12 +20,6 @@ enum-told-2 c = search needs
 enum-told-3 : tie.Need-enum-told-3
 enum-told-3 c = search needs
 
-enum-told-4 : tie.Need-enum-told-4
-enum-told-4 c = search needs
-
-enum-told-5 : tie.Need-enum-told-5
-enum-told-5 c = search needs
-
 enum-known-q : tie.Need-enum-known-q
 enum-known-q c = search needs
 
@@ -35,8 +29,8 @@ is-clr-requires c κs = search needs
 class-bit-requires : tie.Need-class-bit-requires
 class-bit-requires c κs = search needs
 
-enum-told-6 : tie.Need-enum-told-6
-enum-told-6 c = search needs
+enum-told-4 : tie.Need-enum-told-4
+enum-told-4 c = search needs
 
 returns : tie.Need-returns
 returns c = rw (c .enum-told .given .1) no-bits
@@ -48,20 +42,14 @@ returns-3 : tie.Need-returns-3
 returns-3 c = rw (c .enum-told3 .given .1) no-bits
 
 returns-4 : tie.Need-returns-4
-returns-4 c = rw (c .enum-told4 .given .1) no-bits
-
-returns-5 : tie.Need-returns-5
-returns-5 c = rw (c .enum-told5 .given .1) no-bits
-
-returns-6 : tie.Need-returns-6
-returns-6 c =
+returns-4 c =
     let q = c .before .before .before .q .given in
     let k : ℕ = q .0 .1 .0 in
     let one : Bool = eqb (c .before .before .before .before .before .args .v) 1 in
     rw (q .1) (c .class-bit .ensures ∙ ap (λ (b : Bool). bitsOf 4 (λ j. (b && one) && eqb k j)) (c .before .is-clr .ensures) ∙ bits-swap (settingIsClr (q .0 .0)) one (eqb k))
 
-returns-7 : tie.Need-returns-7
-returns-7 c = rw (c .enum-told6 .given .1) no-bits
+returns-5 : tie.Need-returns-5
+returns-5 c = rw (c .enum-told4 .given .1) no-bits
 
 pub clears-of-spec : {M : Type 1} → statement M
 clears-of-spec =
@@ -70,16 +58,12 @@ clears-of-spec =
     enum-told
     enum-told-2
     enum-told-3
-    enum-told-4
-    enum-told-5
     enum-known-q
     is-clr-requires
     class-bit-requires
-    enum-told-6
+    enum-told-4
     returns
     returns-2
     returns-3
     returns-4
-    returns-5
-    returns-6
-    returns-7)
+    returns-5)

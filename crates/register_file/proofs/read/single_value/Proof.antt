@@ -1,0 +1,42 @@
+-- `read::single_value` meets its contract.
+-- Assumes nothing.
+use borrow.Author.Needs.{needs}
+use Rattle.register_file.proofs.read.single_value.Statement.{statement}
+use Rattle.register_file.proofs.read.single_value.Tie as tie
+
+enum-told : tie.Need-enum-told
+enum-told c = search needs
+
+cast-result : tie.Need-cast-result
+cast-result c = search needs
+
+enum-told-2 : tie.Need-enum-told-2
+enum-told-2 c = search needs
+
+cast-result-2 : tie.Need-cast-result-2
+cast-result-2 c = search needs
+
+enum-told-3 : tie.Need-enum-told-3
+enum-told-3 c = search needs
+
+returns : tie.Need-returns
+returns c = search needs
+
+returns-2 : tie.Need-returns-2
+returns-2 c = search needs
+
+returns-3 : tie.Need-returns-3
+returns-3 c = rw (c .enum-told3 .given .1)
+
+pub single-value-spec : {M : Type 1} → statement M
+single-value-spec =
+    tie.close
+    (tie.spec
+    enum-told
+    cast-result
+    enum-told-2
+    cast-result-2
+    enum-told-3
+    returns
+    returns-2
+    returns-3)
