@@ -12,15 +12,13 @@ use borrow.Author.Tests.{eq-eqb, ne-eqb}
 use Rattle.bits.proofs.IndexLaws.{is-each, each-ext}
 use Rattle.laws.proofs.Cases.{by-field, by-setting}
 use Rattle.laws.proofs.StageLaws.{store-stages}
-use Rattle.rules.specs.Access.{store, isFirst, written, named, drops, kept}
+use Rattle.rules.specs.Access.{store, isFirst, written}
 use Rattle.rules.specs.Map.{fieldBits, offset}
 use Rattle.rules.specs.Stages.{settingStage, noClassStages, stage, withSettingStage, withStage, staged, dropped}
 use Rattle.rules.specs.State.{withStages, put}
-use Rattle.rules.specs.declared.Access.{Access}
 use Rattle.rules.specs.declared.ClassStages.{ClassStages}
 use Rattle.rules.specs.declared.Field.{Field}
 use Rattle.rules.specs.declared.Handler.{Handler}
-use Rattle.rules.specs.declared.Refusal.{Refusal}
 use Rattle.rules.specs.declared.Register.{Register}
 use Rattle.rules.specs.declared.Setting.{Setting}
 use Rattle.rules.specs.declared.Setting.the-variants.{PhaseCyc}
@@ -90,7 +88,3 @@ module _ (h : Handler) (q : Register) where
   later-written v e =
       ap (λ (s : Stages). withStages (dropped q s) (store h q v)) (store-stages h q v)
       ∙ ap (λ (t : Bool). cond t (withStages (staged q v (h .stages)) h) (withStages (dropped q (h .stages)) (store h q v))) (sym e)
-
--- what a refused access leaves
-pub dropped-kept : (h : Handler) (x : Access) (m : Refusal) (b : Bool) → drops m ≡ b → cond b (withStages (dropped (named h x) (h .stages)) h) h ≡ kept m h x
-dropped-kept h x m b e = ap (λ (t : Bool). cond t (withStages (dropped (named h x) (h .stages)) h) h) (sym e)

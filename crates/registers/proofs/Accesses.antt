@@ -5,7 +5,7 @@ use mathlib.Core.Path.{_≡_, refl, sym, ap, fun-ext}
 use mathlib.Core.Bool.{Bool, true, false, cond, _&&_}
 use Rattle.bits.specs.Bits.{bitsOf}
 use Rattle.rules.specs.Answer.{firstOf}
-use Rattle.rules.specs.Access.{malformed, noRegister, wrongWay, tooWide, verdict, accessedBy, accessed}
+use Rattle.rules.specs.Access.{malformed, noRegister, wrongWay, tooWide, verdict, drops, accessedBy, accessed}
 use Rattle.rules.specs.declared.Access.{Access}
 use Rattle.rules.specs.declared.Accessed.{Accessed}
 use Rattle.rules.specs.declared.Answer.{Answer}
@@ -32,6 +32,12 @@ swap false b c = refl
 -- the bits of f where a and b hold
 pub bits-swap : (a b : Bool) (f : ℕ → Bool) → bitsOf 4 (λ k. (a && b) && f k) ≡ bitsOf 4 (λ k. (a && f k) && b)
 bits-swap a b f = ap (bitsOf 4) (fun-ext (λ (k : ℕ). swap a b (f k)))
+
+-- ── what a refused access leaves ──
+
+-- the state h, or g where a stage is dropped
+pub dropped-by : (h g : Handler) (m : Refusal) (b : Bool) → drops m ≡ b → cond b g h ≡ cond (drops m) g h
+dropped-by h g m b e = ap (λ (t : Bool). cond t g h) (sym e)
 
 -- ── by the verdict ──
 

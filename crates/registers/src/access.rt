@@ -18,12 +18,14 @@ use rules::Register;
 use rules::Setting;
 use rules::Verdict;
 ghost use mathlib.Core.Path.{_≡_};
-ghost use mathlib.Core.Bool.{false, _&&_};
+ghost use mathlib.Core.Bool.{false, cond, _&&_};
 ghost use lib.Dec.{eqb};
 ghost use Prim.Native.Nat.{_^_, _<_};
 ghost use Rattle.bits.specs.Bits.{bitsOf};
 ghost use Rattle.rules.specs.Map.{bits};
-ghost use Rattle.rules.specs.Access.{settingIsClr, isClrOf, tooWide, isFirst, written, left, given, writesClr, named, drops, kept, raisedBy, accessed};
+ghost use Rattle.rules.specs.Access.{settingIsClr, isClrOf, tooWide, isFirst, written, left, given, writesClr, named, drops, raisedBy, accessed};
+ghost use Rattle.rules.specs.Stages.{dropped};
+ghost use Rattle.rules.specs.State.{withStages};
 
 fn is_clr(s: Setting) -> bool
     ensures { λ r. ⌜ r ≡ settingIsClr s ⌝ }
@@ -81,9 +83,9 @@ fn write(h: Handler, q: Register, v: u32) -> Handler
     }
 }
 
-// What an accepted access does: a read gives the value and drops the stage, anything else gives 0.
-fn act(h: Handler, x: Access) -> Accessed
-    requires { ⌜ tooWide h x ≡ false ⌝ }
+// What an accepted access does to the register q that it names: a read gives the value and drops the stage, anything else gives 0.
+fn act(h: Handler, x: Access, q: Register) -> Accessed
+    requires { ⌜ (q ≡ named h x) × (tooWide h x ≡ false) ⌝ }
     ensures { λ r. ⌜ r ≡ (record { handler = left h x; answer = given h x; effects = record { clears = bitsOf 4 (writesClr h x); raises = 0 } }) ⌝ }
 {
     match x {
@@ -92,22 +94,16 @@ fn act(h: Handler, x: Access) -> Accessed
             answer: Answer::Done,
             effects: clear(0),
         },
-        Access::Read(r) => {
-            let q = register_at(h.n, r);
-            Accessed {
-                handler: drop_stage(h, q),
-                answer: Answer::Value(value_of(h, q)),
-                effects: clear(0),
-            }
-        }
-        Access::Write(r, v) => {
-            let q = register_at(h.n, r);
-            Accessed {
-                handler: write(h, q, v),
-                answer: Answer::Done,
-                effects: clear(clears_of(q, v)),
-            }
-        }
+        Access::Read(_) => Accessed {
+            handler: drop_stage(h, q),
+            answer: Answer::Value(value_of(h, q)),
+            effects: clear(0),
+        },
+        Access::Write(_, v) => Accessed {
+            handler: write(h, q, v),
+            answer: Answer::Done,
+            effects: clear(clears_of(q, v)),
+        },
         Access::Malformed => Accessed {
             handler: h,
             answer: Answer::Done,
@@ -170,25 +166,22 @@ fn raises_of(m: Refusal) -> u8
     }
 }
 
-// What a refused access leaves.
-fn keep(h: Handler, x: Access, m: Refusal) -> Handler
-    ensures { λ r. ⌜ r ≡ kept m h x ⌝ }
+// What a refused access that names q leaves.
+fn keep(h: Handler, q: Register, m: Refusal) -> Handler
+    ensures { λ r. ⌜ r ≡ cond (drops m) (withStages (dropped q (h .stages)) h) h ⌝ }
 {
-    if drops_stage(m) {
-        drop_stage(h, name(h, x))
-    } else {
-        h
-    }
+    if drops_stage(m) { drop_stage(h, q) } else { h }
 }
 
-// Step 1: the state after it, the answer, and its effects on the later steps.
+// Step 1: the state after it, the answer, and its effects on the later steps. The register number is decoded here, once.
 pub fn access(h: Handler, x: Access) -> Accessed
     ensures { λ r. ⌜ r ≡ accessed h x ⌝ }
 {
-    match verdict_of(h, x) {
-        Verdict::Accepted => act(h, x),
+    let q = name(h, x);
+    match verdict_of(h, x, q) {
+        Verdict::Accepted => act(h, x, q),
         Verdict::Refused(m) => Accessed {
-            handler: keep(h, x, m),
+            handler: keep(h, q, m),
             answer: Answer::Refused(m),
             effects: Effects {
                 clears: 0,

@@ -6,7 +6,6 @@ use map::column::is_register;
 use map::column::limit;
 use map::column::read_only;
 use map::column::write_only;
-use map::number::register_at;
 use register_file::read::value_of;
 use register_file::stage::stage_of;
 use rules::Access;
@@ -19,7 +18,7 @@ ghost use mathlib.Core.Bool.{false, not};
 ghost use Rattle.bits.specs.Bits.{fits};
 ghost use Rattle.rules.specs.Map.{isRegister, bits, writeOnly, readOnly};
 ghost use Rattle.rules.specs.Answer.{firstOf};
-ghost use Rattle.rules.specs.Access.{locked, silly, bars, unlike, inOrder, verdict};
+ghost use Rattle.rules.specs.Access.{locked, silly, bars, unlike, inOrder, verdict, named};
 
 // A register is locked while the REGWEN that guards it is 0.
 fn is_locked(h: Handler, q: Register) -> bool
@@ -109,14 +108,15 @@ fn write_verdict(h: Handler, q: Register, v: u32) -> Verdict
     )
 }
 
-// The verdict on an access.
-pub fn verdict_of(h: Handler, x: Access) -> Verdict
+// The verdict on an access; q is the register that it names.
+pub fn verdict_of(h: Handler, x: Access, q: Register) -> Verdict
+    requires { ⌜ q ≡ named h x ⌝ }
     ensures { λ r. ⌜ r ≡ verdict h x ⌝ }
 {
     match x {
         Access::Nothing => first_refusal(false, false, false, false, false, false, false),
-        Access::Read(r) => read_verdict(register_at(h.n, r)),
-        Access::Write(r, v) => write_verdict(h, register_at(h.n, r), v),
+        Access::Read(_) => read_verdict(q),
+        Access::Write(_, v) => write_verdict(h, q, v),
         Access::Malformed => first_refusal(true, false, false, false, false, false, false),
     }
 }

@@ -1,6 +1,8 @@
 -- `access::act` meets its contract, kind by kind.
 -- Assumes nothing.
+use mathlib.Core.Path.{_≡_}
 use borrow.Author.Tests.{ltb-true, not-false}
+use Rattle.rules.specs.Map.{decode}
 use Rattle.registers.proofs.Accesses.{no-bits}
 use borrow.Author.Needs.{needs}
 use Rattle.registers.proofs.access.act.Statement.{statement}
@@ -12,11 +14,8 @@ enum-told c = search needs
 clear-requires : tie.Need-clear-requires
 clear-requires c κs = search needs
 
-enum-known-x : tie.Need-enum-known-x
-enum-known-x c = search needs
-
-register-at-requires : tie.Need-register-at-requires
-register-at-requires c κs = search needs
+enum-told-2 : tie.Need-enum-told-2
+enum-told-2 c = search needs
 
 drop-stage-requires : tie.Need-drop-stage-requires
 drop-stage-requires c κs = search needs
@@ -27,16 +26,15 @@ value-of-requires c κs = search needs
 clear-requires-2 : tie.Need-clear-requires-2
 clear-requires-2 c κs = search needs
 
-enum-known-x-2 : tie.Need-enum-known-x-2
-enum-known-x-2 c = search needs
-
-register-at-requires-2 : tie.Need-register-at-requires-2
-register-at-requires-2 c κs = search needs
+enum-known-x : tie.Need-enum-known-x
+enum-known-x c = search needs
 
 write-requires : tie.Need-write-requires
 write-requires c κs =
-    let x = c .before .before .x2 .given in
-    let t = rw (x .1, ← c .register-at2 .ensures) at (c .before .before .before .before .pre) in
+    let b = c .before .before .before in
+    let x = c .before .x .given in
+    let e : b .args .q ≡ decode (b .args .h .n) (x .0 .0) = rw (x .1) at (b .pre .0) in
+    let t = rw (x .1, ← e) at (b .pre .1) in
     ltb-true _ _ (not-false _ t)
 
 clears-of-requires : tie.Need-clears-of-requires
@@ -45,8 +43,8 @@ clears-of-requires c κs = search needs
 clear-requires-3 : tie.Need-clear-requires-3
 clear-requires-3 c κs = search needs
 
-enum-told-2 : tie.Need-enum-told-2
-enum-told-2 c = search needs
+enum-told-3 : tie.Need-enum-told-3
+enum-told-3 c = search needs
 
 clear-requires-4 : tie.Need-clear-requires-4
 clear-requires-4 c κs = search needs
@@ -56,14 +54,20 @@ returns c = rw (c .before .enum-told .given .1, ← no-bits, c .clear .ensures)
 
 returns-2 : tie.Need-returns-2
 returns-2 c =
-    rw (c .before .before .before .before .before .x .given .1, ← no-bits, c .before .value-of .ensures, c .before .before .drop-stage .ensures, c .before .before .before .register-at .ensures, c .clear2 .ensures)
+    let b = c .before .before .before .before .before in
+    let x = c .before .before .before .enum-told2 .given in
+    let e : b .args .q ≡ decode (b .args .h .n) (x .0 .0) = rw (x .1) at (b .pre .0) in
+    rw (x .1, ← no-bits, c .before .value-of .ensures, c .before .before .drop-stage .ensures, e, c .clear2 .ensures)
 
 returns-3 : tie.Need-returns-3
 returns-3 c =
-    rw (c .before .before .before .before .before .x2 .given .1, c .before .before .write .ensures, c .clear3 .ensures, c .before .clears-of .ensures, c .before .before .before .register-at2 .ensures)
+    let b = c .before .before .before .before .before .before in
+    let x = c .before .before .before .before .x .given in
+    let e : b .args .q ≡ decode (b .args .h .n) (x .0 .0) = rw (x .1) at (b .pre .0) in
+    rw (x .1, c .before .before .write .ensures, c .clear3 .ensures, c .before .clears-of .ensures, e)
 
 returns-4 : tie.Need-returns-4
-returns-4 c = rw (c .before .enum-told2 .given .1, ← no-bits, c .clear4 .ensures)
+returns-4 c = rw (c .before .enum-told3 .given .1, ← no-bits, c .clear4 .ensures)
 
 pub act-spec : {M : Type 1} → statement M
 act-spec =
@@ -71,17 +75,15 @@ act-spec =
     (tie.spec
     enum-told
     clear-requires
-    enum-known-x
-    register-at-requires
+    enum-told-2
     drop-stage-requires
     value-of-requires
     clear-requires-2
-    enum-known-x-2
-    register-at-requires-2
+    enum-known-x
     write-requires
     clears-of-requires
     clear-requires-3
-    enum-told-2
+    enum-told-3
     clear-requires-4
     returns
     returns-2
