@@ -1,5 +1,6 @@
 // "One tick", step 1: the access, on the state before any event of this tick.
 use crate::verdict::verdict_of;
+use answers::refusal_number;
 use map::column::is_shadowed;
 use map::number::register_at;
 use masks::class_bit;
@@ -128,42 +129,15 @@ fn name(h: Handler, x: Access) -> Register
 fn drops_stage(m: Refusal) -> bool
     ensures { λ r. ⌜ r ≡ drops m ⌝ }
 {
-    match m {
-        Refusal::NoRegister => false,
-        Refusal::WrongWay => false,
-        Refusal::Locked => true,
-        Refusal::TooWide => false,
-        Refusal::BadRecord => false,
-        Refusal::BadCount => false,
-        Refusal::BadState => false,
-        Refusal::BadLength => false,
-        Refusal::ShortList => false,
-        Refusal::NoRecord => false,
-        Refusal::ShortBuffer => false,
-        Refusal::Differs => true,
-        Refusal::SillyThreshold => false,
-    }
+    let n = refusal_number(m);
+    (n == 3) | (n == 12)
 }
 
 // 12 raises local 5, shadow update.
 fn raises_of(m: Refusal) -> u8
     ensures { λ r. ⌜ r ≡ raisedBy m ⌝ }
 {
-    match m {
-        Refusal::NoRegister => 0,
-        Refusal::WrongWay => 0,
-        Refusal::Locked => 0,
-        Refusal::TooWide => 0,
-        Refusal::BadRecord => 0,
-        Refusal::BadCount => 0,
-        Refusal::BadState => 0,
-        Refusal::BadLength => 0,
-        Refusal::ShortList => 0,
-        Refusal::NoRecord => 0,
-        Refusal::ShortBuffer => 0,
-        Refusal::Differs => 32,
-        Refusal::SillyThreshold => 0,
-    }
+    if refusal_number(m) == 12 { 32 } else { 0 }
 }
 
 // What a refused access that names q leaves.
