@@ -14,7 +14,7 @@ use Rattle.rules.specs.declared.Effects.{Effects}
 use Rattle.rules.specs.declared.Handler.{Handler}
 use Rattle.rules.specs.declared.Input.{Input}
 use Rattle.rules.specs.declared.Links.{Links}
-use Rattle.registers.specs.Same.{unmoved}
+use Rattle.registers.specs.Unmoved.{unmoved}
 use Rattle.samples.specs.Linked.{LinkedBy}
 use Rattle.samples.specs.declared.links.Linked.{Linked}
 use Rattle.samples.proofs.Quiets.{quiet-sampled, quiet-links}

@@ -4,7 +4,7 @@ use crate::classes::classes_after;
 use crate::classes::interrupts_after;
 use crate::output::output;
 use class_rules::Class;
-use registers::same::same_after;
+use registers::unmoved::unmoved_by;
 use rules::Answer;
 use rules::Handler;
 use rules::Input;
@@ -41,11 +41,11 @@ pub fn quiet_of(h: Handler, x: Input) -> Quiet
     let sent = x.access;
     let before = h.links;
     let linked = links_after(h.n, before, x.sample);
-    let same = same_after(h, sent);
+    let unmoved = unmoved_by(h, sent);
     let links = linked.links;
-    let answer = same.answer;
+    let answer = unmoved.answer;
     Quiet {
-        holds: linked.quiet & same.holds,
+        holds: linked.quiet & unmoved.holds,
         links,
         answer,
     }

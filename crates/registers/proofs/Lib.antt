@@ -1,2 +1,2 @@
 pub mod Accesses
-pub mod Sames
+pub mod UnmovedLaws

@@ -1,5 +1,5 @@
 // Step 1 of a tick: the verdict on an access, and what the access does.
 pub mod access;
-pub mod same;
 mod silly;
+pub mod unmoved;
 mod verdict;

@@ -11,8 +11,8 @@ use Rattle.handler.proofs.quiet.quiet_of.Tie as tie
 links-after-requires : tie.Need-links-after-requires
 links-after-requires c κs = search needs
 
-same-after-requires : tie.Need-same-after-requires
-same-after-requires c κs = search needs
+unmoved-by-requires : tie.Need-unmoved-by-requires
+unmoved-by-requires c κs = search needs
 
 -- the columns of causes have their lengths by their types; here, since the search for them looks at so many facts and no more
 alerts-long : (c : tie.After-before2) → length (c .before .args .h .alerts .cause) ≡ most
@@ -25,7 +25,7 @@ returns : tie.Need-returns
 returns c =
     let r = c .before .before .before .before in
     let s = r .before .before in
-    λ t. quiet-tick (s .args .h) (s .args .x) _ _ _ (s .pre) (alerts-long (r .before)) (locals-long (r .before)) (r .links-after .ensures) (c .before .before .before .same-after .ensures) t
+    λ t. quiet-tick (s .args .h) (s .args .x) _ _ _ (s .pre) (alerts-long (r .before)) (locals-long (r .before)) (r .links-after .ensures) (c .before .before .before .unmoved-by .ensures) t
 
 pub quiet-of-spec : {M : Type 1} → statement M
-quiet-of-spec = tie.close (tie.spec links-after-requires same-after-requires returns)
+quiet-of-spec = tie.close (tie.spec links-after-requires unmoved-by-requires returns)

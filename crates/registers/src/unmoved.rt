@@ -13,25 +13,25 @@ ghost use mathlib.Core.Bool.{true};
 ghost use lib.Dec.{eqb};
 ghost use Rattle.rules.specs.Access.{accessed};
 ghost use Rattle.rules.specs.Stages.{stage};
-ghost use Rattle.registers.specs.Same.{readAnswer, unmoved};
+ghost use Rattle.registers.specs.Unmoved.{readAnswer, unmoved};
 
 // Whether an access is known to leave the state as it is, and its answer then.
-pub struct Same {
+pub struct Unmoved {
     pub holds: bool,
     pub answer: Answer,
 }
 
 // A read of register q: it leaves the state as it is where no stage is open.
-fn read_same(h: Handler, q: Register) -> Same
+fn unmoved_by_read(h: Handler, q: Register) -> Unmoved
     ensures { λ r. ⌜ r ≡ record { holds = eqb (stage h q) 0; answer = readAnswer h q } ⌝ }
 {
     let holds = stage_of(h, q) == 0;
     match read_verdict(q) {
-        Verdict::Accepted => Same {
+        Verdict::Accepted => Unmoved {
             holds,
             answer: Answer::Value(value_of(h, q)),
         },
-        Verdict::Refused(m) => Same {
+        Verdict::Refused(m) => Unmoved {
             holds,
             answer: Answer::Refused(m),
         },
@@ -39,20 +39,20 @@ fn read_same(h: Handler, q: Register) -> Same
 }
 
 // It gives no state, so that none is copied. Where it does not hold, `access` tells what the access does.
-pub fn same_after(h: Handler, x: Access) -> Same
+pub fn unmoved_by(h: Handler, x: Access) -> Unmoved
     ensures { λ r. ⌜ (r .holds ≡ true → unmoved h (r .answer) ≡ accessed h x) ⌝ }
 {
     match x {
-        Access::Nothing => Same {
+        Access::Nothing => Unmoved {
             holds: true,
             answer: Answer::Done,
         },
-        Access::Read(r) => read_same(h, register_at(h.n, r)),
-        Access::Write(_, _) => Same {
+        Access::Read(r) => unmoved_by_read(h, register_at(h.n, r)),
+        Access::Write(_, _) => Unmoved {
             holds: false,
             answer: Answer::Done,
         },
-        Access::Malformed => Same {
+        Access::Malformed => Unmoved {
             holds: false,
             answer: Answer::Done,
         },

@@ -14,8 +14,8 @@ use Rattle.rules.specs.declared.Answer.{Answer}
 use Rattle.rules.specs.declared.Handler.{Handler}
 use Rattle.rules.specs.declared.Register.{Register}
 use Rattle.rules.specs.declared.Verdict.{Verdict}
-use Rattle.registers.specs.Same.{readVerdict, readAnswer, unmoved}
-use Rattle.registers.specs.declared.same.Same.{Same}
+use Rattle.registers.specs.Unmoved.{readVerdict, readAnswer, unmoved}
+use Rattle.registers.specs.declared.unmoved.Unmoved.{Unmoved}
 use Rattle.registers.proofs.Accesses.{no-bits}
 use Rattle.register_file.proofs.Restages.{none-dropped}
 
@@ -27,18 +27,18 @@ module _ (h : Handler) where
   pub read-answered : (q : Register) (v : Verdict) → readVerdict q ≡ v → answerBy v (Answer.Value (value h q)) ≡ readAnswer h q
   read-answered q v e = ap (λ (t : Verdict). answerBy t (Answer.Value (value h q))) (sym e)
 
-  pub nothing-same : unmoved h Answer.Done ≡ accessed h Nothing
+  pub nothing-unmoved : unmoved h Answer.Done ≡ accessed h Nothing
   unfolding accessed verdict firstOf
-  nothing-same = ap₂ (λ (g : Handler) (c : ℕ). record { handler = g; answer = Answer.Done; effects = record { clears = c; raises = 0 } }) (refl {a = h}) no-bits
+  nothing-unmoved = ap₂ (λ (g : Handler) (c : ℕ). record { handler = g; answer = Answer.Done; effects = record { clears = c; raises = 0 } }) (refl {a = h}) no-bits
 
-  pub same-by : (q : Register) (n : ℕ) (a : Answer) → n ≡ stage h q → a ≡ readAnswer h q
-      → _≡_ {A = Same} (record { holds = eqb n 0; answer = a }) (record { holds = eqb (stage h q) 0; answer = readAnswer h q })
-  same-by q n a = ap₂ (λ (m : ℕ) (b : Answer). record { holds = eqb m 0; answer = b })
+  pub unmoved-as : (q : Register) (n : ℕ) (a : Answer) → n ≡ stage h q → a ≡ readAnswer h q
+      → _≡_ {A = Unmoved} (record { holds = eqb n 0; answer = a }) (record { holds = eqb (stage h q) 0; answer = readAnswer h q })
+  unmoved-as q n a = ap₂ (λ (m : ℕ) (b : Answer). record { holds = eqb m 0; answer = b })
 
   -- accepted, or refused by 1 or 2, which drop no stage
-  pub read-same : (r : ℕ) → stage h (decode (h .n) r) ≡ 0 → unmoved h (readAnswer h (decode (h .n) r)) ≡ accessed h (Read r)
+  pub read-unmoved : (r : ℕ) → stage h (decode (h .n) r) ≡ 0 → unmoved h (readAnswer h (decode (h .n) r)) ≡ accessed h (Read r)
   unfolding accessed verdict firstOf
-  read-same r e = go (not (isRegister (decode (h .n) r))) (writeOnly (decode (h .n) r))
+  read-unmoved r e = go (not (isRegister (decode (h .n) r))) (writeOnly (decode (h .n) r))
     where
       go : (a b : Bool) → unmoved h (answerBy (readBy a b) (Answer.Value (value h (decode (h .n) r)))) ≡ accessedBy (readBy a b) h (Read r)
       go true b = refl
