@@ -174,7 +174,7 @@ drops-write h r v =
 
 module _ (h : Handler) (x : Access) (m : Refusal) (e : verdict h x ≡ Verdict.Refused m) where
   -- "3 and 12 are now the refusals that may change something": the stage of the register that is named, and nothing else
-  pub acted-refused : acted h x ≡ kept m h x
+  pub acted-refused : acted h x ≡ kept m h (named h x)
   unfolding acted accessed
   acted-refused = ap (λ (t : Verdict). accessedBy t h x .handler) e
 
@@ -211,7 +211,7 @@ module _ (h : Handler) where
 
   module _ (x : Access) (s : Sample) (m : Refusal) (e : verdict h x ≡ Verdict.Refused m) where
     -- a refused access is as none on the state without the stage that it drops, but for local 5
-    pub refused-after : after h (record { access = x; sample = s }) ≡ stepsOn (kept m h x) s (record { clears = 0; raises = raisedBy m })
+    pub refused-after : after h (record { access = x; sample = s }) ≡ stepsOn (kept m h (named h x)) s (record { clears = 0; raises = raisedBy m })
     unfolding hears after
     refused-after = ap₂ (λ (g : Handler) (fx : Effects). stepsOn g s fx) (acted-refused h x m e) (effects-refused h x m e)
 

@@ -8,7 +8,7 @@ use native.Mathlib.Decide.{decLt}
 use Rattle.bits.specs.Bits.{bit, bitsOf}
 use Rattle.bits.proofs.BitLaws.{bit-bitsOf, bit-none, bit-above, bitsOf-lt}
 use Rattle.bits.proofs.IndexLaws.{and-true}
-use Rattle.rules.specs.Access.{store, verdict, accepts, accepted, isFirst, written, given, writesClr, drops, kept, accessedBy, accessed, acted, answerTo, effects, clears}
+use Rattle.rules.specs.Access.{store, verdict, accepts, accepted, isFirst, written, given, writesClr, named, drops, kept, accessedBy, accessed, acted, answerTo, effects, clears}
 use Rattle.rules.specs.Map.{decode}
 use Rattle.rules.specs.Stages.{staged, dropped}
 use Rattle.rules.specs.State.{classCount, withStages}
@@ -36,8 +36,8 @@ module _ (h : Handler) (x : Access) where
       by v y = accessedBy v h y .handler ≡ withStages (accessedBy v h y .handler .stages) (storedBy h y)
 
       -- a refused access stores nothing
-      kept-is : (m : Refusal) (y : Access) → kept m h y ≡ withStages (kept m h y .stages) h
-      kept-is m y = pick (λ (g : Handler). g ≡ withStages (g .stages) h) (drops m) _ _ (λ _. refl) (λ _. refl)
+      kept-is : (m : Refusal) (q : Register) → kept m h q ≡ withStages (kept m h q .stages) h
+      kept-is m q = pick (λ (g : Handler). g ≡ withStages (g .stages) h) (drops m) _ _ (λ _. refl) (λ _. refl)
 
       -- an accepted write, first or not
       written-is : (q : Register) (v : ℕ) → written h q v ≡ withStages (written h q v .stages) (cond (not (isFirst h q)) (store h q v) h)
@@ -56,12 +56,12 @@ module _ (h : Handler) (x : Access) where
           written-is (decode (h .n) r) v
           ∙ ap (λ (t : Verdict). withStages (written h (decode (h .n) r) v .stages) (cond (accepts t && not (isFirst h (decode (h .n) r))) (store h (decode (h .n) r) v) h)) (sym d)
       go Access.Malformed Verdict.Accepted d = refl
-      go Access.Nothing (Verdict.Refused m) d = kept-is m Access.Nothing
-      go (Access.Read r) (Verdict.Refused m) d = kept-is m (Access.Read r)
+      go Access.Nothing (Verdict.Refused m) d = kept-is m (named h Access.Nothing)
+      go (Access.Read r) (Verdict.Refused m) d = kept-is m (decode (h .n) r)
       go (Access.Write r v) (Verdict.Refused m) d =
-          kept-is m (Access.Write r v)
-          ∙ ap (λ (t : Verdict). withStages (kept m h (Access.Write r v) .stages) (cond (accepts t && not (isFirst h (decode (h .n) r))) (store h (decode (h .n) r) v) h)) (sym d)
-      go Access.Malformed (Verdict.Refused m) d = kept-is m Access.Malformed
+          kept-is m (decode (h .n) r)
+          ∙ ap (λ (t : Verdict). withStages (kept m h (decode (h .n) r) .stages) (cond (accepts t && not (isFirst h (decode (h .n) r))) (store h (decode (h .n) r) v) h)) (sym d)
+      go Access.Malformed (Verdict.Refused m) d = kept-is m (named h Access.Malformed)
 
   -- so what holds of that whatever the stages holds of what the access leaves
   pub acted-but-stages : (P : Handler → Type 0) → ((s : Stages) → P (withStages s (storedBy h x))) → P (acted h x)

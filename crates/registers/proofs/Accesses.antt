@@ -5,12 +5,15 @@ use mathlib.Core.Path.{_≡_, refl, sym, ap, fun-ext}
 use mathlib.Core.Bool.{Bool, true, false, cond, _&&_}
 use Rattle.bits.specs.Bits.{bitsOf}
 use Rattle.rules.specs.Answer.{firstOf}
-use Rattle.rules.specs.Access.{malformed, noRegister, wrongWay, tooWide, verdict, drops, accessedBy, accessed}
+use Rattle.rules.specs.Access.{malformed, noRegister, wrongWay, tooWide, verdict, drops, kept, accessedBy, accessed}
+use Rattle.rules.specs.Stages.{dropped}
+use Rattle.rules.specs.State.{withStages}
 use Rattle.rules.specs.declared.Access.{Access}
 use Rattle.rules.specs.declared.Accessed.{Accessed}
 use Rattle.rules.specs.declared.Answer.{Answer}
 use Rattle.rules.specs.declared.Handler.{Handler}
 use Rattle.rules.specs.declared.Refusal.{Refusal}
+use Rattle.rules.specs.declared.Register.{Register}
 use Rattle.rules.specs.declared.Verdict.{Verdict}
 
 -- ── the classes with an accepted clear ──
@@ -35,9 +38,8 @@ bits-swap a b f = ap (bitsOf 4) (fun-ext (λ (k : ℕ). swap a b (f k)))
 
 -- ── what a refused access leaves ──
 
--- the state h, or g where a stage is dropped
-pub dropped-by : (h g : Handler) (m : Refusal) (b : Bool) → drops m ≡ b → cond b g h ≡ cond (drops m) g h
-dropped-by h g m b e = ap (λ (t : Bool). cond t g h) (sym e)
+pub dropped-kept : (h : Handler) (q : Register) (m : Refusal) (b : Bool) → drops m ≡ b → cond b (withStages (dropped q (h .stages)) h) h ≡ kept m h q
+dropped-kept h q m b e = ap (λ (t : Bool). cond t (withStages (dropped q (h .stages)) h) h) (sym e)
 
 -- ── by the verdict ──
 

@@ -19,14 +19,12 @@ use rules::Register;
 use rules::Setting;
 use rules::Verdict;
 ghost use mathlib.Core.Path.{_≡_};
-ghost use mathlib.Core.Bool.{false, cond, _&&_};
+ghost use mathlib.Core.Bool.{false, _&&_};
 ghost use lib.Dec.{eqb};
 ghost use Prim.Native.Nat.{_^_, _<_};
 ghost use Rattle.bits.specs.Bits.{bitsOf};
 ghost use Rattle.rules.specs.Map.{bits};
-ghost use Rattle.rules.specs.Access.{settingIsClr, isClrOf, tooWide, isFirst, written, left, given, writesClr, named, drops, raisedBy, accessed};
-ghost use Rattle.rules.specs.Stages.{dropped};
-ghost use Rattle.rules.specs.State.{withStages};
+ghost use Rattle.rules.specs.Access.{settingIsClr, isClrOf, tooWide, isFirst, written, left, given, writesClr, named, drops, kept, raisedBy, accessed};
 
 fn is_clr(s: Setting) -> bool
     ensures { λ r. ⌜ r ≡ settingIsClr s ⌝ }
@@ -142,7 +140,7 @@ fn raises_of(m: Refusal) -> u8
 
 // What a refused access that names q leaves.
 fn keep(h: Handler, q: Register, m: Refusal) -> Handler
-    ensures { λ r. ⌜ r ≡ cond (drops m) (withStages (dropped q (h .stages)) h) h ⌝ }
+    ensures { λ r. ⌜ r ≡ kept m h q ⌝ }
 {
     if drops_stage(m) { drop_stage(h, q) } else { h }
 }

@@ -249,8 +249,8 @@ named h Malformed = Unassigned
 abbrev pub drops : Refusal → Bool
 drops m = eqb (refusalNumber m) 3 || eqb (refusalNumber m) 12
 
-abbrev pub kept : Refusal → Handler → Access → Handler
-kept m h x = cond (drops m) (withStages (dropped (named h x) (h .stages)) h) h
+abbrev pub kept : Refusal → Handler → Register → Handler
+kept m h q = cond (drops m) (withStages (dropped q (h .stages)) h) h
 
 -- 12 raises local 5, shadow update
 abbrev pub raisedBy : Refusal → ℕ
@@ -261,7 +261,7 @@ abbrev pub accessedBy : Verdict → Handler → Access → Accessed
 accessedBy Verdict.Accepted h x =
     record { handler = left h x; answer = given h x; effects = record { clears = bitsOf 4 (writesClr h x); raises = 0 } }
 accessedBy (Verdict.Refused m) h x =
-    record { handler = kept m h x; answer = Answer.Refused m; effects = record { clears = 0; raises = raisedBy m } }
+    record { handler = kept m h (named h x); answer = Answer.Refused m; effects = record { clears = 0; raises = raisedBy m } }
 
 unfoldable pub accessed : Handler → Access → Accessed
 accessed h x = accessedBy (verdict h x) h x

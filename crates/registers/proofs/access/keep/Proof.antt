@@ -2,9 +2,7 @@
 -- Assumes nothing.
 use mathlib.Core.Path.{sym, _∙_}
 use mathlib.Core.Bool.{true, false}
-use Rattle.rules.specs.Stages.{dropped}
-use Rattle.rules.specs.State.{withStages}
-use Rattle.registers.proofs.Accesses.{dropped-by}
+use Rattle.registers.proofs.Accesses.{dropped-kept}
 use borrow.Author.Needs.{needs}
 use Rattle.registers.proofs.access.keep.Statement.{statement}
 use Rattle.registers.proofs.access.keep.Tie as tie
@@ -18,13 +16,12 @@ drop-stage-requires c κs = search needs
 returns : tie.Need-returns
 returns c =
     let a = c .before .before .before .args in
-    c .drop-stage .ensures
-    ∙ dropped-by (a .h) (withStages (dropped (a .q) (a .h .stages)) (a .h)) (a .m) true (sym (c .before .before .drops-stage .ensures) ∙ c .before .if1 .taken)
+    c .drop-stage .ensures ∙ dropped-kept (a .h) (a .q) (a .m) true (sym (c .before .before .drops-stage .ensures) ∙ c .before .if1 .taken)
 
 returns-2 : tie.Need-returns-2
 returns-2 c =
     let a = c .before .before .args in
-    dropped-by (a .h) (withStages (dropped (a .q) (a .h .stages)) (a .h)) (a .m) false (sym (c .before .drops-stage .ensures) ∙ c .if1 .left)
+    dropped-kept (a .h) (a .q) (a .m) false (sym (c .before .drops-stage .ensures) ∙ c .if1 .left)
 
 pub keep-spec : {M : Type 1} → statement M
 keep-spec = tie.close (tie.spec drops-stage-requires drop-stage-requires returns returns-2)
