@@ -16,7 +16,7 @@ use Rattle.rules.specs.declared.Edition.{Edition}
 use Rattle.rules.specs.declared.Handler.{Handler}
 use Rattle.rules.specs.declared.Input.{Input}
 use Rattle.rules.specs.declared.Ticked.{Ticked}
-use Rattle.rules.specs.Word.{readOf, wordOf}
+use Rattle.rules.specs.Word.{readOf, wordBy, wordOf}
 use Rattle.rules.specs.Record.{inputsOf, recordCount}
 use Rattle.laws.proofs.BatchLaws.{admits-valid, batch-good}
 use Rattle.laws.proofs.KeepsValid.{run-valid}
@@ -27,7 +27,7 @@ use Rattle.batch.proofs.Running.{length-inputs}
 
 -- the word past the last tick
 no-word : wordOf noTick ≡ 0
-unfolding wordOf pack bit
+unfolding wordOf wordBy pack bit
 no-word = refl
 
 -- a batch that is not refused

@@ -8,7 +8,6 @@ use native.Mathlib.Omega.{arith}
 use lib.ListN.{length, getD, set, take, drop, length-set, length-map}
 use lib.Seq.{take-suc, take-all, length-take-le, drop-cons, set-at, append-snoc}
 use Rattle.bits.proofs.IndexLaws.{at-each, length-each}
-use Rattle.bits.specs.Fields.{pack}
 use Rattle.rules.specs.Edition.{recordBytes}
 use Rattle.rules.specs.Record.{inputOf, inputsOf, recordAt, recordCount}
 use Rattle.rules.specs.Run.{run, ticks}
@@ -19,7 +18,7 @@ use Rattle.rules.specs.declared.Edition.{Edition}
 use Rattle.rules.specs.declared.Handler.{Handler}
 use Rattle.rules.specs.declared.Input.{Input}
 use Rattle.rules.specs.declared.Ticked.{Ticked}
-use Rattle.rules.specs.Word.{wordLayout, wordFields, wordOf}
+use Rattle.rules.specs.Word.{wordBy, wordOf}
 use Rattle.laws.proofs.KeepsValid.{run-valid}
 use Rattle.laws.proofs.PartLaws.{some-bytes, part-within}
 use Rattle.laws.proofs.Refusal7.{ticked-good}
@@ -103,7 +102,7 @@ module _ (h : Handler) (xs : List Input) (old : List ℕ) (v : valid h ≡ true)
 
 -- record i, its tick and its word
 module _ (e : Edition) (h : Handler) (bytes old : List ℕ) (v : valid h ≡ true) (g : Handler) (out : List ℕ) (i : ℕ) (r : Running h (inputsOf e bytes) old g out i) (l : i < recordCount e bytes) (m : i < length old) where
-  pub next-record : (x : Input) (t : Ticked) (w : ℕ) → x ≡ inputOf e (recordAt e bytes i) → t ≡ tick g x → w ≡ pack wordLayout (wordFields (t .output) (t .answer))
+  pub next-record : (x : Input) (t : Ticked) (w : ℕ) → x ≡ inputOf e (recordAt e bytes i) → t ≡ tick g x → w ≡ wordBy (t .output .interrupts) (t .output .lines) (t .answer)
       → Running h (inputsOf e bytes) old (t .handler) (set out i w) (suc i)
   unfolding wordOf
   next-record x t w z f u =

@@ -48,9 +48,8 @@ fn run_records(edition: Edition, h: Handler, bytes: &[u8], out: &mut [u64], coun
         if quiet.holds {
             let before = g.classes;
             let moved = moved_by(before, g.interrupts);
-            let output = moved.output;
             let answer = quiet.answer;
-            out[i] = word(output, answer);
+            out[i] = word(moved.interrupts, moved.lines, answer);
             let links = quiet.links;
             let classes = moved.classes;
             g.links = links;
@@ -60,9 +59,8 @@ fn run_records(edition: Edition, h: Handler, bytes: &[u8], out: &mut [u64], coun
             continue;
         }
         let t = step(g, x);
-        let output = t.output;
         let answer = t.answer;
-        out[i] = word(output, answer);
+        out[i] = word(t.output.interrupts, t.output.lines, answer);
         g = t.handler;
         i += 1;
     }

@@ -24,9 +24,10 @@ movedBy before x =
     record {
       classes = cs;
       state = i;
-      output = record { interrupts = interruptsOn i (x .enable); lines = linesOn cs };
+      interrupts = interruptsOn i (x .enable);
+      lines = linesOn cs;
     }
 
 -- the tick of h that gives the answer a, and moves and puts out what these links and m say
 abbrev pub ended : Handler → Answer → Links → Moved → Ticked
-ended h a links m = record { handler = withMoved links m h; answer = a; output = m .output }
+ended h a links m = record { handler = withMoved links m h; answer = a; output = record { interrupts = m .interrupts; lines = m .lines } }

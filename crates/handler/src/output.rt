@@ -6,14 +6,14 @@ ghost use mathlib.Core.Path.{_≡_};
 ghost use Rattle.handler.specs.Outputs.{interruptsOn, linesOn};
 
 // Interrupts are INTR_STATE and INTR_ENABLE, bit by bit.
-fn interrupts(state: u8, enable: u8) -> u8
+pub fn interrupts_on(state: u8, enable: u8) -> u8
     ensures { λ r. ⌜ r ≡ interruptsOn state enable ⌝ }
 {
     (state & enable) % 16
 }
 
 // A line is on if any class drives it.
-fn lines_of(classes: [Class; 4]) -> u8
+pub fn lines_on(classes: [Class; 4]) -> u8
     ensures { λ r. ⌜ r ≡ linesOn classes ⌝ }
 {
     let a = lines(classes[0]);
@@ -28,7 +28,7 @@ pub fn output(classes: [Class; 4], state: u8, enable: u8) -> Output
     ensures { λ r. ⌜ r ≡ record { interrupts = interruptsOn state enable; lines = linesOn classes } ⌝ }
 {
     Output {
-        interrupts: interrupts(state, enable),
-        lines: lines_of(classes),
+        interrupts: interrupts_on(state, enable),
+        lines: lines_on(classes),
     }
 }

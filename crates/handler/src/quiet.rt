@@ -2,7 +2,8 @@
 // alone can move then, so that the state need not be handed from step to step.
 use crate::classes::classes_after;
 use crate::classes::interrupts_after;
-use crate::output::output;
+use crate::output::interrupts_on;
+use crate::output::lines_on;
 use class_rules::Class;
 use registers::unmoved::unmoved_by;
 use rules::Answer;
@@ -10,7 +11,6 @@ use rules::Handler;
 use rules::Input;
 use rules::Interrupts;
 use rules::Links;
-use rules::Output;
 use samples::links::links_after;
 ghost use mathlib.Core.Path.{_≡_};
 ghost use mathlib.Core.Bool.{true};
@@ -26,11 +26,12 @@ pub struct Quiet {
     pub answer: Answer,
 }
 
-// What it moves beside the links, the classes and INTR_STATE, and the outputs.
+// What it moves beside the links, the classes and INTR_STATE, and the interrupts and lines that it puts out.
 pub struct Moved {
     pub classes: [Class; 4],
     pub state: u8,
-    pub output: Output,
+    pub interrupts: u8,
+    pub lines: u8,
 }
 
 // Steps 1 and 2, of a state that was found valid.
@@ -52,15 +53,15 @@ pub fn quiet_of(h: Handler, x: Input) -> Quiet
 }
 
 // Steps 3 to 5, with nothing assigned to a class and no clear.
-pub fn moved_by(before: [Class; 4], interrupts: Interrupts) -> Moved
-    ensures { λ r. ⌜ r ≡ movedBy before interrupts ⌝ }
+pub fn moved_by(before: [Class; 4], registers: Interrupts) -> Moved
+    ensures { λ r. ⌜ r ≡ movedBy before registers ⌝ }
 {
-    let state = interrupts_after(before, interrupts.state, 0);
-    let classes = classes_after(before, interrupts.state, 0, 0);
-    let out = output(classes, state, interrupts.enable);
+    let state = interrupts_after(before, registers.state, 0);
+    let classes = classes_after(before, registers.state, 0, 0);
     Moved {
         classes,
         state,
-        output: out,
+        interrupts: interrupts_on(state, registers.enable),
+        lines: lines_on(classes),
     }
 }

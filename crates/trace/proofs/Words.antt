@@ -15,11 +15,10 @@ use Rattle.bits.proofs.FieldLaws.{unpack-pack}
 use Rattle.bits.proofs.PackLaws.{fit-append}
 use Rattle.rules.specs.Answer.{refusalNumber}
 use Rattle.rules.specs.declared.Answer.{Answer}
-use Rattle.rules.specs.declared.Output.{Output}
 use Rattle.rules.specs.declared.Refusal.{Refusal}
 use Rattle.rules.specs.declared.Refusal.the-variants.{NoRegister, WrongWay, Locked, TooWide, BadRecord, BadCount, BadState, BadLength, ShortList, NoRecord, ShortBuffer, Differs, SillyThreshold}
 use Rattle.rules.specs.declared.Ticked.{Ticked}
-use Rattle.rules.specs.Word.{wordLayout, refusalOf, readOf, wordFields, wordOf}
+use Rattle.rules.specs.Word.{wordLayout, refusalOf, readOf, wordFields, wordBy, wordOf}
 use Rattle.trace.proofs.Digits.{num-one}
 
 -- a refusal number is below 16, so that 4 bits hold it
@@ -46,9 +45,9 @@ answer-lt (Answer.Refused m) = refusal-lt m
 four-fit : (x : ℕ) → Fit (1 ∷ 1 ∷ 1 ∷ 1 ∷ []) (num (bit x 0) ∷ num (bit x 1) ∷ num (bit x 2) ∷ num (bit x 3) ∷ [])
 four-fit x = one (num-lt (bit x 0)) (one (num-lt (bit x 1)) (one (num-lt (bit x 2)) (one (num-lt (bit x 3)) none)))
 
-fields-fit : (o : Output) (a : Answer) → readOf a < 2 ^ 32 → Fit wordLayout (wordFields o a)
-fields-fit o a h =
-    fit-append (four-fit (o .interrupts)) (fit-append (four-fit (o .lines)) (one (answer-lt a) (one (pow-pos 20) (one h none))))
+fields-fit : (interrupts lines : ℕ) (a : Answer) → readOf a < 2 ^ 32 → Fit wordLayout (wordFields interrupts lines a)
+fields-fit interrupts lines a h =
+    fit-append (four-fit interrupts) (fit-append (four-fit lines) (one (answer-lt a) (one (pow-pos 20) (one h none))))
 
 -- "Reading a refusal as a value": an answer has no read value where it has a refusal number
 reads-none : (a : Answer) → (refusalOf a ≡ 0 → ⊥) → readOf a ≡ 0
@@ -65,12 +64,15 @@ below-4 f g a b c d (suc (suc (suc (suc k)))) l = absurd (omega arith)
 
 -- of a tick whose read value has 32 bits, as every register's has
 module _ (t : Ticked) (h : readOf (t .answer) < 2 ^ 32) where
-  -- the fields of the word are the interrupts, lines, refusal number, 20 zeros and read value
-  pub word-fields : unpack wordLayout (wordOf t) ≡ wordFields (t .output) (t .answer)
-  unfolding wordOf
-  word-fields = unpack-pack (fields-fit (t .output) (t .answer) h)
+  abbrev fields : List ℕ
+  fields = wordFields (t .output .interrupts) (t .output .lines) (t .answer)
 
-  word-at : (i : ℕ) → getD (unpack wordLayout (wordOf t)) i 0 ≡ getD (wordFields (t .output) (t .answer)) i 0
+  -- the fields of the word are the interrupts, lines, refusal number, 20 zeros and read value
+  pub word-fields : unpack wordLayout (wordOf t) ≡ fields
+  unfolding wordOf wordBy
+  word-fields = unpack-pack (fields-fit (t .output .interrupts) (t .output .lines) (t .answer) h)
+
+  word-at : (i : ℕ) → getD (unpack wordLayout (wordOf t)) i 0 ≡ getD fields i 0
   word-at i = ap (λ (xs : List ℕ). getD xs i 0) word-fields
 
   pub word-refusal : field 52 4 (wordOf t) ≡ refusalOf (t .answer)
@@ -90,7 +92,7 @@ module _ (t : Ticked) (h : readOf (t .answer) < 2 ^ 32) where
   refused-reads-none r = word-read ∙ reads-none (t .answer) (λ e. r (word-refusal ∙ e))
 
   -- the fields of one bit
-  bit-at : (i : ℕ) → eqb (getD (unpack wordLayout (wordOf t)) i 0) 1 ≡ eqb (getD (wordFields (t .output) (t .answer)) i 0) 1
+  bit-at : (i : ℕ) → eqb (getD (unpack wordLayout (wordOf t)) i 0) 1 ≡ eqb (getD fields i 0) 1
   bit-at i = ap (λ (d : ℕ). eqb d 1) (word-at i)
 
   -- class 0 first: the interrupt of class k is bit 63 - k

@@ -1,13 +1,12 @@
 // "Traces": the word of a tick.
 use answers::refusal_number;
 use rules::Answer;
-use rules::Output;
 ghost use mathlib.Core.Path.{_≡_};
 ghost use mathlib.Core.List.{[], _∷_};
 ghost use Prim.Native.Nat.{_<_};
 ghost use Rattle.bits.specs.Bits.{bit, num};
 ghost use Rattle.bits.specs.Fields.{pack};
-ghost use Rattle.rules.specs.Word.{wordLayout, refusalOf, readOf, wordFields};
+ghost use Rattle.rules.specs.Word.{refusalOf, readOf, wordBy};
 
 // Bit k as a number.
 fn digit(x: u8, k: u32) -> u64
@@ -47,12 +46,13 @@ fn read_of(a: Answer) -> u32
 }
 
 // Interrupts (4 bits, class 0 first), lines (4, line 0 first), refusal number (4), 20 zeros, read value or 0.
-pub fn word(o: Output, a: Answer) -> u64
-    ensures { λ r. ⌜ r ≡ pack wordLayout (wordFields o a) ⌝ }
+// It takes no `Output`, so that a caller need not build the outputs that a word does not show.
+pub fn word(interrupts: u8, lines: u8, a: Answer) -> u64
+    ensures { λ r. ⌜ r ≡ wordBy interrupts lines a ⌝ }
 {
-    let interrupts = four(o.interrupts);
-    let lines = four(o.lines);
+    let classes = four(interrupts);
+    let on = four(lines);
     let refusal = refusal_of(a);
     let value = read_of(a) as u64;
-    (interrupts << 60) + (lines << 56) + (refusal << 52) + value
+    (classes << 60) + (on << 56) + (refusal << 52) + value
 }

@@ -48,14 +48,14 @@ word-requires : tie.Need-word-requires Inv-loop μ-loop
 word-requires c κs = search needs
 
 mul-out : tie.Need-mul-out Inv-loop μ-loop
-mul-out c = let begin = c .before .before .before .before .before .before .before .before .before .before .before .before in omega (arith, begin .pre .2, begin .good .1 .1 .1 .0 .1)
+mul-out c = let begin = c .before .before .before .before .before .before .before .before .before .before .before in omega (arith, begin .pre .2, begin .good .1 .1 .1 .0 .1)
 
 slice-write-out : tie.Need-slice-write-out Inv-loop μ-loop
-slice-write-out c = omega (arith, c .before .before .before .before .before .before .before .before .loop .inv .1 .same)
+slice-write-out c = omega (arith, c .before .before .before .before .before .before .before .loop .inv .1 .same)
 
 add-i : tie.Need-add-i Inv-loop μ-loop
 add-i c =
-    let test = c .before .before .before .before .before .before .before .before .before .before in
+    let test = c .before .before .before .before .before .before .before .before .before in
     let begin = test .before .before .before .before .before in
     search (test .loop-test .taken, begin .pre .2, begin .good .1 .1 .1 .0 .1, needs)
 
@@ -65,8 +65,8 @@ loop-less c = search needs
 loop-again : tie.Need-loop-again Inv-loop μ-loop
 loop-again c =
     let word = c .before .before .before in
-    let end = word .before .before .moved-by in
-    let quiet = word .before .before .before .before .before in
+    let end = word .before .moved-by in
+    let quiet = word .before .before .before .before in
     let input = quiet .before in
     let l = input .before .before .loop in
     let size = input .before .before .before .record-bytes in
@@ -76,7 +76,7 @@ loop-again c =
           (next-record (begin .args .edition) (begin .args .h) (begin .args .bytes .now) (begin .args .out .now) (begin .pre .0) (l .g) (l .out) (l .i) (l .inv .1) (omega arith) (omega arith)
           _ (ended (l .g) (quiet .quiet-of .result .answer) (quiet .quiet-of .result .links) (end .result)) _ (input .input-at .ensures
           ∙ ap (λ (n : ℕ). inputOf (begin .args .edition) (take (recordBytes (begin .args .edition)) (drop (l .i * n) (begin .args .bytes .now)))) (size .ensures))
-          (ap (ended (l .g) (quiet .quiet-of .result .answer) (quiet .quiet-of .result .links)) (end .ensures) ∙ quiet .quiet-of .ensures (word .before .before .before .before .if1 .taken))
+          (ap (ended (l .g) (quiet .quiet-of .result .answer) (quiet .quiet-of .result .links)) (end .ensures) ∙ quiet .quiet-of .ensures (word .before .before .before .if1 .taken))
           (word .word .ensures)),
     )
 
@@ -87,20 +87,20 @@ word-requires-2 : tie.Need-word-requires-2 Inv-loop μ-loop
 word-requires-2 c κs = search needs
 
 mul-out-2 : tie.Need-mul-out-2 Inv-loop μ-loop
-mul-out-2 c = let begin = c .before .before .before .before .before .before .before .before .before .before .before in omega (arith, begin .pre .2, begin .good .1 .1 .1 .0 .1)
+mul-out-2 c = let begin = c .before .before .before .before .before .before .before .before .before .before in omega (arith, begin .pre .2, begin .good .1 .1 .1 .0 .1)
 
 slice-write-out-2 : tie.Need-slice-write-out-2 Inv-loop μ-loop
-slice-write-out-2 c = omega (arith, c .before .before .before .before .before .before .before .loop .inv .1 .same)
+slice-write-out-2 c = omega (arith, c .before .before .before .before .before .before .loop .inv .1 .same)
 
 add-i-2 : tie.Need-add-i-2 Inv-loop μ-loop
-add-i-2 c = let begin = c .before .before .before .before .before .before .before .before .before .before .before .before in search (c .before .before .before .before .before .before .before .loop-test .taken, begin .pre .2, begin .good .1 .1 .1 .0 .1, needs)
+add-i-2 c = let begin = c .before .before .before .before .before .before .before .before .before .before .before in search (c .before .before .before .before .before .before .loop-test .taken, begin .pre .2, begin .good .1 .1 .1 .0 .1, needs)
 
 loop-less-2 : tie.Need-loop-less-2 Inv-loop μ-loop
 loop-less-2 c = search needs
 
 loop-again-2 : tie.Need-loop-again-2 Inv-loop μ-loop
 loop-again-2 c =
-    let input = c .before .before .before .before .before .before in
+    let input = c .before .before .before .before .before in
     let l = input .before .before .loop in
     let size = input .before .before .before .record-bytes in
     let begin = input .before .before .before .before .before .before in (
@@ -108,7 +108,7 @@ loop-again-2 c =
       rw add-one
           (next-record (begin .args .edition) (begin .args .h) (begin .args .bytes .now) (begin .args .out .now) (begin .pre .0) (l .g) (l .out) (l .i) (l .inv .1) (omega arith) (omega arith)
           _ _ _ (input .input-at .ensures
-          ∙ ap (λ (n : ℕ). inputOf (begin .args .edition) (take (recordBytes (begin .args .edition)) (drop (l .i * n) (begin .args .bytes .now)))) (size .ensures)) (c .before .before .before .step .ensures) (c .before .word2 .ensures)),
+          ∙ ap (λ (n : ℕ). inputOf (begin .args .edition) (take (recordBytes (begin .args .edition)) (drop (l .i * n) (begin .args .bytes .now)))) (size .ensures)) (c .before .before .step .ensures) (c .before .word2 .ensures)),
     )
 
 same-length : tie.Need-same-length Inv-loop μ-loop

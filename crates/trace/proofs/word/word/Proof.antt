@@ -3,6 +3,7 @@
 use native.Mathlib.Omega.{arith}
 use borrow.Author.Needs.{needs}
 use Rattle.bits.specs.Fields.{pack}
+use Rattle.rules.specs.Word.{wordBy}
 use Rattle.trace.proofs.word.word.Statement.{statement}
 use Rattle.trace.proofs.word.word.Tie as tie
 
@@ -31,7 +32,7 @@ add-result-3 : tie.Need-add-result-3
 add-result-3 c = search needs
 
 returns : tie.Need-returns
-unfolding pack
+unfolding pack wordBy
 returns c = omega arith
 
 pub word-spec : {M : Type 1} → statement M

@@ -1,12 +1,12 @@
--- `lines_of` has at bit e whether any class drives line e.
+-- `lines_on` has at bit e whether any class drives line e.
 -- Assumes nothing.
 use lib.ListN.{getD}
 use Rattle.class_rules.specs.Class.{drives, noClass}
 use Rattle.handler.specs.Outputs.{linesOn}
 use Rattle.handler.proofs.Masks.{or-four}
 use borrow.Author.Needs.{needs}
-use Rattle.handler.proofs.output.lines_of.Statement.{statement}
-use Rattle.handler.proofs.output.lines_of.Tie as tie
+use Rattle.handler.proofs.output.lines_on.Statement.{statement}
+use Rattle.handler.proofs.output.lines_on.Tie as tie
 
 array-copy-out-lines : tie.Need-array-copy-out-lines
 array-copy-out-lines c = search needs
@@ -49,8 +49,8 @@ returns c =
     (l3 .lines3 .ensures)
     (c .lines4 .ensures)
 
-pub lines-of-spec : {M : Type 1} → statement M
-lines-of-spec =
+pub lines-on-spec : {M : Type 1} → statement M
+lines-on-spec =
     tie.close
     (tie.spec
     array-copy-out-lines
