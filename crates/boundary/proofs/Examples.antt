@@ -133,13 +133,13 @@ records =
     ++ 0x80 ∷ 0x10 ∷ replicate 5 0 ++ 9 ∷ replicate 8 0 ++ 0x80 ∷ replicate 7 0
 
 module _ (r : Batched) (left : List ℕ) where
-  batched : BatchedBy Edition.Bytes24 (newHandler 1) records (7 ∷ 7 ∷ 7 ∷ 7 ∷ []) r left
+  batched : BatchedBy Edition.Alerts64 (newHandler 1) records (7 ∷ 7 ∷ 7 ∷ 7 ∷ []) r left
       → (r .answer ≡ pos 0) × (r .handler .interrupts .enable ≡ 9) × (left ≡ 0x393c ∷ 0x0010000000000000 ∷ 0 ∷ 7 ∷ [])
   unfolding rules
   batched b = (b .answer, ap (λ (h : Handler). h .interrupts .enable) (b .handler), b .words)
 
   -- a list shorter than the records: 9, state and list unchanged
-  too-short : BatchedBy Edition.Bytes24 (newHandler 1) records (7 ∷ 7 ∷ []) r left → (r .answer ≡ negsuc 8) × (r .handler ≡ newHandler 1) × (left ≡ 7 ∷ 7 ∷ [])
+  too-short : BatchedBy Edition.Alerts64 (newHandler 1) records (7 ∷ 7 ∷ []) r left → (r .answer ≡ negsuc 8) × (r .handler ≡ newHandler 1) × (left ≡ 7 ∷ 7 ∷ [])
   unfolding rules
   too-short b = (b .answer, b .handler, b .words)
 

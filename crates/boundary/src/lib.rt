@@ -66,19 +66,19 @@ pub extern "C" fn tarravane_tick(
 // The ticks of the old records, of 24 bytes, a word for each.
 #[no_mangle]
 pub extern "C" fn tarravane_batch_24(h: Handler, bytes: &[u8], out: &mut [u64]) -> Batched
-    ensures { λ r. ⌜ BatchedBy Edition.Bytes24 h (now (bytes .entry)) (now (out .entry)) r (now (out .exit)) ⌝ }
-    ensures demand3 { λ r. ⌜ (valid h ≡ true → Demand3 h (batchInputs Edition.Bytes24 (batchVerdict Edition.Bytes24 h (now (bytes .entry)) (now (out .entry))) (now (bytes .entry)))) ⌝ }
+    ensures { λ r. ⌜ BatchedBy Edition.Alerts64 h (now (bytes .entry)) (now (out .entry)) r (now (out .exit)) ⌝ }
+    ensures demand3 { λ r. ⌜ (valid h ≡ true → Demand3 h (batchInputs Edition.Alerts64 (batchVerdict Edition.Alerts64 h (now (bytes .entry)) (now (out .entry))) (now (bytes .entry)))) ⌝ }
 {
-    batch(Edition::Bytes24, h, bytes, out)
+    batch(Edition::Alerts64, h, bytes, out)
 }
 
 // The ticks of the newest records, of 70 bytes, a word for each.
 #[no_mangle]
 pub extern "C" fn tarravane_batch_70(h: Handler, bytes: &[u8], out: &mut [u64]) -> Batched
-    ensures { λ r. ⌜ BatchedBy Edition.Bytes70 h (now (bytes .entry)) (now (out .entry)) r (now (out .exit)) ⌝ }
-    ensures demand3 { λ r. ⌜ (valid h ≡ true → Demand3 h (batchInputs Edition.Bytes70 (batchVerdict Edition.Bytes70 h (now (bytes .entry)) (now (out .entry))) (now (bytes .entry)))) ⌝ }
+    ensures { λ r. ⌜ BatchedBy Edition.Alerts248 h (now (bytes .entry)) (now (out .entry)) r (now (out .exit)) ⌝ }
+    ensures demand3 { λ r. ⌜ (valid h ≡ true → Demand3 h (batchInputs Edition.Alerts248 (batchVerdict Edition.Alerts248 h (now (bytes .entry)) (now (out .entry))) (now (bytes .entry)))) ⌝ }
 {
-    batch(Edition::Bytes70, h, bytes, out)
+    batch(Edition::Alerts248, h, bytes, out)
 }
 
 // A record for each entry of the lent lists, into the lent buffer.

@@ -40,25 +40,25 @@ abbrev station : Handler
 station = post 2 class
 
 -- a record of each edition with no access and all wires at (0,1)
-abbrev rest24 : List ℕ
-rest24 = replicate 16 0 ++ replicate 8 255
+abbrev rest64 : List ℕ
+rest64 = replicate 16 0 ++ replicate 8 255
 
-abbrev rest70 : List ℕ
-rest70 = replicate 39 0 ++ replicate 31 255
+abbrev rest248 : List ℕ
+rest248 = replicate 39 0 ++ replicate 31 255
 
 abbrev starting : Call
 starting = Tick (raise 1 none)
 
 -- 71 bytes: refused with 8
 abbrev refused : Call
-refused = Batch Edition.Bytes70 (0 ∷ rest70) (5 ∷ 5 ∷ [])
+refused = Batch Edition.Alerts248 (0 ∷ rest248) (5 ∷ 5 ∷ [])
 
 -- two records of the old edition into a list of three, and one of the new
 abbrev old : Call
-old = Batch Edition.Bytes24 (rest24 ++ rest24) (7 ∷ 7 ∷ 7 ∷ [])
+old = Batch Edition.Alerts64 (rest64 ++ rest64) (7 ∷ 7 ∷ 7 ∷ [])
 
 abbrev new : Call
-new = Batch Edition.Bytes70 rest70 (9 ∷ [])
+new = Batch Edition.Alerts248 rest248 (9 ∷ [])
 
 abbrev calls : List Call
 calls = starting ∷ refused ∷ old ∷ new ∷ Tick (rest none) ∷ []
@@ -67,10 +67,10 @@ calls = starting ∷ refused ∷ old ∷ new ∷ Tick (rest none) ∷ []
 abbrev after : ℕ → Handler
 after i = leavesAll station (take i calls)
 
-gives : (batch Edition.Bytes70 (after 1) (0 ∷ rest70) (5 ∷ 5 ∷ []) .answer ≡ negsuc 7)
-    × (batch Edition.Bytes70 (after 1) (0 ∷ rest70) (5 ∷ 5 ∷ []) .out ≡ 5 ∷ 5 ∷ [])
-    × (batch Edition.Bytes24 (after 2) (rest24 ++ rest24) (7 ∷ 7 ∷ 7 ∷ []) .out ≡ 0x0800000000000000 ∷ 0x0400000000000000 ∷ 7 ∷ [])
-    × (batch Edition.Bytes70 (after 3) rest70 (9 ∷ []) .out ≡ 0x0400000000000000 ∷ [])
+gives : (batch Edition.Alerts248 (after 1) (0 ∷ rest248) (5 ∷ 5 ∷ []) .answer ≡ negsuc 7)
+    × (batch Edition.Alerts248 (after 1) (0 ∷ rest248) (5 ∷ 5 ∷ []) .out ≡ 5 ∷ 5 ∷ [])
+    × (batch Edition.Alerts64 (after 2) (rest64 ++ rest64) (7 ∷ 7 ∷ 7 ∷ []) .out ≡ 0x0800000000000000 ∷ 0x0400000000000000 ∷ 7 ∷ [])
+    × (batch Edition.Alerts248 (after 3) rest248 (9 ∷ []) .out ≡ 0x0400000000000000 ∷ [])
 unfolding rules leavesAll
 gives = (refl, refl, refl, refl)
 

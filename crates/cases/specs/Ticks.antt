@@ -28,7 +28,7 @@ broken x = bothHigh 0 x
 
 -- an access by document 01's numbers, as a record of 24 bytes gives it
 abbrev pub old : Access → Access
-old x = carried Edition.Bytes24 x
+old x = carried Edition.Alerts64 x
 
 -- the ticks that give a register a value: request (v), two equal writes
 abbrev pub configure : Register → ℕ → List Input

@@ -80,8 +80,8 @@ pub fn print_answer(a: i64) {
 fn old(x: Access) -> Access {
     match x {
         Access::Nothing => Access::Nothing,
-        Access::Read(r) => Access::Read(carry(Edition::Bytes24, r)),
-        Access::Write(r, v) => Access::Write(carry(Edition::Bytes24, r), v),
+        Access::Read(r) => Access::Read(carry(Edition::Alerts64, r)),
+        Access::Write(r, v) => Access::Write(carry(Edition::Alerts64, r), v),
         Access::Malformed => Access::Malformed,
     }
 }
@@ -119,7 +119,7 @@ pub fn show_value(h: Handler, r: u16) {
     print_number(
         register_file::read::value_of(
             h,
-            map::number::register_at(h.n, carry(Edition::Bytes24, r)),
+            map::number::register_at(h.n, carry(Edition::Alerts64, r)),
         ) as u64,
     );
     print(b" ");

@@ -8,34 +8,34 @@ use native.Mathlib.Decide.{decLt}
 use borrow.Author.Tests.{ltb-true, lt-ltb, le-ltb}
 use lib.Dec.{ltb}
 use Rattle.bits.proofs.IndexLaws.{and-true}
-use Rattle.rules.specs.Edition.{carried24, carry}
+use Rattle.rules.specs.Edition.{carried64, carry}
 use Rattle.rules.specs.Map.{decode, numberOf, isRegister, singleNumber, offset, stride, classBase}
 use Rattle.rules.specs.State.{localCount, classCount, fieldIndex}
-use Rattle.rules.specs.declared.Edition.the-variants.{Bytes24}
+use Rattle.rules.specs.declared.Edition.the-variants.{Alerts64}
 use Rattle.rules.specs.declared.Field.{Field}
 use Rattle.rules.specs.declared.Register.{Register}
 use Rattle.rules.specs.declared.Register.the-variants.{Only, Local, Alert, Block, Unassigned}
-use Rattle.laws.specs.Carry.{number24}
+use Rattle.laws.specs.Carry.{number64}
 use Rattle.laws.specs.InMap.{inMap, settingExists}
 use Rattle.laws.proofs.Cases.{by-field}
 use Rattle.laws.proofs.MapLaws.{single-lt, single-number, offset-lt, decode-number, number-decode, decode-in-map}
 
 -- ── a carried number, range by range ──
 
-low : (r : ℕ) → r < 64 → carried24 r ≡ r
-unfolding carried24
+low : (r : ℕ) → r < 64 → carried64 r ≡ r
+unfolding carried64
 low r h = rw (lt-ltb r 64 h)
 
-alerts : (r : ℕ) → 64 ≤ r → r < 320 → carried24 r ≡ r / 64 * stride + r % 64
-unfolding carried24
+alerts : (r : ℕ) → 64 ≤ r → r < 320 → carried64 r ≡ r / 64 * stride + r % 64
+unfolding carried64
 alerts r h l = rw (le-ltb r 64 h, lt-ltb r 320 l)
 
-classes : (r : ℕ) → 320 ≤ r → r < 384 → carried24 r ≡ classBase + (r - 320)
-unfolding carried24
+classes : (r : ℕ) → 320 ≤ r → r < 384 → carried64 r ≡ classBase + (r - 320)
+unfolding carried64
 classes r h l = rw (le-ltb r 64 (omega arith), le-ltb r 320 h, lt-ltb r 384 l)
 
-rest : (r : ℕ) → 384 ≤ r → carried24 r ≡ 3
-unfolding carried24 numberOf
+rest : (r : ℕ) → 384 ≤ r → carried64 r ≡ 3
+unfolding carried64 numberOf
 rest r h = rw (le-ltb r 64 (omega arith), le-ltb r 320 (omega arith), le-ltb r 384 h)
 
 -- ── from a register to its old number, carried, and to the register ──
@@ -44,7 +44,7 @@ field-small : (f : Field) → fieldIndex f < 4
 field-small f = by-field (λ f. fieldIndex f < 4) (omega arith) (omega arith) (omega arith) (omega arith) f
 
 -- an old number is carried to the register's number
-carried-number : (n : ℕ) (q : Register) → n ≤ 64 → inMap n q ≡ true → carried24 (number24 q) ≡ numberOf q
+carried-number : (n : ℕ) (q : Register) → n ≤ 64 → inMap n q ≡ true → carried64 (number64 q) ≡ numberOf q
 unfolding numberOf
 carried-number n (Only o) h e = low (singleNumber o) (omega (arith, single-lt o))
 carried-number n (Local f j) h e =
@@ -64,25 +64,25 @@ carried-number n (Block s k) h e =
 carried-number n Unassigned h e = absurd (false≢true e)
 
 -- so it decodes to the same register
-pub decode-carried : (n : ℕ) (q : Register) → n ≤ 64 → inMap n q ≡ true → decode n (carry Bytes24 (number24 q)) ≡ q
+pub decode-carried : (n : ℕ) (q : Register) → n ≤ 64 → inMap n q ≡ true → decode n (carry Alerts64 (number64 q)) ≡ q
 decode-carried n q h e = ap (decode n) (carried-number n q h e) ∙ decode-number n q (omega arith) e
 
 -- ── from an old number to the register that it reaches, and to the number ──
 
 -- a register of a handler of at most 64 alerts is reached by its own old number alone
 module _ (n r : ℕ) (h : n ≤ 64) where
-  own : (q : Register) → isRegister q ≡ true → inMap n q ≡ true → numberOf q ≡ carried24 r → number24 q ≡ r
+  own : (q : Register) → isRegister q ≡ true → inMap n q ≡ true → numberOf q ≡ carried64 r → number64 q ≡ r
   unfolding numberOf
   own q i e m = by (decLt r 64) (decLt r 320) (decLt r 384) q i e m
     where
-      low-register : (q : Register) → r < 64 → isRegister q ≡ true → inMap n q ≡ true → numberOf q ≡ r → number24 q ≡ r
+      low-register : (q : Register) → r < 64 → isRegister q ≡ true → inMap n q ≡ true → numberOf q ≡ r → number64 q ≡ r
       low-register (Only o) l i e m = m
       low-register (Local f j) l i e m = m
       low-register (Alert f k) l i e m = absurd (omega arith)
       low-register (Block s k) l i e m = absurd (omega arith)
       low-register Unassigned l i e m = absurd (false≢true i)
 
-      alert-register : (q : Register) → 64 ≤ r → r < 320 → isRegister q ≡ true → inMap n q ≡ true → numberOf q ≡ r / 64 * stride + r % 64 → number24 q ≡ r
+      alert-register : (q : Register) → 64 ≤ r → r < 320 → isRegister q ≡ true → inMap n q ≡ true → numberOf q ≡ r / 64 * stride + r % 64 → number64 q ≡ r
       alert-register (Only o) a b i e m = absurd (omega (arith, single-lt o))
       alert-register (Local f j) a b i e m =
           let l : j < localCount = ltb-true j localCount e in
@@ -93,7 +93,7 @@ module _ (n r : ℕ) (h : n ≤ 64) where
       alert-register (Block s k) a b i e m = absurd (omega arith)
       alert-register Unassigned a b i e m = absurd (false≢true i)
 
-      class-register : (q : Register) → 320 ≤ r → r < 384 → isRegister q ≡ true → inMap n q ≡ true → numberOf q ≡ classBase + (r - 320) → number24 q ≡ r
+      class-register : (q : Register) → 320 ≤ r → r < 384 → isRegister q ≡ true → inMap n q ≡ true → numberOf q ≡ classBase + (r - 320) → number64 q ≡ r
       class-register (Only o) a b i e m = absurd (omega (arith, single-lt o))
       class-register (Local f j) a b i e m =
           let l : j < localCount = ltb-true j localCount e in
@@ -111,14 +111,14 @@ module _ (n r : ℕ) (h : n ≤ 64) where
       no-register (Block s k) i m = omega arith
       no-register Unassigned i m = false≢true i
 
-      by : Dec (r < 64) → Dec (r < 320) → Dec (r < 384) → (q : Register) → isRegister q ≡ true → inMap n q ≡ true → numberOf q ≡ carried24 r → number24 q ≡ r
+      by : Dec (r < 64) → Dec (r < 320) → Dec (r < 384) → (q : Register) → isRegister q ≡ true → inMap n q ≡ true → numberOf q ≡ carried64 r → number64 q ≡ r
       by (yes a) b c q i e m = low-register q a i e (m ∙ low r a)
       by (no a) (yes b) c q i e m = alert-register q (omega arith) b i e (m ∙ alerts r (omega arith) b)
       by (no a) (no b) (yes c) q i e m = class-register q (omega arith) c i e (m ∙ classes r (omega arith) c)
       by (no a) (no b) (no c) q i e m = absurd (no-register q i (m ∙ rest r (omega arith)))
 
   -- an old number that reaches a register is that register's old number: so the map is one to one, and what was unassigned stays so
-  pub number-carried : isRegister (decode n (carry Bytes24 r)) ≡ true → number24 (decode n (carry Bytes24 r)) ≡ r
+  pub number-carried : isRegister (decode n (carry Alerts64 r)) ≡ true → number64 (decode n (carry Alerts64 r)) ≡ r
   number-carried i =
-      let c : ℕ = carry Bytes24 r in
+      let c : ℕ = carry Alerts64 r in
       own (decode n c) i (decode-in-map n c i) (number-decode n c i)

@@ -6,12 +6,12 @@ use native.Mathlib.Nat.{div-add-mod', div-self, mod-self, suc-mul, add-mul, le-d
 use native.Mathlib.Omega.{arith}
 use Rattle.rules.specs.Edition.{recordBytes}
 use Rattle.rules.specs.declared.Edition.{Edition}
-use Rattle.rules.specs.declared.Edition.the-variants.{Bytes24, Bytes70}
+use Rattle.rules.specs.declared.Edition.the-variants.{Alerts64, Alerts248}
 
 -- a record has bytes
 pub some-bytes : (e : Edition) → 0 < recordBytes e
-some-bytes Bytes24 = omega arith
-some-bytes Bytes70 = omega arith
+some-bytes Alerts64 = omega arith
+some-bytes Alerts248 = omega arith
 
 module _ (d : ℕ) (p : 0 < d) where
   -- nothing is left over

@@ -16,14 +16,15 @@ use Rattle.bits.proofs.ByteLaws.{length-bytes, is-byte, bytes-lt, to-of-bytes, 
 use Rattle.bits.proofs.FieldLaws.{pack-lt, unpack-pack, pack-unpack, unpack-fits}
 use Rattle.bits.proofs.IndexLaws.{and-true}
 use Rattle.rules.specs.Access.{malformed}
-use Rattle.rules.specs.Edition.{recordBytes, registerBits, zeroBits, alerts}
-use Rattle.rules.specs.Record.{layout, valueBits, accessOf, accessIn, inputOfFields, heldIn, kindOf, registerOf, valueOf, fieldsOfInput, recordOf, recordable}
+use Rattle.rules.specs.Edition.{recordBytes, registerBits, zeroBits, alerts, tail}
+use Rattle.rules.specs.Record.{layout, valueBits, accessOf, accessIn, inputOfFields, heldIn, kindOf, registerOf, valueOf, tailFields, fieldsOfInput, recordOf, recordable}
 use Rattle.rules.specs.Writer.{Wired}
 use Rattle.rules.specs.declared.Access.{Access}
 use Rattle.rules.specs.declared.Access.the-variants.{Nothing, Read, Write, Malformed}
 use Rattle.rules.specs.declared.Edition.{Edition}
-use Rattle.rules.specs.declared.Edition.the-variants.{Bytes24, Bytes70}
+use Rattle.rules.specs.declared.Edition.the-variants.{Alerts64, Alerts248}
 use Rattle.rules.specs.declared.Input.{Input}
+use Rattle.rules.specs.declared.Sample.{Sample}
 use Rattle.laws.specs.Wires.{shown}
 use Rattle.laws.proofs.WireLaws.{wires-lt, wires-back}
 
@@ -37,8 +38,8 @@ record-byte e x i = is-byte (recordBytes e) (pack (layout e) (fieldsOfInput e x)
 
 -- the fields fill the bytes
 layout-bytes : (e : Edition) → total (layout e) ≡ 8 * recordBytes e
-layout-bytes Bytes24 = refl
-layout-bytes Bytes70 = refl
+layout-bytes Alerts64 = refl
+layout-bytes Alerts248 = refl
 
 -- ── from an access and sample to bytes and back ──
 
@@ -63,6 +64,11 @@ value-lt e (Read r) t = pow-pos valueBits
 value-lt e (Write r v) t = ltb-true v (2 ^ valueBits) (and-true (fits (registerBits e) r) (fits valueBits v) t .1)
 value-lt e Malformed t = pow-pos valueBits
 
+-- those of a tail do
+tail-fits : (e : Edition) (s : Sample) → Fit (tail e) (tailFields e s)
+tail-fits Alerts64 s = none
+tail-fits Alerts248 s = none
+
 -- and give the access
 access-back : (e : Edition) (a : Access) → recordable e a ≡ true → accessOf (kindOf a) (registerOf a) (valueOf a) ≡ a
 unfolding recordable accessOf
@@ -75,7 +81,7 @@ module _ (e : Edition) (x : Input) (w : Wired x) (t : recordable e (x .access) �
   fields-fit : Fit (layout e) (fieldsOfInput e x)
   fields-fit =
       one (kind-lt (x .access)) (one (register-lt e (x .access) t) (one (pow-pos (zeroBits e)) (one (value-lt e (x .access) t)
-      (one (wires-lt e (x .sample .alerts .pos) (w .positive)) (one (wires-lt e (x .sample .alerts .neg) (w .negative)) none)))))
+      (one (wires-lt e (x .sample .alerts .pos) (w .positive)) (one (wires-lt e (x .sample .alerts .neg) (w .negative)) (tail-fits e (x .sample)))))))
 
   -- reading the record gives the same access, and the wires that the edition has a place for
   pub input-record : heldIn e (recordOf e x) ≡ shown e x
@@ -110,29 +116,35 @@ not-bad : (b : Bool) (a : Access) → b ≡ false → malformed (cond b a Malfor
 not-bad true a p q = false≢true (sym p)
 not-bad false a p q = false≢true (sym q)
 
-pub access-fields : (k r z v : ℕ) → malformed (accessIn k r z v) ≡ false → FieldsOf (accessIn k r z v) k r z v
+pub access-fields : (k r z v : ℕ) (ts : List ℕ) → malformed (accessIn (k ∷ r ∷ z ∷ v ∷ []) ts) ≡ false → FieldsOf (accessIn (k ∷ r ∷ z ∷ v ∷ []) ts) k r z v
 unfolding accessOf
-access-fields zero zero zero zero f = record { has-kind = refl; has-register = refl; has-zeros = refl; has-value = refl }
-access-fields zero zero zero (suc v) f = absurd (not-bad (eqb (suc v) 0) Nothing (eqb·suc-zero v) f)
-access-fields zero (suc r) zero v f = absurd (not-bad (eqb (suc r) 0 && eqb v 0) Nothing (ap (λ (b : Bool). b && eqb v 0) (eqb·suc-zero r)) f)
-access-fields (suc zero) r zero zero f = record { has-kind = refl; has-register = refl; has-zeros = refl; has-value = refl }
-access-fields (suc zero) r zero (suc v) f = absurd (not-bad (eqb (suc v) 0) (Read r) (eqb·suc-zero v) f)
-access-fields (suc (suc zero)) r zero v f = record { has-kind = refl; has-register = refl; has-zeros = refl; has-value = refl }
-access-fields (suc (suc (suc k))) r zero v f = absurd (false≢true (sym f ∙ ap malformed (kind-over (suc (suc (suc k))) r v (omega arith))))
-access-fields k r (suc z) v f = absurd (not-bad (eqb (suc z) 0) (accessOf k r v) (eqb·suc-zero z) f)
+access-fields zero zero zero zero ts f = record { has-kind = refl; has-register = refl; has-zeros = refl; has-value = refl }
+access-fields zero zero zero (suc v) ts f = absurd (not-bad (eqb (suc v) 0) Nothing (eqb·suc-zero v) f)
+access-fields zero (suc r) zero v ts f = absurd (not-bad (eqb (suc r) 0 && eqb v 0) Nothing (ap (λ (b : Bool). b && eqb v 0) (eqb·suc-zero r)) f)
+access-fields (suc zero) r zero zero ts f = record { has-kind = refl; has-register = refl; has-zeros = refl; has-value = refl }
+access-fields (suc zero) r zero (suc v) ts f = absurd (not-bad (eqb (suc v) 0) (Read r) (eqb·suc-zero v) f)
+access-fields (suc (suc zero)) r zero v ts f = record { has-kind = refl; has-register = refl; has-zeros = refl; has-value = refl }
+access-fields (suc (suc (suc k))) r zero v ts f = absurd (false≢true (sym f ∙ ap malformed (kind-over (suc (suc (suc k))) r v (omega arith))))
+access-fields k r (suc z) v ts f = absurd (not-bad (eqb (suc z) 0) (accessOf k r v) (eqb·suc-zero z) f)
 
--- the fields of its access and wires are its fields
-fields-of-read : (e : Edition) (k r z v p m : ℕ) → p < 2 ^ alerts e → m < 2 ^ alerts e → malformed (accessIn k r z v) ≡ false
-    → fieldsOfInput e (inputOfFields e (k ∷ r ∷ z ∷ v ∷ p ∷ m ∷ [])) ≡ k ∷ r ∷ z ∷ v ∷ p ∷ m ∷ []
-fields-of-read e k r z v p m h l f =
-    let a = access-fields k r z v f in
-    rw (a .has-kind, a .has-register, a .has-value, ← a .has-zeros, wires-back e p h, wires-back e m l)
+-- the fields of its tail, of whatever sample was read, are its fields
+tail-back : (e : Edition) (s : Sample) {ts : List ℕ} → Fit (tail e) ts → tailFields e s ≡ ts
+tail-back Alerts64 s none = refl
+tail-back Alerts248 s none = refl
+
+-- the fields of its access, wires and tail are its fields
+fields-of-read : (e : Edition) (k r z v p m : ℕ) (ts : List ℕ) → p < 2 ^ alerts e → m < 2 ^ alerts e → Fit (tail e) ts → malformed (accessIn (k ∷ r ∷ z ∷ v ∷ []) ts) ≡ false
+    → fieldsOfInput e (inputOfFields e (k ∷ r ∷ z ∷ v ∷ p ∷ m ∷ ts)) ≡ k ∷ r ∷ z ∷ v ∷ p ∷ m ∷ ts
+fields-of-read e k r z v p m ts h l t f =
+    let a = access-fields k r z v ts f in
+    let b = tail-back e (inputOfFields e (k ∷ r ∷ z ∷ v ∷ p ∷ m ∷ ts) .sample) t in
+    rw (a .has-kind, a .has-register, a .has-value, ← a .has-zeros, wires-back e p h, wires-back e m l, b)
 
 pub record-input : (e : Edition) (bytes : List ℕ) → length bytes ≡ recordBytes e → ((i : ℕ) → getD bytes i 0 < 2 ^ 8) → malformed (heldIn e bytes .access) ≡ false
     → recordOf e (heldIn e bytes) ≡ bytes
 unfolding heldIn recordOf unpack
 record-input e bytes n h f =
     let small = subst (λ (k : ℕ). ofBytes bytes < 2 ^ k) (ap (λ (k : ℕ). 8 * k) n ∙ sym (layout-bytes e)) (bytes-lt bytes h) in
-    ap (λ (fs : List ℕ). toBytes (recordBytes e) (pack (layout e) fs)) (fields-of-read e _ _ _ _ _ _ (mod-lt _ (pow-pos (alerts e))) (mod-lt _ (pow-pos (alerts e))) f)
+    ap (λ (fs : List ℕ). toBytes (recordBytes e) (pack (layout e) fs)) (fields-of-read e _ _ _ _ _ _ _ (mod-lt _ (pow-pos (alerts e))) (mod-lt _ (pow-pos (alerts e))) (unpack-fits (tail e) (ofBytes bytes)) f)
     ∙ ap (toBytes (recordBytes e)) (pack-unpack (layout e) (ofBytes bytes) small)
     ∙ ap (λ (k : ℕ). toBytes k (ofBytes bytes)) (sym n) ∙ to-of-bytes bytes h

@@ -4,12 +4,12 @@ use Prim.Native.Nat.{ℕ, _^_, _<_}
 use mathlib.Core.Path.{_≡_, refl, sym, ap, _∙_}
 use mathlib.Core.Logic.{_↔_}
 use mathlib.Core.Bool.{true, false, false≢true}
-use mathlib.Core.List.{List}
+use mathlib.Core.List.{List, [], _∷_}
 use native.Mathlib.Nat.{mod-lt}
 use native.Mathlib.Omega.{arith}
 use borrow.Author.Tests.{lt-ltb}
 use lib.Pow.{pow-pos}
-use lib.ListN.{getD}
+use lib.ListN.{getD, drop}
 use Rattle.bits.specs.Fields.{unpack, ofBytes}
 use Rattle.bits.proofs.FieldLaws.{unpack-fits}
 use Rattle.bits.proofs.IndexLaws.{true-and}
@@ -33,16 +33,17 @@ fields-recordable e (Read r) f l m = lt-ltb r (2 ^ registerBits e) l
 fields-recordable e (Write r v) f l m = true-and (lt-ltb r (2 ^ registerBits e) l) (lt-ltb v (2 ^ valueBits) m)
 fields-recordable e Malformed f l m = absurd (false≢true (sym f))
 
-held-recordable : (e : Edition) (k r z v : ℕ) → r < 2 ^ registerBits e → v < 2 ^ valueBits → malformed (accessIn k r z v) ≡ false → recordable e (accessIn k r z v) ≡ true
-held-recordable e k r z v l m f =
-    let a = access-fields k r z v f in
-    fields-recordable e (accessIn k r z v) f (omega (arith, a .has-register)) (omega (arith, a .has-value))
+held-recordable : (e : Edition) (k r z v : ℕ) (ts : List ℕ) → r < 2 ^ registerBits e → v < 2 ^ valueBits → malformed (accessIn (k ∷ r ∷ z ∷ v ∷ []) ts) ≡ false
+    → recordable e (accessIn (k ∷ r ∷ z ∷ v ∷ []) ts) ≡ true
+held-recordable e k r z v ts l m f =
+    let a = access-fields k r z v ts f in
+    fields-recordable e (accessIn (k ∷ r ∷ z ∷ v ∷ []) ts) f (omega (arith, a .has-register)) (omega (arith, a .has-value))
 
 pub read-recordable : (e : Edition) (bytes : List ℕ) → malformed (heldIn e bytes .access) ≡ false → recordable e (heldIn e bytes .access) ≡ true
 unfolding heldIn unpack
 read-recordable e bytes f =
     let fs : List ℕ = unpack (layout e) (ofBytes bytes) in
-    held-recordable e (getD fs 0 0) (getD fs 1 0) (getD fs 2 0) (getD fs 3 0) (mod-lt _ (pow-pos (registerBits e))) (mod-lt _ (pow-pos valueBits)) f
+    held-recordable e (getD fs 0 0) (getD fs 1 0) (getD fs 2 0) (getD fs 3 0) (drop 6 fs) (mod-lt _ (pow-pos (registerBits e))) (mod-lt _ (pow-pos valueBits)) f
 
 -- ── a record for what is recordable ──
 

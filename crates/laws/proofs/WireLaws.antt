@@ -18,13 +18,13 @@ use Rattle.rules.specs.State.{words}
 use Rattle.rules.specs.Writer.{Wired, SameRead}
 use Rattle.rules.specs.declared.Edition.{Edition}
 use Rattle.rules.specs.declared.Input.{Input}
-use Rattle.rules.specs.declared.Edition.the-variants.{Bytes24, Bytes70}
+use Rattle.rules.specs.declared.Edition.the-variants.{Alerts64, Alerts248}
 use Rattle.laws.specs.Wires.{shown}
 
 -- the words have room for an edition's wires
 room : (e : Edition) → alerts e ≤ 64 * words
-room Bytes24 = omega arith
-room Bytes70 = omega arith
+room Alerts64 = omega arith
+room Alerts248 = omega arith
 
 total-words : (n : ℕ) → total (replicate n 64) ≡ 64 * n
 total-words zero = refl

@@ -7,9 +7,9 @@ use Rattle.rules.specs.declared.Register.{Register}
 use Rattle.rules.specs.declared.Register.the-variants.{Only, Local, Alert, Block, Unassigned}
 
 -- 0 to 2; 16+j, 24+j, 32+j, 40+j; 64+i, 128+i, 192+i, 256+i; 320+16k and the offset; 3 stands for what is unassigned
-abbrev pub number24 : Register → ℕ
-number24 (Only o) = singleNumber o
-number24 (Local f j) = 16 + 8 * fieldIndex f + j
-number24 (Alert f i) = 64 + 64 * fieldIndex f + i
-number24 (Block s k) = 320 + 16 * k + offset s
-number24 Unassigned = 3
+abbrev pub number64 : Register → ℕ
+number64 (Only o) = singleNumber o
+number64 (Local f j) = 16 + 8 * fieldIndex f + j
+number64 (Alert f i) = 64 + 64 * fieldIndex f + i
+number64 (Block s k) = 320 + 16 * k + offset s
+number64 Unassigned = 3

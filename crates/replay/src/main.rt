@@ -16,8 +16,8 @@ use rules::Edition;
 use rules::Handler;
 use rules::Made;
 use state::new::new;
-use trace::edition::BYTES_24;
-use trace::edition::BYTES_70;
+use trace::edition::ALERTS_64_BYTES;
+use trace::edition::ALERTS_248_BYTES;
 ghost use mathlib.Core.Path.{_≡_};
 ghost use mathlib.Core.Bool.{true};
 ghost use Prim.Native.Nat.{_*_, _≤_, _<_};
@@ -112,19 +112,19 @@ fn take_turns(edition: Edition, h: Handler, bytes: &mut [u8])
 }
 
 // The records of 24 bytes, from a buffer of a turn's bytes.
-fn run_24(h: Handler)
-    requires { ⌜ admits Edition.Bytes24 h ≡ true ⌝ }
+fn run_64(h: Handler)
+    requires { ⌜ admits Edition.Alerts64 h ≡ true ⌝ }
 {
-    let mut bytes = [0u8; TURN * BYTES_24];
-    take_turns(Edition::Bytes24, h, &mut bytes);
+    let mut bytes = [0u8; TURN * ALERTS_64_BYTES];
+    take_turns(Edition::Alerts64, h, &mut bytes);
 }
 
 // The records of 70 bytes.
-fn run_70(h: Handler)
-    requires { ⌜ admits Edition.Bytes70 h ≡ true ⌝ }
+fn run_248(h: Handler)
+    requires { ⌜ admits Edition.Alerts248 h ≡ true ⌝ }
 {
-    let mut bytes = [0u8; TURN * BYTES_70];
-    take_turns(Edition::Bytes70, h, &mut bytes);
+    let mut bytes = [0u8; TURN * ALERTS_248_BYTES];
+    take_turns(Edition::Alerts248, h, &mut bytes);
 }
 
 // A handler for N.
@@ -140,7 +140,7 @@ fn refuse() {
 }
 
 // Old records, of 24 bytes, speak of at most 64 alerts.
-fn start_24(n: u8) {
+fn start_64(n: u8) {
     if 64 < n {
         refuse();
         return;
@@ -149,17 +149,17 @@ fn start_24(n: u8) {
     if made.answer < 0 {
         refuse();
     } else {
-        run_24(made.handler);
+        run_64(made.handler);
     }
 }
 
 // The newest records, of 70 bytes.
-fn start_70(n: u8) {
+fn start_248(n: u8) {
     let made = make(n);
     if made.answer < 0 {
         refuse();
     } else {
-        run_70(made.handler);
+        run_248(made.handler);
     }
 }
 
@@ -183,10 +183,10 @@ fn main() {
             if first == 255 {
                 match read_byte() {
                     Byte::Missing => {}
-                    Byte::Read(n) => start_70(n),
+                    Byte::Read(n) => start_248(n),
                 }
             } else {
-                start_24(first);
+                start_64(first);
             }
         }
     }

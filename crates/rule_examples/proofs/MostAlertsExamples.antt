@@ -9,7 +9,7 @@ use Rattle.rules.specs.Batch.{Batched, batch}
 use Rattle.rules.specs.Scenes.{refused}
 use Rattle.rules.specs.State.{newHandler}
 use Rattle.rules.specs.Valid.{valid}
-use Rattle.rules.specs.declared.Edition.the-variants.{Bytes24, Bytes70}
+use Rattle.rules.specs.declared.Edition.the-variants.{Alerts64, Alerts248}
 use Rattle.rules.proofs.Scenes.{rules}
 
 -- "Source document 004 names 248 as the most"
@@ -21,9 +21,9 @@ count = refl
 abbrev given : Batched → ℤ
 given b = b .answer
 
-batches : (given (batch Bytes24 (newHandler 64) [] []) ≡ pos 0)
-    × (given (batch Bytes70 (newHandler 65) [] []) ≡ pos 0)
-    × (given (batch Bytes24 (newHandler 248) (replicate 24 0) (7 ∷ [])) ≡ refused 7)
-    × (given (batch Bytes70 (newHandler 248) [] []) ≡ pos 0)
+batches : (given (batch Alerts64 (newHandler 64) [] []) ≡ pos 0)
+    × (given (batch Alerts248 (newHandler 65) [] []) ≡ pos 0)
+    × (given (batch Alerts64 (newHandler 248) (replicate 24 0) (7 ∷ [])) ≡ refused 7)
+    × (given (batch Alerts248 (newHandler 248) [] []) ≡ pos 0)
 unfolding rules
 batches = (refl, refl, refl, refl)

@@ -13,7 +13,7 @@ use Rattle.rules.specs.State.{newHandler}
 use Rattle.rules.specs.declared.Access.{Access}
 use Rattle.rules.specs.declared.Answer.{Answer}
 use Rattle.rules.specs.declared.Edition.{Edition}
-use Rattle.rules.specs.declared.Edition.the-variants.{Bytes24, Bytes70}
+use Rattle.rules.specs.declared.Edition.the-variants.{Alerts64, Alerts248}
 use Rattle.rules.specs.declared.Refusal.the-variants.{NoRegister, BadRecord}
 use Rattle.rules.specs.Scenes.{refused}
 use Rattle.rules.specs.Word.{wordOf}
@@ -26,15 +26,15 @@ abbrev bytes : ℕ → ℕ → ℕ → ℕ → List ℕ
 bytes a b p m = toBytes 24 (((a * 2 ^ 32 + b) * 2 ^ 64 + p) * 2 ^ 64 + m)
 
 abbrev accessIn : ℕ → ℕ → Access
-accessIn a b = inputOf Bytes24 (bytes a b 0 0) .access
+accessIn a b = inputOf Alerts64 (bytes a b 0 0) .access
 
 -- "2 bits kind (0 none, 1 read, 2 write), 10 bits register, 20 zero bits, 32 bits value"
 kinds : (accessIn 0 0 ≡ Access.Nothing)
-    × (accessIn 0x54100000 0 ≡ Access.Read (carry Bytes24 321))
-    × (accessIn 0x7FF00000 0 ≡ Access.Read (carry Bytes24 1023))
-    × (accessIn 0x94500000 0x10000 ≡ Access.Write (carry Bytes24 325) 65536)
+    × (accessIn 0x54100000 0 ≡ Access.Read (carry Alerts64 321))
+    × (accessIn 0x7FF00000 0 ≡ Access.Read (carry Alerts64 1023))
+    × (accessIn 0x94500000 0x10000 ≡ Access.Write (carry Alerts64 325) 65536)
     × (accessIn 0x80000000 0 ≡ Access.Write 0 0)
-    × (accessIn 0xBFF00000 0xFFFFFFFF ≡ Access.Write (carry Bytes24 1023) 4294967295)
+    × (accessIn 0xBFF00000 0xFFFFFFFF ≡ Access.Write (carry Alerts64 1023) 4294967295)
 unfolding rules
 kinds = (refl, refl, refl, refl, refl, refl)
 
@@ -52,49 +52,49 @@ unfolding rules
 malformed-values = (refl, refl, refl, refl)
 
 -- "64 positive wires with alert 0 first, 64 negative wires"
-wires : (inputOf Bytes24 (bytes 0 0 5 9) .sample .alerts .pos ≡ 5 ∷ 0 ∷ 0 ∷ 0 ∷ [])
-    × (inputOf Bytes24 (bytes 0 0 5 9) .sample .alerts .neg ≡ 9 ∷ 0 ∷ 0 ∷ 0 ∷ [])
+wires : (inputOf Alerts64 (bytes 0 0 5 9) .sample .alerts .pos ≡ 5 ∷ 0 ∷ 0 ∷ 0 ∷ [])
+    × (inputOf Alerts64 (bytes 0 0 5 9) .sample .alerts .neg ≡ 9 ∷ 0 ∷ 0 ∷ 0 ∷ [])
 unfolding rules
 wires = (refl, refl)
 
 -- request (iii): "their register numbers carried over, numbers unassigned then still refused with 1", at both ends of every range; 3 is unassigned
-carried : (map (carry Bytes24) (0 ∷ 1 ∷ 2 ∷ 3 ∷ 16 ∷ 46 ∷ 47 ∷ 63 ∷ []) ≡ 0 ∷ 1 ∷ 2 ∷ 3 ∷ 16 ∷ 46 ∷ 47 ∷ 63 ∷ [])
-    × (map (carry Bytes24) (64 ∷ 127 ∷ 128 ∷ 191 ∷ 192 ∷ 255 ∷ 256 ∷ 319 ∷ []) ≡ 256 ∷ 319 ∷ 512 ∷ 575 ∷ 768 ∷ 831 ∷ 1024 ∷ 1087 ∷ [])
-    × (map (carry Bytes24) (320 ∷ 333 ∷ 383 ∷ 384 ∷ 512 ∷ 768 ∷ 1023 ∷ []) ≡ 1280 ∷ 1293 ∷ 1343 ∷ 3 ∷ 3 ∷ 3 ∷ 3 ∷ [])
-    × (map (carry Bytes70) (0 ∷ 64 ∷ 320 ∷ 384 ∷ 2047 ∷ []) ≡ 0 ∷ 64 ∷ 320 ∷ 384 ∷ 2047 ∷ [])
+carried : (map (carry Alerts64) (0 ∷ 1 ∷ 2 ∷ 3 ∷ 16 ∷ 46 ∷ 47 ∷ 63 ∷ []) ≡ 0 ∷ 1 ∷ 2 ∷ 3 ∷ 16 ∷ 46 ∷ 47 ∷ 63 ∷ [])
+    × (map (carry Alerts64) (64 ∷ 127 ∷ 128 ∷ 191 ∷ 192 ∷ 255 ∷ 256 ∷ 319 ∷ []) ≡ 256 ∷ 319 ∷ 512 ∷ 575 ∷ 768 ∷ 831 ∷ 1024 ∷ 1087 ∷ [])
+    × (map (carry Alerts64) (320 ∷ 333 ∷ 383 ∷ 384 ∷ 512 ∷ 768 ∷ 1023 ∷ []) ≡ 1280 ∷ 1293 ∷ 1343 ∷ 3 ∷ 3 ∷ 3 ∷ 3 ∷ [])
+    × (map (carry Alerts248) (0 ∷ 64 ∷ 320 ∷ 384 ∷ 2047 ∷ []) ≡ 0 ∷ 64 ∷ 320 ∷ 384 ∷ 2047 ∷ [])
 unfolding rules
 carried = (refl, refl, refl, refl)
 
 -- ── the record of 70 bytes ──
 
-abbrev bytes70 : ℕ → ℕ → ℕ → ℕ → List ℕ
-bytes70 a b p m = toBytes 70 (((a * 2 ^ 32 + b) * 2 ^ 248 + p) * 2 ^ 248 + m)
+abbrev bytes248 : ℕ → ℕ → ℕ → ℕ → List ℕ
+bytes248 a b p m = toBytes 70 (((a * 2 ^ 32 + b) * 2 ^ 248 + p) * 2 ^ 248 + m)
 
-abbrev accessIn70 : ℕ → ℕ → Access
-accessIn70 a b = inputOf Bytes70 (bytes70 a b 0 0) .access
+abbrev accessIn248 : ℕ → ℕ → Access
+accessIn248 a b = inputOf Alerts248 (bytes248 a b 0 0) .access
 
 -- "The new record has an 11-bit register, 19 zero bits, 31 bytes for each wire set"
-kinds70 : (accessIn70 0 0 ≡ Access.Nothing)
-    × (accessIn70 0x68080000 0 ≡ Access.Read 1281)
-    × (accessIn70 0x7FF80000 0 ≡ Access.Read 2047)
-    × (accessIn70 0xA8280000 0x10000 ≡ Access.Write 1285 65536)
-    × (accessIn70 0x80000000 0 ≡ Access.Write 0 0)
-    × (accessIn70 0xBFF80000 0xFFFFFFFF ≡ Access.Write 2047 4294967295)
+kinds248 : (accessIn248 0 0 ≡ Access.Nothing)
+    × (accessIn248 0x68080000 0 ≡ Access.Read 1281)
+    × (accessIn248 0x7FF80000 0 ≡ Access.Read 2047)
+    × (accessIn248 0xA8280000 0x10000 ≡ Access.Write 1285 65536)
+    × (accessIn248 0x80000000 0 ≡ Access.Write 0 0)
+    × (accessIn248 0xBFF80000 0xFFFFFFFF ≡ Access.Write 2047 4294967295)
 unfolding rules
-kinds70 = (refl, refl, refl, refl, refl, refl)
+kinds248 = (refl, refl, refl, refl, refl, refl)
 
-malformed70 : map (λ (n : ℕ). accessIn70 n 0) (0xC0000000 ∷ 0x80040000 ∷ 0x80000001 ∷ 0x00040000 ∷ 0x00000001 ∷ 0x00080000 ∷ [])
+malformed248 : map (λ (n : ℕ). accessIn248 n 0) (0xC0000000 ∷ 0x80040000 ∷ 0x80000001 ∷ 0x00040000 ∷ 0x00000001 ∷ 0x00080000 ∷ [])
     ≡ replicate 6 Access.Malformed
 unfolding rules
-malformed70 = refl
+malformed248 = refl
 
 -- alert 0 first, at the highest bit of the first word; alert 247 last
-wires70 : (inputOf Bytes70 (bytes70 0 0 (2 ^ 247) 1) .sample .alerts .pos ≡ 2 ^ 63 ∷ 0 ∷ 0 ∷ 0 ∷ [])
-    × (inputOf Bytes70 (bytes70 0 0 (2 ^ 247) 1) .sample .alerts .neg ≡ 0 ∷ 0 ∷ 0 ∷ 2 ^ 8 ∷ [])
-    × (inputOf Bytes70 (bytes70 0 0 (2 ^ 183) (2 ^ 184)) .sample .alerts .pos ≡ 0 ∷ 2 ^ 63 ∷ 0 ∷ 0 ∷ [])
-    × (inputOf Bytes70 (bytes70 0 0 (2 ^ 183) (2 ^ 184)) .sample .alerts .neg ≡ 1 ∷ 0 ∷ 0 ∷ 0 ∷ [])
+wires248 : (inputOf Alerts248 (bytes248 0 0 (2 ^ 247) 1) .sample .alerts .pos ≡ 2 ^ 63 ∷ 0 ∷ 0 ∷ 0 ∷ [])
+    × (inputOf Alerts248 (bytes248 0 0 (2 ^ 247) 1) .sample .alerts .neg ≡ 0 ∷ 0 ∷ 0 ∷ 2 ^ 8 ∷ [])
+    × (inputOf Alerts248 (bytes248 0 0 (2 ^ 183) (2 ^ 184)) .sample .alerts .pos ≡ 0 ∷ 2 ^ 63 ∷ 0 ∷ 0 ∷ [])
+    × (inputOf Alerts248 (bytes248 0 0 (2 ^ 183) (2 ^ 184)) .sample .alerts .neg ≡ 1 ∷ 0 ∷ 0 ∷ 0 ∷ [])
 unfolding rules
-wires70 = (refl, refl, refl, refl)
+wires248 = (refl, refl, refl, refl)
 
 -- ── words ──
 
@@ -124,9 +124,9 @@ abbrev writes1023 : List ℕ
 writes1023 = toBytes 24 0xbff000000000000000000000000000008000000000000000
 
 -- "prints exactly 000000000000393c and 0010000000000000"; later words stay; a refused record and the next still runs
-two-records : (batch Bytes24 (newHandler 1) (reads321 ++ writes1023) (7 ∷ 8 ∷ 9 ∷ 10 ∷ []) .out ≡ 0x393C ∷ 0x0010000000000000 ∷ 9 ∷ 10 ∷ [])
-    × (batch Bytes24 (newHandler 1) (reads321 ++ writes1023) (7 ∷ 8 ∷ 9 ∷ 10 ∷ []) .answer ≡ pos 0)
-    × (batch Bytes24 (newHandler 1) (writes1023 ++ reads321) (7 ∷ 8 ∷ []) .out ≡ 0x0010000000000000 ∷ 0x393C ∷ [])
+two-records : (batch Alerts64 (newHandler 1) (reads321 ++ writes1023) (7 ∷ 8 ∷ 9 ∷ 10 ∷ []) .out ≡ 0x393C ∷ 0x0010000000000000 ∷ 9 ∷ 10 ∷ [])
+    × (batch Alerts64 (newHandler 1) (reads321 ++ writes1023) (7 ∷ 8 ∷ 9 ∷ 10 ∷ []) .answer ≡ pos 0)
+    × (batch Alerts64 (newHandler 1) (writes1023 ++ reads321) (7 ∷ 8 ∷ []) .out ≡ 0x0010000000000000 ∷ 0x393C ∷ [])
 unfolding rules
 two-records = (refl, refl, refl)
 
@@ -137,7 +137,7 @@ twice b = b ++ b
 abbrev rises : List ℕ
 rises = twice (bytes 0x88000000 1 0 (2 ^ 63)) ++ twice (bytes 0x94100000 5 0 (2 ^ 63)) ++ bytes 0x54C00000 0 (2 ^ 63) 0 ++ bytes 0x54C00000 0 (2 ^ 63) 0
 
-run-on : batch Bytes24 (newHandler 1) rises (replicate 6 0) .out ≡ 0 ∷ 0 ∷ 0 ∷ 0 ∷ 0x0800000000000000 ∷ 4 ∷ []
+run-on : batch Alerts64 (newHandler 1) rises (replicate 6 0) .out ≡ 0 ∷ 0 ∷ 0 ∷ 0 ∷ 0x0800000000000000 ∷ 4 ∷ []
 unfolding rules
 run-on = refl
 
@@ -145,37 +145,37 @@ run-on = refl
 abbrev given : Batched → ℤ
 given b = b .answer
 
-refusals : (batch Bytes24 (newHandler 1) [] (7 ∷ []) ≡ record { handler = newHandler 1; answer = pos 0; out = 7 ∷ [] })
-    × (batch Bytes24 (newHandler 65) [] [] ≡ record { handler = newHandler 65; answer = refused 7; out = [] })
-    × (given (batch Bytes24 (newHandler 65) (replicate 25 0) []) ≡ refused 7)
-    × (batch Bytes24 (newHandler 1) (replicate 25 0) [] ≡ record { handler = newHandler 1; answer = refused 8; out = [] })
-    × (batch Bytes24 (newHandler 1) (replicate 23 0) (7 ∷ []) ≡ record { handler = newHandler 1; answer = refused 8; out = 7 ∷ [] })
-    × (batch Bytes24 (newHandler 1) (replicate 24 0) [] ≡ record { handler = newHandler 1; answer = refused 9; out = [] })
-    × (batch Bytes24 (newHandler 1) (replicate 48 0) (7 ∷ []) ≡ record { handler = newHandler 1; answer = refused 9; out = 7 ∷ [] })
+refusals : (batch Alerts64 (newHandler 1) [] (7 ∷ []) ≡ record { handler = newHandler 1; answer = pos 0; out = 7 ∷ [] })
+    × (batch Alerts64 (newHandler 65) [] [] ≡ record { handler = newHandler 65; answer = refused 7; out = [] })
+    × (given (batch Alerts64 (newHandler 65) (replicate 25 0) []) ≡ refused 7)
+    × (batch Alerts64 (newHandler 1) (replicate 25 0) [] ≡ record { handler = newHandler 1; answer = refused 8; out = [] })
+    × (batch Alerts64 (newHandler 1) (replicate 23 0) (7 ∷ []) ≡ record { handler = newHandler 1; answer = refused 8; out = 7 ∷ [] })
+    × (batch Alerts64 (newHandler 1) (replicate 24 0) [] ≡ record { handler = newHandler 1; answer = refused 9; out = [] })
+    × (batch Alerts64 (newHandler 1) (replicate 48 0) (7 ∷ []) ≡ record { handler = newHandler 1; answer = refused 9; out = 7 ∷ [] })
 unfolding rules
 refusals = (refl, refl, refl, refl, refl, refl, refl)
 
 -- request (iii): "8 reads 70"; a refused batch of 249 alerts (more of how many alerts a batch runs with is in rule_examples MostAlertsExamples)
-refusals70 : (given (batch Bytes70 (newHandler 249) [] []) ≡ refused 7)
-    × (given (batch Bytes70 (newHandler 1) (replicate 24 0) []) ≡ refused 8)
-    × (given (batch Bytes70 (newHandler 1) (replicate 71 0) []) ≡ refused 8)
-    × (given (batch Bytes24 (newHandler 1) (replicate 70 0) []) ≡ refused 8)
-    × (batch Bytes70 (newHandler 1) (replicate 70 0) [] ≡ record { handler = newHandler 1; answer = refused 9; out = [] })
+refusals248 : (given (batch Alerts248 (newHandler 249) [] []) ≡ refused 7)
+    × (given (batch Alerts248 (newHandler 1) (replicate 24 0) []) ≡ refused 8)
+    × (given (batch Alerts248 (newHandler 1) (replicate 71 0) []) ≡ refused 8)
+    × (given (batch Alerts64 (newHandler 1) (replicate 70 0) []) ≡ refused 8)
+    × (batch Alerts248 (newHandler 1) (replicate 70 0) [] ≡ record { handler = newHandler 1; answer = refused 9; out = [] })
 unfolding rules
-refusals70 = (refl, refl, refl, refl, refl)
+refusals248 = (refl, refl, refl, refl, refl)
 
 -- lengths that divide by 2, 4, 8 or 12, or by 7, 10, 14 or 35, and no multiples of the record's, with room in the list
 abbrev uneven : Edition → ℕ → ℤ
 uneven e n = given (batch e (newHandler 1) (replicate n 0) (replicate 9 7))
 
-not-multiples : (map (uneven Bytes24) (1 ∷ 2 ∷ 4 ∷ 8 ∷ 12 ∷ 16 ∷ 20 ∷ 28 ∷ 32 ∷ 36 ∷ 40 ∷ 60 ∷ []) ≡ replicate 12 (refused 8))
-    × (map (uneven Bytes70) (1 ∷ 7 ∷ 10 ∷ 14 ∷ 24 ∷ 35 ∷ 48 ∷ 72 ∷ 105 ∷ 120 ∷ []) ≡ replicate 10 (refused 8))
-    × (map (uneven Bytes24) (0 ∷ 24 ∷ 48 ∷ []) ≡ replicate 3 (pos 0))
-    × (map (uneven Bytes70) (0 ∷ 70 ∷ 140 ∷ []) ≡ replicate 3 (pos 0))
+not-multiples : (map (uneven Alerts64) (1 ∷ 2 ∷ 4 ∷ 8 ∷ 12 ∷ 16 ∷ 20 ∷ 28 ∷ 32 ∷ 36 ∷ 40 ∷ 60 ∷ []) ≡ replicate 12 (refused 8))
+    × (map (uneven Alerts248) (1 ∷ 7 ∷ 10 ∷ 14 ∷ 24 ∷ 35 ∷ 48 ∷ 72 ∷ 105 ∷ 120 ∷ []) ≡ replicate 10 (refused 8))
+    × (map (uneven Alerts64) (0 ∷ 24 ∷ 48 ∷ []) ≡ replicate 3 (pos 0))
+    × (map (uneven Alerts248) (0 ∷ 70 ∷ 140 ∷ []) ≡ replicate 3 (pos 0))
 unfolding rules
 not-multiples = (refl, refl, refl, refl)
 
 -- a batch of new records runs: CTRL of class 0 is read, and a number that the map does not assign is refused with 1
-run-on70 : batch Bytes70 (newHandler 65) (bytes70 0x68080000 0 0 0 ++ bytes70 0x7FF80000 0 0 0) (7 ∷ 8 ∷ 9 ∷ []) .out ≡ 0x393C ∷ 0x0010000000000000 ∷ 9 ∷ []
+run-on248 : batch Alerts248 (newHandler 65) (bytes248 0x68080000 0 0 0 ++ bytes248 0x7FF80000 0 0 0) (7 ∷ 8 ∷ 9 ∷ []) .out ≡ 0x393C ∷ 0x0010000000000000 ∷ 9 ∷ []
 unfolding rules
-run-on70 = refl
+run-on248 = refl

@@ -11,7 +11,7 @@ use Rattle.bits.specs.Index.{each}
 use Rattle.rules.specs.Record.{recordOf, recordable}
 use Rattle.rules.specs.Writer.{write}
 use Rattle.rules.specs.declared.Access.{Access}
-use Rattle.rules.specs.declared.Edition.the-variants.{Bytes70}
+use Rattle.rules.specs.declared.Edition.the-variants.{Alerts248}
 use Rattle.rules.specs.declared.Input.{Input}
 use Rattle.rules.specs.Scenes.{refused, ones, wire, wired}
 use Rattle.rules.proofs.Scenes.{rules}
@@ -28,28 +28,28 @@ reads1281 = 0x68 ∷ 0x08 ∷ replicate 37 0 ++ 0x80 ∷ replicate 30 0
 abbrev writes2047 : List ℕ
 writes2047 = 0xBF ∷ 0xF8 ∷ replicate 37 0 ++ 0x80 ∷ replicate 30 0
 
-two-records : (recordOf Bytes70 (quiet (Access.Read 1281)) ≡ reads1281) × (recordOf Bytes70 (quiet (Access.Write 2047 0)) ≡ writes2047)
+two-records : (recordOf Alerts248 (quiet (Access.Read 1281)) ≡ reads1281) × (recordOf Alerts248 (quiet (Access.Write 2047 0)) ≡ writes2047)
 unfolding rules
 two-records = (refl, refl)
 
 -- kind, register and value, each at its place
-places : (recordOf Bytes70 (wired 0 0 Access.Nothing) ≡ replicate 70 0)
-    × (recordOf Bytes70 (wired 0 0 (Access.Read 1)) ≡ 0x40 ∷ 0x08 ∷ replicate 68 0)
-    × (recordOf Bytes70 (wired 0 0 (Access.Read 1024)) ≡ 0x60 ∷ replicate 69 0)
-    × (recordOf Bytes70 (wired 0 0 (Access.Write 0 1)) ≡ 0x80 ∷ replicate 6 0 ++ 1 ∷ replicate 62 0)
-    × (recordOf Bytes70 (wired 0 0 (Access.Write 0 (2 ^ 31))) ≡ 0x80 ∷ 0 ∷ 0 ∷ 0 ∷ 0x80 ∷ replicate 65 0)
+places : (recordOf Alerts248 (wired 0 0 Access.Nothing) ≡ replicate 70 0)
+    × (recordOf Alerts248 (wired 0 0 (Access.Read 1)) ≡ 0x40 ∷ 0x08 ∷ replicate 68 0)
+    × (recordOf Alerts248 (wired 0 0 (Access.Read 1024)) ≡ 0x60 ∷ replicate 69 0)
+    × (recordOf Alerts248 (wired 0 0 (Access.Write 0 1)) ≡ 0x80 ∷ replicate 6 0 ++ 1 ∷ replicate 62 0)
+    × (recordOf Alerts248 (wired 0 0 (Access.Write 0 (2 ^ 31))) ≡ 0x80 ∷ 0 ∷ 0 ∷ 0 ∷ 0x80 ∷ replicate 65 0)
 unfolding rules
 places = (refl, refl, refl, refl, refl)
 
 -- alert 0 comes first among the positive and among the negative wires, and alert 247 last; places 248 to 255 are no wires
-wires-in-order : (recordOf Bytes70 (wired (wire 0) (wire 247) Access.Nothing) ≡ replicate 8 0 ++ 0x80 ∷ replicate 60 0 ++ 1 ∷ [])
-    × (recordOf Bytes70 (wired (wire 247) (wire 0) Access.Nothing) ≡ replicate 38 0 ++ 1 ∷ 0x80 ∷ replicate 30 0)
-    × (recordOf Bytes70 (wired 255 255 Access.Nothing) ≡ replicate 70 0)
+wires-in-order : (recordOf Alerts248 (wired (wire 0) (wire 247) Access.Nothing) ≡ replicate 8 0 ++ 0x80 ∷ replicate 60 0 ++ 1 ∷ [])
+    × (recordOf Alerts248 (wired (wire 247) (wire 0) Access.Nothing) ≡ replicate 38 0 ++ 1 ∷ 0x80 ∷ replicate 30 0)
+    × (recordOf Alerts248 (wired 255 255 Access.Nothing) ≡ replicate 70 0)
 unfolding rules
 wires-in-order = (refl, refl, refl)
 
 -- every field full: only the 19 bits are zero
-full : recordOf Bytes70 (wired ones ones (Access.Write 2047 (2 ^ 32 - 1))) ≡ 0xBF ∷ 0xF8 ∷ 0 ∷ 0 ∷ replicate 66 0xFF
+full : recordOf Alerts248 (wired ones ones (Access.Write 2047 (2 ^ 32 - 1))) ≡ 0xBF ∷ 0xF8 ∷ 0 ∷ 0 ∷ replicate 66 0xFF
 unfolding rules
 full = refl
 
@@ -57,53 +57,53 @@ full = refl
 abbrev wiresFrom : ℕ → ℕ
 wiresFrom b = ofBytes (each 31 (λ i. b + i)) * 2 ^ 8
 
-bytes-in-order : recordOf Bytes70 (wired (wiresFrom 5) (wiresFrom 36) (Access.Write 341 0x01020304)) ≡ 0x8A ∷ 0xA8 ∷ 0 ∷ 0 ∷ 1 ∷ 2 ∷ 3 ∷ 4 ∷ each 62 (λ i. 5 + i)
+bytes-in-order : recordOf Alerts248 (wired (wiresFrom 5) (wiresFrom 36) (Access.Write 341 0x01020304)) ≡ 0x8A ∷ 0xA8 ∷ 0 ∷ 0 ∷ 1 ∷ 2 ∷ 3 ∷ 4 ∷ each 62 (λ i. 5 + i)
 unfolding rules
 bytes-in-order = refl
 
 -- ── "an access that no well-formed record holds" ──
 
-held : (recordable Bytes70 Access.Nothing ≡ true)
-    × (recordable Bytes70 (Access.Read 2047) ≡ true)
-    × (recordable Bytes70 (Access.Write 2047 (2 ^ 32 - 1)) ≡ true)
+held : (recordable Alerts248 Access.Nothing ≡ true)
+    × (recordable Alerts248 (Access.Read 2047) ≡ true)
+    × (recordable Alerts248 (Access.Write 2047 (2 ^ 32 - 1)) ≡ true)
 unfolding rules
 held = (refl, refl, refl)
 
-not-held : (recordable Bytes70 (Access.Read 2048) ≡ false)
-    × (recordable Bytes70 (Access.Read 65535) ≡ false)
-    × (recordable Bytes70 (Access.Write 2048 0) ≡ false)
-    × (recordable Bytes70 (Access.Write 0 (2 ^ 32)) ≡ false)
-    × (recordable Bytes70 Access.Malformed ≡ false)
+not-held : (recordable Alerts248 (Access.Read 2048) ≡ false)
+    × (recordable Alerts248 (Access.Read 65535) ≡ false)
+    × (recordable Alerts248 (Access.Write 2048 0) ≡ false)
+    × (recordable Alerts248 (Access.Write 0 (2 ^ 32)) ≡ false)
+    × (recordable Alerts248 Access.Malformed ≡ false)
 unfolding rules
 not-held = (refl, refl, refl, refl, refl)
 
 -- ── writing ──
 
 -- "Success answers the bytes written; later bytes stay"
-success : (write Bytes70 (quiet (Access.Read 1281) ∷ quiet (Access.Write 2047 0) ∷ []) (replicate 140 7 ++ 8 ∷ 9 ∷ [])
+success : (write Alerts248 (quiet (Access.Read 1281) ∷ quiet (Access.Write 2047 0) ∷ []) (replicate 140 7 ++ 8 ∷ 9 ∷ [])
     ≡ record { answer = pos 140; buffer = reads1281 ++ writes2047 ++ 8 ∷ 9 ∷ [] })
-    × (write Bytes70 (quiet (Access.Read 1281) ∷ []) (replicate 70 7) ≡ record { answer = pos 70; buffer = reads1281 })
-    × (write Bytes70 [] (7 ∷ 8 ∷ []) ≡ record { answer = pos 0; buffer = 7 ∷ 8 ∷ [] })
-    × (write Bytes70 [] [] ≡ record { answer = pos 0; buffer = [] })
+    × (write Alerts248 (quiet (Access.Read 1281) ∷ []) (replicate 70 7) ≡ record { answer = pos 70; buffer = reads1281 })
+    × (write Alerts248 [] (7 ∷ 8 ∷ []) ≡ record { answer = pos 0; buffer = 7 ∷ 8 ∷ [] })
+    × (write Alerts248 [] [] ≡ record { answer = pos 0; buffer = [] })
 unfolding rules
 success = (refl, refl, refl, refl)
 
 -- "the lent buffer keeps its bytes .. when too short, refused with 11"
-too-short : (write Bytes70 (quiet (Access.Read 1281) ∷ []) (replicate 69 7) ≡ record { answer = refused 11; buffer = replicate 69 7 })
-    × (write Bytes70 (quiet (Access.Read 1281) ∷ quiet (Access.Write 2047 0) ∷ []) (replicate 139 7) ≡ record { answer = refused 11; buffer = replicate 139 7 })
-    × (write Bytes70 (quiet Access.Nothing ∷ []) [] ≡ record { answer = refused 11; buffer = [] })
+too-short : (write Alerts248 (quiet (Access.Read 1281) ∷ []) (replicate 69 7) ≡ record { answer = refused 11; buffer = replicate 69 7 })
+    × (write Alerts248 (quiet (Access.Read 1281) ∷ quiet (Access.Write 2047 0) ∷ []) (replicate 139 7) ≡ record { answer = refused 11; buffer = replicate 139 7 })
+    × (write Alerts248 (quiet Access.Nothing ∷ []) [] ≡ record { answer = refused 11; buffer = [] })
 unfolding rules
 too-short = (refl, refl, refl)
 
 -- "an access that no well-formed record holds is refused with 10 and the lent buffer keeps its bytes", whichever of the list it is
-no-record : (write Bytes70 (quiet (Access.Read 1281) ∷ quiet (Access.Write 2047 0) ∷ quiet (Access.Read 2048) ∷ []) (replicate 210 7)
+no-record : (write Alerts248 (quiet (Access.Read 1281) ∷ quiet (Access.Write 2047 0) ∷ quiet (Access.Read 2048) ∷ []) (replicate 210 7)
     ≡ record { answer = refused 10; buffer = replicate 210 7 })
-    × (write Bytes70 (quiet Access.Malformed ∷ quiet (Access.Read 1281) ∷ []) (replicate 150 7) ≡ record { answer = refused 10; buffer = replicate 150 7 })
+    × (write Alerts248 (quiet Access.Malformed ∷ quiet (Access.Read 1281) ∷ []) (replicate 150 7) ≡ record { answer = refused 10; buffer = replicate 150 7 })
 unfolding rules
 no-record = (refl, refl)
 
 -- "10 comes first"
-order : (write Bytes70 (quiet (Access.Read 1281) ∷ quiet Access.Malformed ∷ []) (replicate 69 7) ≡ record { answer = refused 10; buffer = replicate 69 7 })
-    × (write Bytes70 (quiet (Access.Write 0 (2 ^ 32)) ∷ []) [] ≡ record { answer = refused 10; buffer = [] })
+order : (write Alerts248 (quiet (Access.Read 1281) ∷ quiet Access.Malformed ∷ []) (replicate 69 7) ≡ record { answer = refused 10; buffer = replicate 69 7 })
+    × (write Alerts248 (quiet (Access.Write 0 (2 ^ 32)) ∷ []) [] ≡ record { answer = refused 10; buffer = [] })
 unfolding rules
 order = (refl, refl)

@@ -2,27 +2,36 @@
 -- Assumes nothing.
 use Prim.Native.Nat.{ℕ, _-_, _*_, _/_, _^_}
 use mathlib.Core.Bool.{Bool, true, false, cond, _&&_}
-use mathlib.Core.List.{List, [], _∷_}
+use mathlib.Core.List.{List, [], _∷_, _++_}
 use lib.Dec.{eqb}
 use lib.ListN.{getD, length, take, drop, replicate}
 use Rattle.bits.specs.Bits.{fits}
 use Rattle.bits.specs.Fields.{pack, unpack, ofBytes, toBytes}
 use Rattle.bits.specs.Index.{each}
-use Rattle.rules.specs.Edition.{recordBytes, registerBits, zeroBits, alerts, carry}
+use Rattle.rules.specs.Edition.{recordBytes, registerBits, zeroBits, alerts, tail, carry}
 use Rattle.rules.specs.State.{words}
 use Rattle.rules.specs.declared.Access.{Access}
 use Rattle.rules.specs.declared.Access.the-variants.{Nothing, Read, Write, Malformed}
 use Rattle.rules.specs.declared.Edition.{Edition}
+use Rattle.rules.specs.declared.Edition.the-variants.{Alerts64, Alerts248}
 use Rattle.rules.specs.declared.Input.{Input}
+use Rattle.rules.specs.declared.Sample.{Sample}
 
 -- ── a record, most significant bit first ──
 
 abbrev pub valueBits : ℕ
 valueBits = 32
 
--- 2 bits kind, the register, zero bits, 32 bits value, the positive wires with alert 0 first, the negative wires
+-- 2 bits kind, the register, zero bits, 32 bits value
+abbrev pub head : Edition → List ℕ
+head e = 2 ∷ registerBits e ∷ zeroBits e ∷ valueBits ∷ []
+
+-- the positive wires with alert 0 first, the negative wires
+abbrev pub wires : Edition → List ℕ
+wires e = alerts e ∷ alerts e ∷ []
+
 abbrev pub layout : Edition → List ℕ
-layout e = 2 ∷ registerBits e ∷ zeroBits e ∷ valueBits ∷ alerts e ∷ alerts e ∷ []
+layout e = head e ++ (wires e ++ tail e)
 
 -- kind: 0 none, 1 read, 2 write; malformed: kind 3, a read with a value, kind 0 with a register or value
 unfoldable pub accessOf : ℕ → ℕ → ℕ → Access
@@ -31,9 +40,13 @@ accessOf kind register value =
     (cond (eqb kind 1) (cond (eqb value 0) (Access.Read register) Access.Malformed)
     (cond (eqb kind 2) (Access.Write register value) Access.Malformed))
 
+-- whether all zero bits of a record are zero, by the fields hs of its head and ts of its tail: no edition has zero bits in its tail
+abbrev pub clear : List ℕ → List ℕ → Bool
+clear hs ts = eqb (getD hs 2 0) 0
+
 -- malformed too: a nonzero bit among the zero bits
-abbrev pub accessIn : ℕ → ℕ → ℕ → ℕ → Access
-accessIn kind register zeros value = cond (eqb zeros 0) (accessOf kind register value) Access.Malformed
+abbrev pub accessIn : List ℕ → List ℕ → Access
+accessIn hs ts = cond (clear hs ts) (accessOf (getD hs 0 0) (getD hs 1 0) (getD hs 3 0)) Access.Malformed
 
 -- n wires as words of 64, the first wire at the highest bit of the first word, and back
 abbrev pub wireWords : ℕ → ℕ → List ℕ
@@ -42,12 +55,16 @@ wireWords n wires = unpack (replicate words 64) (wires * 2 ^ (64 * words - n))
 abbrev pub wiresOf : ℕ → List ℕ → ℕ
 wiresOf n ws = pack (replicate words 64) ws / 2 ^ (64 * words - n)
 
-abbrev pub inputOfFields : Edition → List ℕ → Input
-inputOfFields e fs =
+-- by the fields of the head, the wires and the tail
+abbrev pub inputOfParts : Edition → List ℕ → List ℕ → List ℕ → Input
+inputOfParts e hs ws ts =
     record {
-      access = accessIn (getD fs 0 0) (getD fs 1 0) (getD fs 2 0) (getD fs 3 0);
-      sample = record { alerts = record { pos = wireWords (alerts e) (getD fs 4 0); neg = wireWords (alerts e) (getD fs 5 0) } };
+      access = accessIn hs ts;
+      sample = record { alerts = record { pos = wireWords (alerts e) (getD ws 0 0); neg = wireWords (alerts e) (getD ws 1 0) } };
     }
+
+abbrev pub inputOfFields : Edition → List ℕ → Input
+inputOfFields e fs = inputOfParts e (take 4 fs) (take 2 (drop 4 fs)) (drop 6 fs)
 
 -- what a record's bytes hold, with the edition's own register number
 unfoldable pub heldIn : Edition → List ℕ → Input
@@ -83,15 +100,19 @@ valueOf (Read r) = 0
 valueOf (Write r v) = v
 valueOf Malformed = 0
 
+-- the fields of the head, the wires and the tail
+abbrev pub headFields : Access → List ℕ
+headFields a = kindOf a ∷ registerOf a ∷ 0 ∷ valueOf a ∷ []
+
+abbrev pub wireFields : Edition → Sample → List ℕ
+wireFields e s = wiresOf (alerts e) (s .alerts .pos) ∷ wiresOf (alerts e) (s .alerts .neg) ∷ []
+
+abbrev pub tailFields : Edition → Sample → List ℕ
+tailFields Alerts64 s = []
+tailFields Alerts248 s = []
+
 abbrev pub fieldsOfInput : Edition → Input → List ℕ
-fieldsOfInput e x =
-    kindOf (x .access)
-    ∷ registerOf (x .access)
-    ∷ 0
-    ∷ valueOf (x .access)
-    ∷ wiresOf (alerts e) (x .sample .alerts .pos)
-    ∷ wiresOf (alerts e) (x .sample .alerts .neg)
-    ∷ []
+fieldsOfInput e x = headFields (x .access) ++ (wireFields e (x .sample) ++ tailFields e (x .sample))
 
 -- the bytes of the record
 unfoldable pub recordOf : Edition → Input → List ℕ

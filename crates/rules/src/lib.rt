@@ -152,10 +152,10 @@ pub struct Row {
 
 // ---- What goes in. ----
 
-// The form of a trace, named by the bytes of its record.
+// The form of a trace, named by what it brings: its record speaks of 64 alerts, or of 248.
 pub enum Edition {
-    Bytes24,
-    Bytes70,
+    Alerts64,
+    Alerts248,
 }
 
 pub enum Access {

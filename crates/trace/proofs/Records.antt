@@ -8,18 +8,20 @@ use native.Mathlib.Omega.{arith}
 use lib.ListN.{getD, length, take, drop, length-drop}
 use lib.Pow.{pow-pos}
 use lib.Seq.{getD-take, getD-drop, length-take-le, take-add, drop-drop}
-use Rattle.bits.specs.Fields.{total, pack, unpack, ofBytes, none, one}
+use Rattle.bits.specs.Fields.{total, pack, unpack, ofBytes, one}
 use Rattle.bits.specs.Index.{each, eachFrom}
 use Rattle.bits.proofs.ByteLaws.{bytes-lt}
 use Rattle.bits.proofs.IndexLaws.{is-each}
-use Rattle.bits.proofs.PackLaws.{pack-two, unpack-append, bytes-append}
-use Rattle.rules.specs.Edition.{recordBytes, alerts}
-use Rattle.rules.specs.Record.{layout, wireWords, inputOfFields, heldIn, carried, inputOf}
+use Rattle.bits.proofs.FieldLaws.{pack-unpack, unpack-fits}
+use Rattle.bits.proofs.PackLaws.{unpack-append, bytes-append}
+use Rattle.rules.specs.Edition.{recordBytes, alerts, tail}
+use Rattle.rules.specs.Record.{head, wires, layout, accessIn, wireWords, inputOfParts, inputOfFields, heldIn, carried, inputOf}
 use Rattle.rules.specs.declared.Access.{Access}
 use Rattle.rules.specs.declared.Edition.{Edition}
-use Rattle.rules.specs.declared.Edition.the-variants.{Bytes24, Bytes70}
+use Rattle.rules.specs.declared.Edition.the-variants.{Alerts64, Alerts248}
 use Rattle.rules.specs.declared.Input.{Input}
-use Rattle.trace.specs.Parts.{wireBytes, accessOfWord}
+use Rattle.trace.specs.Parts.{wireBytes, tailBytes, headOf, fieldsOf}
+use Rattle.trace.specs.declared.record.Head.{Head}
 
 -- the n entries of a list that begin at a place
 pub part-length : (n at : ℕ) (xs : List ℕ) → at + n ≤ length xs → length (take n (drop at xs)) ≡ n
@@ -48,18 +50,22 @@ part-bytes m n at xs h =
 
 -- ── by editions ──
 
--- a record is its first eight bytes, its positive wires and its negative wires
-pub record-parts : (e : Edition) → recordBytes e ≡ 8 + (wireBytes e + wireBytes e)
-record-parts Bytes24 = refl
-record-parts Bytes70 = refl
+-- a record is its first eight bytes, its positive wires, its negative wires and its tail
+pub record-parts : (e : Edition) → recordBytes e ≡ 8 + (wireBytes e + (wireBytes e + tailBytes e))
+record-parts Alerts64 = refl
+record-parts Alerts248 = refl
 
 wire-bits : (e : Edition) → alerts e ≡ 8 * wireBytes e
-wire-bits Bytes24 = refl
-wire-bits Bytes70 = refl
+wire-bits Alerts64 = refl
+wire-bits Alerts248 = refl
 
-first-bits : (e : Edition) → total (take 4 (layout e)) ≡ 64
-first-bits Bytes24 = refl
-first-bits Bytes70 = refl
+tail-bits : (e : Edition) → total (tail e) ≡ 8 * tailBytes e
+tail-bits Alerts64 = refl
+tail-bits Alerts248 = refl
+
+first-bits : (e : Edition) → total (head e) ≡ 64
+first-bits Alerts64 = refl
+first-bits Alerts248 = refl
 
 -- the first n of some bytes are bytes
 byte-taken : (n : ℕ) (xs : List ℕ) → ((i : ℕ) → getD xs i 0 < 2 ^ 8) → (i : ℕ) → getD (take n xs) i 0 < 2 ^ 8
@@ -84,32 +90,46 @@ module _ (e : Edition) (at : ℕ) (xs : List ℕ) (b : (i : ℕ) → getD xs i 0
   abbrev neg : ℕ
   neg = ofBytes (take (wireBytes e) (drop (at + 8 + wireBytes e) xs))
 
-  record-number : ofBytes (take (recordBytes e) (drop at xs)) ≡ first * 2 ^ total (alerts e ∷ alerts e ∷ []) + pack (alerts e ∷ alerts e ∷ []) (pos ∷ neg ∷ [])
-  record-number =
-      let k : at + (8 + (wireBytes e + wireBytes e)) ≤ length xs = omega (arith, record-parts e) in
-      let t : 8 * (wireBytes e + wireBytes e) ≡ total (alerts e ∷ alerts e ∷ []) = omega (arith, wire-bits e) in
-      let u : 8 * wireBytes e ≡ alerts e = sym (wire-bits e) in
-      ap (λ (n : ℕ). ofBytes (take n (drop at xs))) (record-parts e) ∙ part-bytes 8 (wireBytes e + wireBytes e) at xs k
-      ∙ ap₂ (λ (m n : ℕ). first * 2 ^ m + n) t
-      (part-bytes (wireBytes e) (wireBytes e) (at + 8) xs (omega arith) ∙ ap (λ (n : ℕ). pos * 2 ^ n + neg) u ∙ sym (pack-two (alerts e) (alerts e) pos neg))
+  abbrev rest : ℕ
+  rest = ofBytes (take (tailBytes e) (drop (at + 8 + wireBytes e + wireBytes e) xs))
 
-  -- what a record holds, by its three parts
-  pub record-held : heldIn e (take (recordBytes e) (drop at xs)) ≡ record { access = accessOfWord e first; sample = record { alerts = record { pos = wireWords (alerts e) pos; neg = wireWords (alerts e) neg } } }
+  abbrev behind : List ℕ
+  behind = pos ∷ neg ∷ unpack (tail e) rest
+
+  record-ends : at + recordBytes e ≡ at + 8 + wireBytes e + wireBytes e + tailBytes e
+  record-ends = omega (arith, record-parts e)
+
+  record-number : ofBytes (take (recordBytes e) (drop at xs)) ≡ first * 2 ^ total (wires e ++ tail e) + pack (wires e ++ tail e) behind
+  unfolding pack
+  record-number =
+      let l = record-ends in
+      let t : 8 * (wireBytes e + (wireBytes e + tailBytes e)) ≡ total (wires e ++ tail e) = omega (arith, wire-bits e, tail-bits e) in
+      let u : 8 * (wireBytes e + tailBytes e) ≡ alerts e + total (tail e) = omega (arith, wire-bits e, tail-bits e) in
+      let r : rest < 2 ^ total (tail e) = subst (λ (n : ℕ). rest < 2 ^ n) (sym (tail-bits e)) (part-lt (tailBytes e) (at + 8 + wireBytes e + wireBytes e) xs (omega arith) b) in
+      ap (λ (n : ℕ). ofBytes (take n (drop at xs))) (record-parts e) ∙ part-bytes 8 (wireBytes e + (wireBytes e + tailBytes e)) at xs (omega arith)
+      ∙ ap₂ (λ (m n : ℕ). first * 2 ^ m + n) t
+      (part-bytes (wireBytes e) (wireBytes e + tailBytes e) (at + 8) xs (omega arith)
+      ∙ ap₂ (λ (m n : ℕ). pos * 2 ^ m + n) u
+      (part-bytes (wireBytes e) (tailBytes e) (at + 8 + wireBytes e) xs (omega arith)
+      ∙ ap₂ (λ (m n : ℕ). neg * 2 ^ m + n) (sym (tail-bits e)) (sym (pack-unpack (tail e) rest r))))
+
+  -- what a record holds, by its parts
+  pub record-held : heldIn e (take (recordBytes e) (drop at xs)) ≡ inputOfParts e (unpack (head e) first) (pos ∷ neg ∷ []) (unpack (tail e) rest)
   unfolding heldIn unpack
   record-held =
-      let l : at + recordBytes e ≡ at + 8 + wireBytes e + wireBytes e = omega (arith, record-parts e) in
-      let f : first < 2 ^ total (take 4 (layout e)) = subst (λ (n : ℕ). first < 2 ^ n) (sym (first-bits e)) (part-lt 8 at xs (omega arith) b) in
+      let l = record-ends in
+      let f : first < 2 ^ total (head e) = subst (λ (n : ℕ). first < 2 ^ n) (sym (first-bits e)) (part-lt 8 at xs (omega arith) b) in
       let p : pos < 2 ^ alerts e = subst (λ (n : ℕ). pos < 2 ^ n) (sym (wire-bits e)) (part-lt (wireBytes e) (at + 8) xs (omega arith) b) in
       let q : neg < 2 ^ alerts e = subst (λ (n : ℕ). neg < 2 ^ n) (sym (wire-bits e)) (part-lt (wireBytes e) (at + 8 + wireBytes e) xs (omega arith) b) in
       ap (λ (n : ℕ). inputOfFields e (unpack (layout e) n)) record-number
-      ∙ ap (inputOfFields e) (unpack-append (take 4 (layout e)) (alerts e ∷ alerts e ∷ []) first (pos ∷ neg ∷ []) f (one p (one q none)))
+      ∙ ap (inputOfFields e) (unpack-append (head e) (wires e ++ tail e) first behind f (one p (one q (unpack-fits (tail e) rest))))
 
   -- and its access and sample, as the code reads them one after another
-  pub record-input : (f n : ℕ) (a r : Access) (p q : List ℕ) → f ≡ first → a ≡ accessOfWord e f → r ≡ carried e a → n ≡ alerts e → p ≡ wireWords (alerts e) pos
-      → q ≡ wireWords (alerts e) (ofBytes (take (wireBytes e) (drop (at + 8 + n / 8) xs)))
+  pub record-input : (f n : ℕ) (h : Head) (a r : Access) (p q : List ℕ) → f ≡ first → h ≡ headOf e f → a ≡ accessIn (fieldsOf h) [] → r ≡ carried e a → n ≡ alerts e
+      → p ≡ wireWords (alerts e) pos → q ≡ wireWords (alerts e) (ofBytes (take (wireBytes e) (drop (at + 8 + n / 8) xs)))
       → record { access = r; sample = record { alerts = record { pos = p; neg = q } } } ≡ inputOf e (take (recordBytes e) (drop at xs))
-  unfolding inputOf
-  record-input f n a r p q u v w m x y =
-      let z : r ≡ carried e (accessOfWord e first) = w ∙ ap (carried e) (v ∙ ap (accessOfWord e) u) in
+  unfolding inputOf unpack
+  record-input f n h a r p q u t v w m x y =
+      let z : r ≡ carried e (accessIn (fieldsOf (headOf e first)) []) = w ∙ ap (carried e) (v ∙ ap (λ (g : Head). accessIn (fieldsOf g) []) (t ∙ ap (headOf e) u)) in
       let k : q ≡ wireWords (alerts e) neg = y ∙ ap (λ (i : ℕ). wireWords (alerts e) (ofBytes (take (wireBytes e) (drop (at + 8 + i / 8) xs)))) m in
       rw (z, x, k) (sym (ap (λ (i : Input). record { access = carried e (i .access); sample = i .sample }) record-held))

@@ -31,9 +31,9 @@ module _ (xs : List ℕ) (bytes : (i : ℕ) → getD xs i 0 < 2 ^ 8) (at : ℕ) 
   abbrev part : ℕ → ℕ → ℕ
   part n p = ofBytes (take n (drop p xs))
 
-  pub wires-24 : (a : ℕ) → at + 8 ≤ length xs → a ≡ part 8 at → a ∷ 0 ∷ 0 ∷ 0 ∷ [] ≡ wireWords 64 (part 8 at)
+  pub wires-64 : (a : ℕ) → at + 8 ≤ length xs → a ≡ part 8 at → a ∷ 0 ∷ 0 ∷ 0 ∷ [] ≡ wireWords 64 (part 8 at)
   unfolding unpack
-  wires-24 a h e =
+  wires-64 a h e =
       let l : part 8 at < 2 ^ 64 = part-lt 8 at xs h bytes in
       ap (λ (n : ℕ). n ∷ 0 ∷ 0 ∷ 0 ∷ []) e
       ∙ sym (next-word (64 ∷ 64 ∷ 64 ∷ []) (part 8 at) 0 l (pow-pos 192))
@@ -48,9 +48,9 @@ module _ (xs : List ℕ) (bytes : (i : ℕ) → getD xs i 0 < 2 ^ 8) (at : ℕ) 
   rest-lt : (n p : ℕ) → p + n ≤ length xs → part n p * 2 ^ 8 < 2 ^ (8 * n + 8)
   rest-lt n p h = shl-lt (8 * n) 8 (part-lt n p xs h bytes)
 
-  pub wires-70 : (a b c d : ℕ) → at + 31 ≤ length xs → a ≡ part 8 at → b ≡ part 8 (at + 8) → c ≡ part 8 (at + 16) → d ≡ part 7 (at + 24) * 2 ^ 8
+  pub wires-248 : (a b c d : ℕ) → at + 31 ≤ length xs → a ≡ part 8 at → b ≡ part 8 (at + 8) → c ≡ part 8 (at + 16) → d ≡ part 7 (at + 24) * 2 ^ 8
       → a ∷ b ∷ c ∷ d ∷ [] ≡ wireWords 248 (part 31 at)
-  wires-70 a b c d h ea eb ec ed =
+  wires-248 a b c d h ea eb ec ed =
       let one : unpack (replicate 4 64) (part 31 at * 2 ^ 8) ≡ part 8 at ∷ unpack (replicate 3 64) (part 23 (at + 8) * 2 ^ 8) =
       ap (unpack (replicate 4 64)) (next-part 23 at (at + 8) h (omega arith))
       ∙ next-word (replicate 3 64) (part 8 at) (part 23 (at + 8) * 2 ^ 8) (part-lt 8 at xs (omega arith) bytes) (rest-lt 23 (at + 8) (omega arith)) in

@@ -1,19 +1,27 @@
 -- The parts of a record that the code reads one after another.
 -- Assumes nothing.
 use Prim.Native.Nat.{ℕ, _/_}
-use lib.ListN.{getD, take}
-use Rattle.bits.specs.Fields.{unpack}
-use Rattle.rules.specs.Edition.{alerts}
-use Rattle.rules.specs.Record.{layout, accessIn}
-use Rattle.rules.specs.declared.Access.{Access}
+use mathlib.Core.List.{List, [], _∷_}
+use lib.ListN.{getD}
+use Rattle.bits.specs.Fields.{total, unpack}
+use Rattle.rules.specs.Edition.{alerts, tail}
+use Rattle.rules.specs.Record.{head}
 use Rattle.rules.specs.declared.Edition.{Edition}
+use Rattle.trace.specs.declared.record.Head.{Head}
 
 -- the bytes of the positive wires, and of the negative ones
 abbrev pub wireBytes : Edition → ℕ
 wireBytes e = alerts e / 8
 
--- the access in a record's first 64 bits: kind, register, zero bits, value
-abbrev pub accessOfWord : Edition → ℕ → Access
-accessOfWord e first =
-    let fs = unpack (take 4 (layout e)) first in
-    accessIn (getD fs 0 0) (getD fs 1 0) (getD fs 2 0) (getD fs 3 0)
+-- the bytes behind the wires
+abbrev pub tailBytes : Edition → ℕ
+tailBytes e = total (tail e) / 8
+
+-- the head in a record's first 64 bits: kind, register, zero bits, value; and its fields
+abbrev pub headOf : Edition → ℕ → Head
+headOf e first =
+    let fs = unpack (head e) first in
+    record { kind = getD fs 0 0; register = getD fs 1 0; zeros = getD fs 2 0; value = getD fs 3 0 }
+
+abbrev pub fieldsOf : Head → List ℕ
+fieldsOf h = h .kind ∷ h .register ∷ h .zeros ∷ h .value ∷ []

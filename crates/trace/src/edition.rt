@@ -3,27 +3,28 @@ use rules::Edition;
 ghost use mathlib.Core.Path.{_≡_};
 ghost use Rattle.rules.specs.Edition as rules;
 
-// The record of 24 bytes: its bytes, the numbers that its register field holds, and the lowest bit of that field in the first 64 bits.
-pub const BYTES_24: usize = 24;
+// The record of the edition of 64 alerts: its bytes, the numbers that its register field holds, and the lowest bit of that field in the
+// first 64 bits.
+pub const ALERTS_64_BYTES: usize = 24;
 
-pub const REGISTERS_24: u16 = 1024;
+pub const ALERTS_64_REGISTERS: u16 = 1024;
 
-pub const REGISTER_AT_24: u32 = 52;
+pub const ALERTS_64_REGISTER_AT: u32 = 52;
 
-// The same of the record of 70 bytes.
-pub const BYTES_70: usize = 70;
+// The same of the edition of 248 alerts.
+pub const ALERTS_248_BYTES: usize = 70;
 
-pub const REGISTERS_70: u16 = 2048;
+pub const ALERTS_248_REGISTERS: u16 = 2048;
 
-pub const REGISTER_AT_70: u32 = 51;
+pub const ALERTS_248_REGISTER_AT: u32 = 51;
 
 // The bytes of a record.
 pub fn record_bytes(edition: Edition) -> usize
     ensures { λ r. ⌜ r ≡ rules.recordBytes edition ⌝ }
 {
     match edition {
-        Edition::Bytes24 => BYTES_24,
-        Edition::Bytes70 => BYTES_70,
+        Edition::Alerts64 => ALERTS_64_BYTES,
+        Edition::Alerts248 => ALERTS_248_BYTES,
     }
 }
 
@@ -32,14 +33,14 @@ pub fn alerts(edition: Edition) -> usize
     ensures { λ r. ⌜ r ≡ rules.alerts edition ⌝ }
 {
     match edition {
-        Edition::Bytes24 => 64,
-        Edition::Bytes70 => 248,
+        Edition::Alerts64 => 64,
+        Edition::Alerts248 => 248,
     }
 }
 
 // Document 01's numbers carried to the map's. What was unassigned then stays so: 3 names nothing.
-fn carry_24(register: u16) -> u16
-    ensures { λ r. ⌜ r ≡ rules.carried24 register ⌝ }
+fn carry_64(register: u16) -> u16
+    ensures { λ r. ⌜ r ≡ rules.carried64 register ⌝ }
 {
     if register < 64 {
         register
@@ -52,12 +53,20 @@ fn carry_24(register: u16) -> u16
     }
 }
 
+// The map's own numbers. Registers 4, 5 and 6 of request (ix) are none of this edition's: once the map has them, they must not be reached
+// from here.
+fn carry_248(register: u16) -> u16
+    ensures { λ r. ⌜ r ≡ rules.carried248 register ⌝ }
+{
+    register
+}
+
 // The map's number of the register that the edition numbers so.
 pub fn carry(edition: Edition, register: u16) -> u16
     ensures { λ r. ⌜ r ≡ rules.carry edition register ⌝ }
 {
     match edition {
-        Edition::Bytes24 => carry_24(register),
-        Edition::Bytes70 => register,
+        Edition::Alerts64 => carry_64(register),
+        Edition::Alerts248 => carry_248(register),
     }
 }

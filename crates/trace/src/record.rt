@@ -1,10 +1,10 @@
 // "Traces": the access and sample of a record. Most significant bit first.
 use crate::edition;
-use crate::edition::BYTES_70;
-use crate::edition::REGISTER_AT_24;
-use crate::edition::REGISTER_AT_70;
-use crate::edition::REGISTERS_24;
-use crate::edition::REGISTERS_70;
+use crate::edition::ALERTS_64_REGISTER_AT;
+use crate::edition::ALERTS_64_REGISTERS;
+use crate::edition::ALERTS_248_BYTES;
+use crate::edition::ALERTS_248_REGISTER_AT;
+use crate::edition::ALERTS_248_REGISTERS;
 use crate::edition::carry;
 use rules::Access;
 use rules::Edition;
@@ -13,6 +13,7 @@ use rules::Sample;
 use rules::WORDS;
 use rules::Wires;
 ghost use mathlib.Core.Path.{_≡_};
+ghost use mathlib.Core.List.{[]};
 ghost use Prim.Native.Nat.{_+_, _*_, _^_, _≤_};
 ghost use lib.ListN.{length, take, drop};
 ghost use Rattle.bits.specs.Fields.{ofBytes};
@@ -20,8 +21,8 @@ ghost use mathlib.Core.Bool.{false};
 ghost use Rattle.rules.specs.Access.{malformed};
 ghost use Rattle.rules.specs.Edition.{newest, recordBytes, alerts};
 ghost use Rattle.rules.specs.Record as rules;
-ghost use Rattle.rules.specs.Record.{accessOf, accessIn, wireWords, inputOf, recordOf};
-ghost use Rattle.trace.specs.Parts.{wireBytes, accessOfWord};
+ghost use Rattle.rules.specs.Record.{accessOf, clear, accessIn, wireWords, inputOf, recordOf};
+ghost use Rattle.trace.specs.Parts.{wireBytes, headOf, fieldsOf};
 
 // Four bytes as one number.
 fn half_at(bytes: &[u8], at: usize) -> u32
@@ -69,46 +70,71 @@ pub fn access_of(kind: u8, register: u16, value: u32) -> Access
     }
 }
 
-// Malformed too: a nonzero bit among the zero bits.
-fn access_in(kind: u8, register: u16, zeros: u32, value: u32) -> Access
-    ensures { λ r. ⌜ r ≡ accessIn kind register zeros value ⌝ }
+// The fields of a record's first 64 bits.
+struct Head {
+    kind: u8,
+    register: u16,
+    zeros: u32,
+    value: u32,
+}
+
+// Whether all zero bits of a record are zero: those of its head, since no edition has zero bits behind its wires.
+fn are_clear(head: Head) -> bool
+    ensures { λ r. ⌜ r ≡ clear (fieldsOf head) [] ⌝ }
 {
-    if zeros == 0 {
-        access_of(kind, register, value)
+    head.zeros == 0
+}
+
+// Malformed too: a nonzero bit among the zero bits.
+fn access_in(head: Head) -> Access
+    ensures { λ r. ⌜ r ≡ accessIn (fieldsOf head) [] ⌝ }
+{
+    if are_clear(head) {
+        access_of(head.kind, head.register, head.value)
     } else {
         Access::Malformed
     }
 }
 
-// The first 64 bits of a record of 24 bytes: 2 bits kind, 10 bits register, 20 zero bits, 32 bits value.
-fn first_24(first: u64) -> Access
-    ensures { λ r. ⌜ r ≡ accessOfWord Edition.Bytes24 first ⌝ }
+// The head of a record for 64 alerts: 2 bits kind, 10 bits register, 20 zero bits, 32 bits value.
+fn head_64(first: u64) -> Head
+    ensures { λ r. ⌜ r ≡ headOf Edition.Alerts64 first ⌝ }
 {
     let kind = (first >> 62) as u8;
-    let register = ((first >> REGISTER_AT_24) % REGISTERS_24 as u64) as u16;
+    let register = ((first >> ALERTS_64_REGISTER_AT) % ALERTS_64_REGISTERS as u64) as u16;
     let zeros = ((first >> 32) % 1048576) as u32;
     let value = (first % 4294967296) as u32;
-    access_in(kind, register, zeros, value)
+    Head {
+        kind,
+        register,
+        zeros,
+        value,
+    }
 }
 
-// Of one of 70 bytes: 11 bits register, 19 zero bits.
-fn first_70(first: u64) -> Access
-    ensures { λ r. ⌜ r ≡ accessOfWord Edition.Bytes70 first ⌝ }
+// For 248 alerts: 11 bits register, 19 zero bits.
+fn head_248(first: u64) -> Head
+    ensures { λ r. ⌜ r ≡ headOf Edition.Alerts248 first ⌝ }
 {
     let kind = (first >> 62) as u8;
-    let register = ((first >> REGISTER_AT_70) % REGISTERS_70 as u64) as u16;
+    let register = ((first >> ALERTS_248_REGISTER_AT) % ALERTS_248_REGISTERS as u64) as u16;
     let zeros = ((first >> 32) % 524288) as u32;
     let value = (first % 4294967296) as u32;
-    access_in(kind, register, zeros, value)
+    Head {
+        kind,
+        register,
+        zeros,
+        value,
+    }
 }
 
-// The access in the first 64 bits of a record.
-fn first_access(edition: Edition, first: u64) -> Access
-    ensures { λ r. ⌜ r ≡ accessOfWord edition first ⌝ }
+// The head in the first 64 bits of a record.
+fn head_of(edition: Edition, first: u64) -> Head
+    ensures { λ r. ⌜ r ≡ headOf edition first ⌝ }
 {
     match edition {
-        Edition::Bytes24 => first_24(first),
-        Edition::Bytes70 => first_70(first),
+        Edition::Alerts64 => head_64(first),
+        Edition::Alerts248 => head_248(first),
     }
 }
 
@@ -137,7 +163,7 @@ fn seven_at(bytes: &[u8], at: usize) -> u64
 }
 
 // 64 wires, of alerts 0 to 63.
-fn wires_24(bytes: &[u8], at: usize) -> [u64; WORDS]
+fn wires_64(bytes: &[u8], at: usize) -> [u64; WORDS]
     requires { ⌜ at + 8 ≤ length (now bytes) ⌝ }
     ensures { λ r. ⌜ r ≡ wireWords 64 (ofBytes (take 8 (drop at (now (bytes .entry))))) ⌝ }
 {
@@ -146,7 +172,7 @@ fn wires_24(bytes: &[u8], at: usize) -> [u64; WORDS]
 }
 
 // 248 wires.
-fn wires_70(bytes: &[u8], at: usize) -> [u64; WORDS]
+fn wires_248(bytes: &[u8], at: usize) -> [u64; WORDS]
     requires { ⌜ at + 31 ≤ length (now bytes) ⌝ }
     ensures { λ r. ⌜ r ≡ wireWords 248 (ofBytes (take 31 (drop at (now (bytes .entry))))) ⌝ }
 {
@@ -163,8 +189,8 @@ fn wires_at(edition: Edition, bytes: &[u8], at: usize) -> [u64; WORDS]
     ensures { λ r. ⌜ r ≡ wireWords (alerts edition) (ofBytes (take (wireBytes edition) (drop at (now (bytes .entry))))) ⌝ }
 {
     match edition {
-        Edition::Bytes24 => wires_24(bytes, at),
-        Edition::Bytes70 => wires_70(bytes, at),
+        Edition::Alerts64 => wires_64(bytes, at),
+        Edition::Alerts248 => wires_248(bytes, at),
     }
 }
 
@@ -173,7 +199,8 @@ pub fn input_at(edition: Edition, bytes: &[u8], at: usize) -> Input
     requires { ⌜ at + recordBytes edition ≤ length (now bytes) ⌝ }
     ensures { λ r. ⌜ r ≡ inputOf edition (take (recordBytes edition) (drop at (now (bytes .entry)))) ⌝ }
 {
-    let access = carried(edition, first_access(edition, word_at(bytes, at)));
+    let head = head_of(edition, word_at(bytes, at));
+    let access = carried(edition, access_in(head));
     let pos = wires_at(edition, bytes, at + 8);
     let neg = wires_at(edition, bytes, at + 8 + edition::alerts(edition) / 8);
     Input {
@@ -185,9 +212,9 @@ pub fn input_at(edition: Edition, bytes: &[u8], at: usize) -> Input
 }
 
 // The newest record. Writing what was read gives the same bytes, if it is well-formed.
-pub fn input_of(bytes: [u8; BYTES_70]) -> Input
+pub fn input_of(bytes: [u8; ALERTS_248_BYTES]) -> Input
     ensures { λ r. ⌜ r ≡ inputOf newest bytes ⌝ }
     ensures written { λ r. ⌜ (malformed (r .access) ≡ false → recordOf newest r ≡ bytes) ⌝ }
 {
-    input_at(Edition::Bytes70, &bytes, 0)
+    input_at(Edition::Alerts248, &bytes, 0)
 }

@@ -13,7 +13,7 @@ use Rattle.bits.specs.Index.{eachFrom, placeIn}
 use Rattle.laws.proofs.RecordLaws.{held-wired}
 use Rattle.laws.proofs.Recordable.{record-formed}
 use Rattle.rules.specs.Answer.{firstOf}
-use Rattle.rules.specs.Edition.{newest}
+use Rattle.rules.specs.Edition.{newest, carried248}
 use Rattle.rules.specs.Record.{accessOf, heldIn, inputOf, kindOf, registerOf, valueOf, recordOf, recordable, inputsOf}
 use Rattle.rules.specs.Writer.{SameRead, AllSame, no-more, and, WellFormed, Written, anyUnrecordable, writeVerdict}
 use Rattle.rules.specs.declared.Access.the-variants.{Read, Write}
@@ -97,5 +97,5 @@ unfolding heldIn accessOf pack unpack recordable
 formed = rw is-record at (record-formed newest (heldIn newest bytes) (held-wired newest bytes) refl)
 
 written-again : (buffer left : List ℕ) → WrittenBack one1293 buffer left → 70 ≤ length buffer → left ≡ bytes ++ drop 70 buffer
-unfolding listOf eachFrom inputsOf inputOf heldIn accessOf pack unpack
+unfolding listOf eachFrom inputsOf inputOf heldIn accessOf pack unpack carried248
 written-again buffer left back l = back bytes formed refl refl l

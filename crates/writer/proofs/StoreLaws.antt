@@ -15,11 +15,11 @@ use Rattle.bits.proofs.FieldLaws.{pack-lt}
 use Rattle.bits.proofs.IndexLaws.{length-each}
 use Rattle.bits.proofs.PackLaws.{pack-append, pack-two, unpack-parts, total-bytes}
 use Rattle.rules.specs.Edition.{newest, alerts}
-use Rattle.rules.specs.Record.{wiresOf, layout, accessOf, kindOf, registerOf, valueOf, recordOf}
+use Rattle.rules.specs.Record.{head, wires, wiresOf, accessOf, headFields, recordOf}
 use Rattle.rules.specs.State.{words}
 use Rattle.rules.specs.declared.Input.{Input}
 use Rattle.laws.proofs.WireLaws.{wires-lt}
-use Rattle.writer.specs.Parts.{inputIn, accessLayout, accessWord, wordBytes, setBytes}
+use Rattle.writer.specs.Parts.{inputIn, accessWord, wordBytes, setBytes}
 
 -- one run of stores behind another
 pub sets-append : (l : List ℕ) (i : ℕ) (xs ys : List ℕ) → sets (sets l i xs) (i + length xs) ys ≡ sets l i (xs ++ ys)
@@ -175,12 +175,10 @@ module _ (k r v : ℕ) (f g : ℕ → ℕ) (p : (i : ℕ) → f i < 2 ^ 64) (q :
   record-parts : word < 2 ^ 64 → recordOf newest entry ≡ toBytes 8 word ++ (setBytes f ++ setBytes g)
   unfolding recordOf accessWord
   record-parts h =
-      let x = accessOf k r v in
-      let fs : List ℕ = kindOf x ∷ registerOf x ∷ 0 ∷ valueOf x ∷ [] in
       let a : ℕ = set-wires f p in
       let b : ℕ = set-wires g q in
-      ap (toBytes 70) (pack-append accessLayout (248 ∷ 248 ∷ []) fs (a ∷ b ∷ []) refl)
-      ∙ unpack-parts (replicate 8 8) (replicate 62 8) word (pack (248 ∷ 248 ∷ []) (a ∷ b ∷ [])) h (pack-lt (one (set-lt f p) (one (set-lt g q) none)))
+      ap (toBytes 70) (pack-append (head newest) (wires newest) (headFields (accessOf k r v)) (a ∷ b ∷ []) refl)
+      ∙ unpack-parts (replicate 8 8) (replicate 62 8) word (pack (wires newest) (a ∷ b ∷ [])) h (pack-lt (one (set-lt f p) (one (set-lt g q) none)))
       ∙ ap (λ (l : List ℕ). toBytes 8 word ++ l)
       (ap (toBytes 62) (pack-two 248 248 a b) ∙ unpack-parts (replicate 31 8) (replicate 31 8) a b (set-lt f p) (set-lt g q)
       ∙ ap₂ (λ (l m : List ℕ). l ++ m) (set-bytes f p) (set-bytes g q))

@@ -4,12 +4,12 @@ use Prim.Native.Nat.{ℕ, zero, suc, _*_, _/_, _^_, _≤_}
 use mathlib.Core.Path.{_≡_}
 use mathlib.Core.Bool.{Bool, false, not}
 use mathlib.Core.List.{List, [], _∷_, _++_}
-use lib.ListN.{getD, length, take}
+use lib.ListN.{getD, length}
 use Rattle.bits.specs.Fields.{pack, toBytes}
 use Rattle.bits.specs.Index.{anyTo}
 use Rattle.rules.specs.Answer.{firstOf}
 use Rattle.rules.specs.Edition.{newest, recordBytes}
-use Rattle.rules.specs.Record.{layout, accessOf, kindOf, registerOf, valueOf, recordable}
+use Rattle.rules.specs.Record.{head, accessOf, headFields, recordable}
 use Rattle.rules.specs.State.{words}
 use Rattle.rules.specs.declared.Access.{Access}
 use Rattle.rules.specs.declared.Input.{Input}
@@ -26,11 +26,8 @@ inputIn kind register value positive negative =
     }
 
 -- the first 64 bits of a record: kind, register, zero bits, value
-abbrev pub accessLayout : List ℕ
-accessLayout = take 4 (layout newest)
-
 unfoldable pub accessWord : Access → ℕ
-accessWord a = pack accessLayout (kindOf a ∷ registerOf a ∷ 0 ∷ valueOf a ∷ [])
+accessWord a = pack (head newest) (headFields a)
 
 -- the bytes of the n words f 0, f 1, ..
 unfoldable pub wordBytes : ℕ → (ℕ → ℕ) → List ℕ

@@ -11,7 +11,7 @@ use answers::signed;
 use rules::Answer;
 use rules::Refusal;
 use rules::Verdict;
-use trace::edition::BYTES_70;
+use trace::edition::ALERTS_248_BYTES;
 ghost use mathlib.Core.Path.{_≡_};
 ghost use Rattle.writer.specs.Lent.{lent, Wrote, ReadBack, WrittenBack};
 ghost use Rattle.writer.specs.Parts.{inOrder};
@@ -47,11 +47,11 @@ pub fn write(
         signed(Answer::Refused(Refusal::NoRecord))
     } else {
         let count = kinds.len();
-        let short = out.len() / BYTES_70 < count;
+        let short = out.len() / ALERTS_248_BYTES < count;
         match verdict_of(any_unrecordable(kinds, registers, values), short) {
             Verdict::Accepted => {
                 put_all(kinds, registers, values, positive, negative, out);
-                (count * BYTES_70) as i64
+                (count * ALERTS_248_BYTES) as i64
             }
             Verdict::Refused(m) => signed(Answer::Refused(m)),
         }

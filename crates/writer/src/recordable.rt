@@ -1,6 +1,6 @@
 // Refusal 10: what no well-formed record holds.
 use rules::WORDS;
-use trace::edition::REGISTERS_70;
+use trace::edition::ALERTS_248_REGISTERS;
 ghost use mathlib.Core.Path.{_≡_};
 ghost use mathlib.Core.Bool.{not};
 ghost use Prim.Native.Nat.{_*_, _≤_};
@@ -42,8 +42,8 @@ fn is_recordable(kind: u8, register: u16, value: u32) -> bool
 {
     match kind {
         0 => (register == 0) & (value == 0),
-        1 => (register < REGISTERS_70) & (value == 0),
-        2 => register < REGISTERS_70,
+        1 => (register < ALERTS_248_REGISTERS) & (value == 0),
+        2 => register < ALERTS_248_REGISTERS,
         _ => false,
     }
 }

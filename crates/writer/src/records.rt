@@ -2,8 +2,8 @@
 use crate::bytes::put_seven;
 use crate::bytes::put_word;
 use rules::WORDS;
-use trace::edition::BYTES_70;
-use trace::edition::REGISTER_AT_70;
+use trace::edition::ALERTS_248_BYTES;
+use trace::edition::ALERTS_248_REGISTER_AT;
 ghost use mathlib.Core.Path.{_≡_};
 ghost use mathlib.Core.Bool.{true};
 ghost use mathlib.Core.List.{_++_};
@@ -24,7 +24,7 @@ fn first_word(kind: u8, register: u16, value: u32) -> u64
 {
     let kind_bits = kind as u64;
     let register_bits = register as u64;
-    (kind_bits << 62) + (register_bits << REGISTER_AT_70) + value as u64
+    (kind_bits << 62) + (register_bits << ALERTS_248_REGISTER_AT) + value as u64
 }
 
 // The words that a wire set has whole; of the last one it has seven bytes.
@@ -84,7 +84,7 @@ pub fn put_all(
     while i < kinds.len() {
         put_record(
             out,
-            i * BYTES_70,
+            i * ALERTS_248_BYTES,
             kinds[i],
             registers[i],
             values[i],

@@ -1,35 +1,35 @@
 //! The editions of a trace: what is known of each one's form.
-use crate::registers::{Map, MAP, MAP_24};
+use crate::registers::{Map, MAP, MAP_64};
 
-/// The form of a trace, named by the bytes of its record. A record is 2 bits kind, the register, zero bits to 32, 32 bits
+/// The form of a trace, named by what it brings. A record is 2 bits kind, the register, zero bits to 32, 32 bits
 /// value, then the positive and the negative wires, alert 0 first.
 #[derive(Clone, Copy, Debug, PartialEq, Eq)]
 pub enum Edition {
     /// Document 01's: N up to 64, N first.
-    Bytes24,
+    Alerts64,
     /// That of 248 alerts: a first byte of 255, then N.
-    Bytes70,
+    Alerts248,
 }
 
 use Edition::*;
 
 impl Edition {
     /// All, the oldest first.
-    pub const ALL: [Edition; 2] = [Bytes24, Bytes70];
+    pub const ALL: [Edition; 2] = [Alerts64, Alerts248];
     /// The one that is written.
-    pub const NEWEST: Edition = Bytes70;
+    pub const NEWEST: Edition = Alerts248;
 
     /// The edition of a trace that begins with this byte.
     pub fn of(first: u8) -> Edition {
         let marked = |edition: &Edition| edition.mark() == Some(first);
-        Edition::ALL.into_iter().find(marked).unwrap_or(Bytes24)
+        Edition::ALL.into_iter().find(marked).unwrap_or(Alerts64)
     }
 
     /// The byte before N; none where N is the first byte.
     pub const fn mark(self) -> Option<u8> {
         match self {
-            Bytes24 => None,
-            Bytes70 => Some(255),
+            Alerts64 => None,
+            Alerts248 => Some(255),
         }
     }
 
@@ -51,8 +51,8 @@ impl Edition {
     /// The bits of a record's register.
     pub const fn register_bits(self) -> u32 {
         match self {
-            Bytes24 => 10,
-            Bytes70 => 11,
+            Alerts64 => 10,
+            Alerts248 => 11,
         }
     }
 
@@ -64,13 +64,13 @@ impl Edition {
     /// Its register numbers.
     pub const fn registers(self) -> Map {
         match self {
-            Bytes24 => MAP_24,
-            Bytes70 => MAP,
+            Alerts64 => MAP_64,
+            Alerts248 => MAP,
         }
     }
 }
 
 const _: () = {
-    assert!(Bytes24.bytes() == 24);
-    assert!(Bytes70.bytes() == 70);
+    assert!(Alerts64.bytes() == 24);
+    assert!(Alerts248.bytes() == 70);
 };

@@ -84,8 +84,8 @@ pub fn batch(h: Handler, edition: Edition, bytes: &[u8], out: &mut [Word]) -> Ba
     // Safe: both slices are as long as said, not null, aligned, and apart; a Word is a u64.
     unsafe {
         match edition {
-            Edition::Bytes24 => tarravane_batch_24(h, from, length, to, words),
-            Edition::Bytes70 => tarravane_batch_70(h, from, length, to, words),
+            Edition::Alerts64 => tarravane_batch_24(h, from, length, to, words),
+            Edition::Alerts248 => tarravane_batch_70(h, from, length, to, words),
         }
     }
 }

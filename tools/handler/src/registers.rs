@@ -11,7 +11,7 @@ mod register;
 mod setting;
 
 pub use field::Field;
-pub use map::{Map, INTR_BITS, INTR_ENABLE, INTR_STATE, INTR_TEST, MAP, MAP_24};
+pub use map::{Map, INTR_BITS, INTR_ENABLE, INTR_STATE, INTR_TEST, MAP, MAP_64};
 pub use papers::Naming;
 pub use register::{Register, LETTERS};
 pub use setting::Setting;

@@ -121,10 +121,10 @@ fn an_old_batch_refuses_a_handler_of_more_than_64_alerts() {
     for n in [65, 248] {
         let h = made(n);
         for length in [0, 1, 24, 48] {
-            let given = h.batch(Edition::Bytes24, &[0; 48][..length], &mut words);
+            let given = h.batch(Edition::Alerts64, &[0; 48][..length], &mut words);
             assert_eq!(given, (h, Answer(-7)));
         }
         assert_eq!(words, [Word(7)]);
-        assert_eq!(h.batch(Edition::Bytes70, &[], &mut []).1, Answer(0));
+        assert_eq!(h.batch(Edition::Alerts248, &[], &mut []).1, Answer(0));
     }
 }

@@ -27,8 +27,8 @@ use handler::Edition;
 /// word of wires, and the most.
 fn counts(edition: Edition) -> &'static [u8] {
     match edition {
-        Edition::Bytes24 => &[1, 2, 7, 8, 9, 63, 64],
-        Edition::Bytes70 => &[1, 9, 64, 65, 127, 128, 191, 192, 247, 248],
+        Edition::Alerts64 => &[1, 2, 7, 8, 9, 63, 64],
+        Edition::Alerts248 => &[1, 9, 64, 65, 127, 128, 191, 192, 247, 248],
     }
 }
 

@@ -19,7 +19,7 @@ pub fn opening(edition: Edition, n: u8) -> Vec<u8> {
 
 /// Takes an input apart.
 pub fn opened(bytes: &[u8]) -> Opened<'_> {
-    let edition = bytes.first().map_or(Edition::Bytes24, |b| Edition::of(*b));
+    let edition = bytes.first().map_or(Edition::Alerts64, |b| Edition::of(*b));
     let before = usize::from(edition.mark().is_some());
     Opened {
         edition,
@@ -47,15 +47,15 @@ mod tests {
     #[test]
     fn an_input_is_taken_apart_by_its_first_byte() {
         for (bytes, edition, n, alerts, records) in [
-            (&[][..], Edition::Bytes24, None, 0, 0),
-            (&[64, 1, 2], Edition::Bytes24, Some(64), 64, 2),
-            (&[65, 1, 2], Edition::Bytes24, Some(65), 0, 2),
-            (&[254], Edition::Bytes24, Some(254), 0, 0),
-            (&[255], Edition::Bytes70, None, 0, 0),
-            (&[255, 0], Edition::Bytes70, Some(0), 0, 0),
-            (&[255, 248, 1], Edition::Bytes70, Some(248), 248, 1),
-            (&[255, 249], Edition::Bytes70, Some(249), 0, 0),
-            (&[255, 255], Edition::Bytes70, Some(255), 0, 0),
+            (&[][..], Edition::Alerts64, None, 0, 0),
+            (&[64, 1, 2], Edition::Alerts64, Some(64), 64, 2),
+            (&[65, 1, 2], Edition::Alerts64, Some(65), 0, 2),
+            (&[254], Edition::Alerts64, Some(254), 0, 0),
+            (&[255], Edition::Alerts248, None, 0, 0),
+            (&[255, 0], Edition::Alerts248, Some(0), 0, 0),
+            (&[255, 248, 1], Edition::Alerts248, Some(248), 248, 1),
+            (&[255, 249], Edition::Alerts248, Some(249), 0, 0),
+            (&[255, 255], Edition::Alerts248, Some(255), 0, 0),
         ] {
             let input = opened(bytes);
             assert_eq!((input.edition, input.n), (edition, n), "{bytes:?}");

@@ -27,7 +27,7 @@ fn the_file_has_the_traces_of_the_set() {
         let bytes = case.bytes();
         assert_eq!(checksum(&bytes), golden.trace, "{golden}");
         assert_ne!(bytes.first(), Some(&255));
-        assert_eq!(case.edition, Edition::Bytes24);
+        assert_eq!(case.edition, Edition::Alerts64);
     }
 }
 

@@ -116,9 +116,9 @@ fn makes_every_move(coverage: &Coverage) {
 
 #[test]
 fn the_default_set_of_old_records_reaches_all() {
-    let coverage = default_set(Edition::Bytes24);
+    let coverage = default_set(Edition::Alerts64);
     reaches_every_state_refusal_and_line(&coverage);
-    reaches_every_alert_and_register(Edition::Bytes24, &coverage);
+    reaches_every_alert_and_register(Edition::Alerts64, &coverage);
     has_every_family_of_shadow_writes(&coverage);
     has_every_family_of_thresholds(&coverage);
     makes_every_move(&coverage);
@@ -129,9 +129,9 @@ fn the_default_set_of_old_records_reaches_all() {
 
 #[test]
 fn the_default_set_of_new_records_reaches_all() {
-    let coverage = default_set(Edition::Bytes70);
+    let coverage = default_set(Edition::Alerts248);
     reaches_every_state_refusal_and_line(&coverage);
-    reaches_every_alert_and_register(Edition::Bytes70, &coverage);
+    reaches_every_alert_and_register(Edition::Alerts248, &coverage);
     has_every_family_of_shadow_writes(&coverage);
     has_every_family_of_thresholds(&coverage);
     makes_every_move(&coverage);
@@ -199,7 +199,7 @@ fn the_same_seed_gives_the_same_bytes() {
             assert_eq!(bytes(edition, 5), bytes(edition, 5));
             assert_ne!(bytes(edition, 5), bytes(edition, 6));
         }
-        assert_ne!(bytes(Edition::Bytes24, 5), bytes(Edition::Bytes70, 5));
+        assert_ne!(bytes(Edition::Alerts64, 5), bytes(Edition::Alerts248, 5));
     }
 }
 
@@ -223,12 +223,12 @@ fn records_are_packed_as_the_paper_shows() {
             "bff000000000000000000000000000008000000000000000",
         ),
     ] {
-        assert_eq!(hex(Edition::Bytes24, Head::new(kind, register, 0)), wanted);
+        assert_eq!(hex(Edition::Alerts64, Head::new(kind, register, 0)), wanted);
     }
     // Kind 2, register 1281, 19 zero bits.
     let head = Head::new(WRITE, 1281, 0x393D);
     let wanted = format!("a80800000000393d{}80{}", "00".repeat(31), "00".repeat(30));
-    assert_eq!(hex(Edition::Bytes70, head), wanted);
+    assert_eq!(hex(Edition::Alerts248, head), wanted);
 }
 
 #[test]

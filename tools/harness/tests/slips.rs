@@ -19,7 +19,7 @@ fn build(number: usize, slip: &Slip) -> PathBuf {
 
 /// Which trace of the default set finds the slip, if one does.
 fn finder(replay: &Path) -> Option<String> {
-    let old = generated(Edition::Bytes24, DEFAULT_SEED).take(DEFAULT_TRACES as usize);
+    let old = generated(Edition::Alerts64, DEFAULT_SEED).take(DEFAULT_TRACES as usize);
     // In turn, since a slip may show in one edition alone.
     let cases = old.flat_map(|case| Edition::ALL.map(|edition| Case { edition, ..case }));
     let found = compare_all(replay, cases, &mut Coverage::default()).unwrap()?;

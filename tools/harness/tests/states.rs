@@ -26,7 +26,7 @@ fn answer(state: &Handler) -> i64 {
     let (after, answer) = state.batch(Edition::NEWEST, &[], &mut []);
     assert_eq!((given.answer, after), (answer, *state));
     let old = if state.n > 64 { Answer(-7) } else { answer };
-    assert_eq!(state.batch(Edition::Bytes24, &[], &mut []), (*state, old));
+    assert_eq!(state.batch(Edition::Alerts64, &[], &mut []), (*state, old));
     if answer.0 == -7 {
         assert_eq!(given.handler, *state);
         assert_eq!((given.output.interrupts, given.output.lines), (0, 0));
@@ -303,7 +303,7 @@ fn a_tick_that_changes_what_is_no_alert_is_found() {
 fn an_old_batch_that_runs_on_65_alerts_is_found() {
     fn batch(h: Handler, e: Edition, bytes: &[u8], out: &mut [Word]) -> (Handler, Answer) {
         let mut few = h;
-        if e == Edition::Bytes24 && h.n == 65 {
+        if e == Edition::Alerts64 && h.n == 65 {
             few.n = 64;
         }
         let (after, answer) = few.batch(e, bytes, out);

@@ -102,20 +102,20 @@ pub fn refusal(refusal: Refusal, reads: bool) -> &'static str {
 mod tests {
     use super::*;
 
-    use Edition::{Bytes24, Bytes70};
+    use Edition::{Alerts248, Alerts64};
 
     #[test]
     fn a_register_without_a_name_goes_by_its_number() {
         for (edition, number, name) in [
-            (Bytes24, 2, "INTR_TEST"),
-            (Bytes24, 3, "3"),
-            (Bytes24, 321, "CLASSA_CTRL"),
-            (Bytes24, 333, "333"),
-            (Bytes24, 512, "512"),
-            (Bytes70, 2, "INTR_TEST"),
-            (Bytes70, 321, "ALERT65_REGWEN"),
-            (Bytes70, 1281, "CLASSA_CTRL"),
-            (Bytes70, 504, "504"),
+            (Alerts64, 2, "INTR_TEST"),
+            (Alerts64, 3, "3"),
+            (Alerts64, 321, "CLASSA_CTRL"),
+            (Alerts64, 333, "333"),
+            (Alerts64, 512, "512"),
+            (Alerts248, 2, "INTR_TEST"),
+            (Alerts248, 321, "ALERT65_REGWEN"),
+            (Alerts248, 1281, "CLASSA_CTRL"),
+            (Alerts248, 504, "504"),
         ] {
             assert_eq!(register(Naming::Ours, edition, number), name);
         }
@@ -133,11 +133,11 @@ mod tests {
 
     #[test]
     fn values_are_told_by_register() {
-        for (edition, class_a) in [(Bytes24, 320), (Bytes70, 1280)] {
+        for (edition, class_a) in [(Alerts64, 320), (Alerts248, 1280)] {
             assert_eq!(read(edition, class_a + 1, 0x393C), "0x393c");
             assert_eq!(read(edition, class_a + 12, 7), "7 Ph3");
             assert_eq!(written(edition, class_a + 6, u32::MAX), "4294967295");
         }
-        assert_eq!(written(Bytes70, 321, 1), "1");
+        assert_eq!(written(Alerts248, 321, 1), "1");
     }
 }

@@ -2,7 +2,7 @@
 mod common;
 
 use common::random;
-use common::records::{all_at, apart, off_rest, record, record_24, record_70, start, REST};
+use common::records::{all_at, apart, off_rest, record, record_248, record_64, start, REST};
 use common::round::{goes_round, text_of, trace_of};
 use common::{example, examples, given, refused};
 use handler::{Edition, Wires};
@@ -13,11 +13,11 @@ use std::fs;
 fn the_words_of_each_record() {
     let bytes = [
         vec![2],
-        record_24(2, 321, 0x393F, (0b1000_0100 << 56, u64::MAX >> 1)),
-        record_24(1, 256, 0, REST),
-        record_24(0, 0, 0, (0xF << 60, u64::MAX >> 4)),
-        record_24(1, 1023, 0, (1, u64::MAX)),
-        record_24(2, 333, 0xFFFF_FFFF, (0, 0)),
+        record_64(2, 321, 0x393F, (0b1000_0100 << 56, u64::MAX >> 1)),
+        record_64(1, 256, 0, REST),
+        record_64(0, 0, 0, (0xF << 60, u64::MAX >> 4)),
+        record_64(1, 1023, 0, (1, u64::MAX)),
+        record_64(2, 333, 0xFFFF_FFFF, (0, 0)),
     ]
     .concat();
     let text = "\
@@ -37,11 +37,11 @@ write 333 4294967295 wires 0-63=00
 fn the_words_of_each_record_of_70_bytes() {
     let bytes = [
         vec![255, 248],
-        record_70(2, 1281, 0x393F, off_rest(&[(0, 0b10), (247, 0b11)])),
-        record_70(1, 1024 + 247, 0, Wires::REST),
-        record_70(0, 0, 0, off_rest(&[(63, 0b10), (64, 0b10), (128, 0b00)])),
-        record_70(1, 2047, 0, all_at(Edition::Bytes70, 0b00)),
-        record_70(2, 321, 1, Wires::REST),
+        record_248(2, 1281, 0x393F, off_rest(&[(0, 0b10), (247, 0b11)])),
+        record_248(1, 1024 + 247, 0, Wires::REST),
+        record_248(0, 0, 0, off_rest(&[(63, 0b10), (64, 0b10), (128, 0b00)])),
+        record_248(1, 2047, 0, all_at(Edition::Alerts248, 0b00)),
+        record_248(2, 321, 1, Wires::REST),
     ]
     .concat();
     let text = "\
@@ -91,7 +91,7 @@ fn random_traces_go_round() {
 /// Every register that a record has room for, read and written.
 #[test]
 fn every_register_goes_round() {
-    for (edition, registers) in [(Edition::Bytes24, 1024), (Edition::Bytes70, 2048)] {
+    for (edition, registers) in [(Edition::Alerts64, 1024), (Edition::Alerts248, 2048)] {
         let mut bytes = start(edition, edition.alerts() as u8);
         for register in 0..registers {
             bytes.extend(record(edition, 1, register, 0, Wires::REST));

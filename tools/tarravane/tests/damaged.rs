@@ -2,7 +2,7 @@
 mod common;
 
 use common::random;
-use common::records::{off_rest, record, record_24, record_70, start, REST};
+use common::records::{off_rest, record, record_248, record_64, start, REST};
 use common::round::{goes_round, trace_of};
 use common::{ended, example, examples, given, refused, said_of};
 use handler::registers::Setting;
@@ -78,7 +78,7 @@ fn malformed(edition: Edition) -> Vec<Vec<u8>> {
 
 #[test]
 fn a_record_that_is_not_well_formed_is_raw() {
-    for (edition, zeros) in [(Edition::Bytes24, 20), (Edition::Bytes70, 19)] {
+    for (edition, zeros) in [(Edition::Alerts64, 20), (Edition::Alerts248, 19)] {
         let (good, all) = (read_ctrl(edition), malformed(edition));
         assert_eq!(all.len(), 7 + 2 * zeros);
         for bad in all {
@@ -130,14 +130,14 @@ fn a_trace_without_a_handler_is_told_and_written() {
         format!("the trace asks for {n} alerts: records of {bytes} bytes are for 1 to {most}")
     };
     is_refused(vec![0], "edition 24\nalerts 0\n", &asks(0, 24, 64));
-    let none = [vec![65], record_24(0, 0, 0, REST)].concat();
+    let none = [vec![65], record_64(0, 0, 0, REST)].concat();
     let text = "edition 24\nalerts 65\nnone\n";
     is_refused(none, text, &asks(65, 24, 64));
     let ends = "the trace ends after 255: the number of alerts comes next";
     is_refused(vec![255], "edition 70\n", ends);
     let text = "edition 70\nalerts 0\n";
     is_refused(vec![255, 0], text, &asks(0, 70, 248));
-    let none = [vec![255, 249], record_70(0, 0, 0, Wires::REST)].concat();
+    let none = [vec![255, 249], record_248(0, 0, 0, Wires::REST)].concat();
     let text = "edition 70\nalerts 249\nnone\n";
     is_refused(none, text, &asks(249, 70, 248));
 }
@@ -152,8 +152,8 @@ fn a_missing_trace_is_told() {
 #[test]
 fn an_n_that_is_refused_is_written() {
     for (edition, all, last) in [
-        (Edition::Bytes24, [0, 65, 254], 63),
-        (Edition::Bytes70, [0, 249, 255], 247),
+        (Edition::Alerts64, [0, 65, 254], 63),
+        (Edition::Alerts248, [0, 249, 255], 247),
     ] {
         let bytes = edition.bytes();
         for n in all {

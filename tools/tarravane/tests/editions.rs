@@ -1,7 +1,7 @@
 //! What is particular to an edition of a trace, and what is the same in both.
 mod common;
 
-use common::records::{apart, configure, off_rest, record, record_24, record_70, start, REST};
+use common::records::{apart, configure, off_rest, record, record_248, record_64, start, REST};
 use common::round::{goes_round, text_of};
 use common::{example, explained, given, said_of};
 use handler::{Edition, Wires};
@@ -51,9 +51,9 @@ fn editions_differ_in_their_title_alone() {
 fn old_numbers_are_the_old_ones() {
     let bytes = [
         vec![64],
-        record_24(1, 512, 0, REST),
-        record_24(1, 1023, 0, REST),
-        record_24(1, 321, 0, REST),
+        record_64(1, 512, 0, REST),
+        record_64(1, 1023, 0, REST),
+        record_64(1, 321, 0, REST),
     ]
     .concat();
     let rows = rows(&bytes);
@@ -68,11 +68,11 @@ fn the_far_alert_is_told() {
     let raised = off_rest(&[(247, 0b10)]);
     let bytes = [
         vec![255, 248],
-        configure(Edition::Bytes70, 512 + 247, 1),
-        configure(Edition::Bytes70, 768 + 247, 1),
-        configure(Edition::Bytes70, 1296 + 1, 0x393F),
-        record_70(0, 0, 0, raised),
-        record_70(1, 1024 + 247, 0, apart(Edition::Bytes70, 0b11)),
+        configure(Edition::Alerts248, 512 + 247, 1),
+        configure(Edition::Alerts248, 768 + 247, 1),
+        configure(Edition::Alerts248, 1296 + 1, 0x393F),
+        record_248(0, 0, 0, raised),
+        record_248(1, 1024 + 247, 0, apart(Edition::Alerts248, 0b11)),
     ]
     .concat();
     let rows = rows(&bytes);
@@ -110,12 +110,12 @@ fn each_line_of_edition_24_is_a_record_of_24_bytes() {
     let top = |alert: u64| 1 << (63 - alert);
     let wanted = [
         vec![64],
-        record_24(2, 321, 0x393F, (top(0) | top(5), !top(0))),
-        record_24(1, 256, 0, REST),
-        record_24(0, 0, 0, (0xF << 60, u64::MAX >> 4)),
-        record_24(1, 1023, 0, REST),
-        record_24(2, 321, 1, REST),
-        record_24(2, 0, 0xFFFF_FFFF, (0, !1)),
+        record_64(2, 321, 0x393F, (top(0) | top(5), !top(0))),
+        record_64(1, 256, 0, REST),
+        record_64(0, 0, 0, (0xF << 60, u64::MAX >> 4)),
+        record_64(1, 1023, 0, REST),
+        record_64(2, 321, 1, REST),
+        record_64(2, 0, 0xFFFF_FFFF, (0, !1)),
     ]
     .concat();
     assert_eq!(given("record", &["-"], text.as_bytes()), wanted);
@@ -155,7 +155,7 @@ fn a_number_has_the_name_of_its_edition() {
         (1015, "1015", "ALERT247_CLASS"),
         (1023, "1023", "1023"),
     ] {
-        for (edition, name) in [(Edition::Bytes24, old), (Edition::Bytes70, new)] {
+        for (edition, name) in [(Edition::Alerts64, old), (Edition::Alerts248, new)] {
             let read = record(edition, 1, number, 0, Wires::REST);
             let bytes = [start(edition, 64), read].concat();
             let text = text_of(&bytes);

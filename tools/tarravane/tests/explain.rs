@@ -1,7 +1,7 @@
 //! `explain` as a technician runs it.
 mod common;
 
-use common::records::{all_at, configure, off_rest, record, record_24, start, REST};
+use common::records::{all_at, configure, off_rest, record, record_64, start, REST};
 use common::{ended, example, explained, given, refused};
 use handler::registers::{Field, Setting};
 use handler::{Edition, Wires};
@@ -93,7 +93,7 @@ fn a_range_past_the_end_is_told() {
         assert_eq!(String::from_utf8_lossy(&rows).lines().count(), 2);
         assert_eq!(said, [why]);
     }
-    let one = [vec![1], record_24(0, 0, 0, REST)].concat();
+    let one = [vec![1], record_64(0, 0, 0, REST)].concat();
     for (bytes, why) in [
         (&one[..], "--from 2: the trace has only 1 tick"),
         (&[1], "--from 2: the trace has only 0 ticks"),
@@ -137,7 +137,7 @@ fn each_lock_is_a_change() {
 #[test]
 fn standard_input() {
     let mut bytes = vec![1];
-    bytes.extend(record_24(1, 321, 0, REST));
+    bytes.extend(record_64(1, 321, 0, REST));
     let one = rows(&["-"], &bytes);
     assert_eq!(one.len(), 1);
     assert!(one[0].contains("read CLASSA_CTRL") && one[0].contains("0x393c"));
@@ -181,7 +181,7 @@ fn a_text_is_no_trace() {
     let said = refused("explain", &["-"], b"alerts 2\nnone\n");
     assert_eq!(said, format!("-: {why}"));
     // 35 is #, and a trace of 35 alerts is one.
-    let trace = [vec![35], record_24(1, 321, 0, REST)].concat();
+    let trace = [vec![35], record_64(1, 321, 0, REST)].concat();
     assert_eq!(rows(&["-"], &trace).len(), 1);
 }
 

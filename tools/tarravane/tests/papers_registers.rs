@@ -3,7 +3,7 @@ mod common;
 
 use common::page::section;
 use common::{example, explained, given, refused, said_of};
-use handler::registers::{Naming, Register, INTR_BITS, MAP, MAP_24};
+use handler::registers::{Naming, Register, INTR_BITS, MAP, MAP_64};
 
 /// The table's words for alert 5, local alert 2, class C and phase 1.
 fn filled(cell: &str) -> String {
@@ -62,7 +62,7 @@ fn check(register: Register, cells: &[String]) {
         "{cell} {papers}"
     );
     assert_eq!(MAP.number(register), Some(number(&cells[3])), "{register}");
-    let old = MAP_24.number(register);
+    let old = MAP_64.number(register);
     assert_eq!(old, Some(number(&cells[4])), "{register}");
     assert_eq!(bits(register).to_string(), cells[5], "{register}");
     assert_eq!(register.is_shadowed(), cells[2].ends_with(" (s)"));

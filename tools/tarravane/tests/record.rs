@@ -2,7 +2,7 @@
 mod common;
 
 use common::folder::Folder;
-use common::records::{all_at, off_rest, record, record_70};
+use common::records::{all_at, off_rest, record, record_248};
 use common::{ended, example, examples, given, refused, said_of};
 use handler::{Edition, Wires};
 use std::fs;
@@ -42,11 +42,11 @@ fn each_line_is_a_record() {
     let some = off_rest(&[(0, 0b10), (5, 0b11), (247, 0b00)]);
     let wanted = [
         vec![255, 248],
-        record_70(2, 1281, 0x393F, some),
-        record_70(1, 1271, 0, Wires::REST),
-        record_70(0, 0, 0, off_rest(&range)),
-        record_70(1, 2047, 0, Wires::REST),
-        record_70(2, 0, 0xFFFF_FFFF, all_at(Edition::Bytes70, 0b00)),
+        record_248(2, 1281, 0x393F, some),
+        record_248(1, 1271, 0, Wires::REST),
+        record_248(0, 0, 0, off_rest(&range)),
+        record_248(1, 2047, 0, Wires::REST),
+        record_248(2, 0, 0xFFFF_FFFF, all_at(Edition::Alerts248, 0b00)),
     ]
     .concat();
     assert_eq!(trace_of(text), wanted);
@@ -99,7 +99,10 @@ fn a_bad_first_line_is_told() {
 /// What counts for nothing is written, and warned of.
 #[test]
 fn alerts_at_n_and_above_are_warned_of() {
-    for (edition, last, register) in [(Edition::Bytes24, 63, 319), (Edition::Bytes70, 247, 1271)] {
+    for (edition, last, register) in [
+        (Edition::Alerts64, 63, 319),
+        (Edition::Alerts248, 247, 1271),
+    ] {
         let bytes = edition.bytes();
         let text = format!(
             "edition {bytes}\nalerts 2\nnone wires 1=10 5=01\nread ALERT2_EN wires 2-9=11\nwrite {register} 1\nread 1023\n"
@@ -261,7 +264,7 @@ fn a_file_is_there_whole_or_not_at_all() {
     assert_eq!(folder.names(), ["a.txt"]);
     fs::write(&text, "alerts 1\nnone\n").expect("a text");
     assert!(given("record", &[&text, "-o", &trace], &[]).is_empty());
-    let whole = [vec![255, 1], record_70(0, 0, 0, Wires::REST)].concat();
+    let whole = [vec![255, 1], record_248(0, 0, 0, Wires::REST)].concat();
     assert_eq!(fs::read(&trace).expect("the trace"), whole);
     refused("record", &["-", "-o", &trace], b"alerts 2\nnome\n");
     assert_eq!(fs::read(&trace).expect("the trace"), whole);

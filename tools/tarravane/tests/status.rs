@@ -2,7 +2,7 @@
 mod common;
 
 use common::folder::Folder;
-use common::records::{record, record_24, record_70, start, REST};
+use common::records::{record, record_248, record_64, start, REST};
 use common::{ended, example, program, run};
 use handler::registers::Setting;
 use handler::{Edition, Wires};
@@ -28,9 +28,9 @@ fn last_line(written: &[u8]) -> String {
 fn a_whole_trace_is_0() {
     for bytes in [
         vec![1],
-        [vec![64], record_24(3, 0, 0, REST)].concat(),
+        [vec![64], record_64(3, 0, 0, REST)].concat(),
         vec![255, 1],
-        [vec![255, 248], record_70(3, 0, 0, Wires::REST)].concat(),
+        [vec![255, 248], record_248(3, 0, 0, Wires::REST)].concat(),
     ] {
         for (command, words) in READERS {
             let (_, said) = ended(command, words, &bytes, 0);
@@ -72,7 +72,7 @@ fn a_refused_n_is_1() {
         (vec![], empty.to_string()),
         (vec![0], asks(0, 24, 64)),
         (
-            [vec![65], record_24(0, 0, 0, REST)].concat(),
+            [vec![65], record_64(0, 0, 0, REST)].concat(),
             asks(65, 24, 64),
         ),
         (vec![254; 25], asks(254, 24, 64)),
@@ -160,7 +160,7 @@ fn a_full_standard_error_changes_nothing() {
 fn a_reader_that_goes_away_is_no_fault() {
     let folder = Folder::new("long");
     let name = folder.path("a.trace");
-    let bytes = [vec![1], record_24(1, 321, 0, REST).repeat(20_000)].concat();
+    let bytes = [vec![1], record_64(1, 321, 0, REST).repeat(20_000)].concat();
     fs::write(&name, bytes).expect("a trace");
     for (command, words) in [
         ("explain", &[&name[..]][..]),

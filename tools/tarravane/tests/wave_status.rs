@@ -2,7 +2,7 @@
 mod common;
 
 use common::folder::Folder;
-use common::records::{record_24, REST};
+use common::records::{record_64, REST};
 use common::{ended, example, given, program, refused};
 use std::fs::{self, File, Permissions};
 use std::os::unix::fs::{symlink, PermissionsExt};
@@ -170,7 +170,7 @@ fn a_failed_read_leaves_no_file() {
 #[test]
 fn damaged_traces_are_1() {
     let folder = Folder::new("wave-damaged");
-    let cut = [vec![1], record_24(0, 0, 0, REST), vec![0; 5]].concat();
+    let cut = [vec![1], record_64(0, 0, 0, REST), vec![0; 5]].concat();
     for ending in ENDINGS {
         let to = folder.path(&format!("a.{ending}"));
         for (bytes, start) in [

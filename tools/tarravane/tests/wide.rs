@@ -2,7 +2,7 @@
 mod common;
 
 use common::records::{
-    all_at, apart, configure, off_rest, record, record_24, record_70, start, REST,
+    all_at, apart, configure, off_rest, record, record_248, record_64, start, REST,
 };
 use common::{example, explained};
 use handler::registers::{Field, Setting};
@@ -52,10 +52,10 @@ fn every_cause_is_there() {
 fn a_malformed_record_is_there_by_its_bytes() {
     let bytes = [
         vec![2],
-        record_24(1, 321, 0xABCD, (1 << 63, u64::MAX >> 1)),
-        record_24(2, 1 << 10 | 321, 0xFFFF_FFFF, REST),
-        record_24(2, 321, 1 << 32 | 5, REST),
-        record_24(2, 321, 5, REST),
+        record_64(1, 321, 0xABCD, (1 << 63, u64::MAX >> 1)),
+        record_64(2, 1 << 10 | 321, 0xFFFF_FFFF, REST),
+        record_64(2, 321, 1 << 32 | 5, REST),
+        record_64(2, 321, 5, REST),
     ]
     .concat();
     let wide = rows(&["-", "--wide"], &bytes);
@@ -74,9 +74,9 @@ fn a_malformed_record_is_there_by_its_bytes() {
 fn a_malformed_record_of_70_bytes_is_there_by_its_bytes() {
     let bytes = [
         vec![255, 248],
-        record_70(1, 1281, 0xABCD, off_rest(&[(247, 0b10)])),
-        record_70(2, 1281, 1 << 50 | 5, Wires::REST),
-        record_70(2, 1281, 5, Wires::REST),
+        record_248(1, 1281, 0xABCD, off_rest(&[(247, 0b10)])),
+        record_248(2, 1281, 1 << 50 | 5, Wires::REST),
+        record_248(2, 1281, 5, Wires::REST),
     ]
     .concat();
     let wide = rows(&["-", "--wide"], &bytes);

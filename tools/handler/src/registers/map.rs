@@ -38,7 +38,7 @@ pub const MAP: Map = Map {
 };
 
 /// That of document 01, and of its records of 24 bytes.
-pub const MAP_24: Map = Map {
+pub const MAP_64: Map = Map {
     alerts: 64,
     stride: 64,
     classes: 320,

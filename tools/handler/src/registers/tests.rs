@@ -1,5 +1,5 @@
 //! Numbers and names go both ways, in both numberings, and each old number goes to the new one of its register.
-use super::{Field, Map, Register, Setting, MAP, MAP_24};
+use super::{Field, Map, Register, Setting, MAP, MAP_64};
 
 fn name(map: &Map, number: u16) -> Option<String> {
     map.register(number).map(|register| register.to_string())
@@ -38,9 +38,9 @@ fn registers_are_named_as_document_01_has_them() {
         (512, None),
         (1023, None),
     ] {
-        assert_eq!(name(&MAP_24, number).as_deref(), wanted, "{number}");
+        assert_eq!(name(&MAP_64, number).as_deref(), wanted, "{number}");
     }
-    assert_eq!(MAP_24.end(), 384);
+    assert_eq!(MAP_64.end(), 384);
 }
 
 #[test]
@@ -72,7 +72,7 @@ fn registers_are_named_as_request_iii_has_them() {
         assert_eq!(name(&MAP, number).as_deref(), wanted, "{number}");
     }
     assert_eq!(MAP.end(), 1344);
-    assert_eq!(number(&MAP_24, "ALERT64_EN"), None);
+    assert_eq!(number(&MAP_64, "ALERT64_EN"), None);
     assert_eq!(number(&MAP, "ALERT64_EN"), Some(576));
     assert_eq!(number(&MAP, "ALERT248_EN"), None);
 }
@@ -82,8 +82,8 @@ fn an_old_number_is_carried_to_the_same_register() {
     let mut carried = Vec::new();
     for n in 0..=u16::MAX {
         assert_eq!(MAP.carry(n), MAP.register(n).map(|_| n));
-        let new = MAP_24.carry(n);
-        assert_eq!(new.and_then(|new| name(&MAP, new)), name(&MAP_24, n), "{n}");
+        let new = MAP_64.carry(n);
+        assert_eq!(new.and_then(|new| name(&MAP, new)), name(&MAP_64, n), "{n}");
         carried.extend(new);
     }
     assert_eq!(carried.len(), 3 + 4 * (7 + 64) + 4 * 13);
@@ -104,13 +104,13 @@ fn an_old_number_is_carried_to_the_same_register() {
         (512, None),
         (1023, None),
     ] {
-        assert_eq!(MAP_24.carry(old), new, "{old}");
+        assert_eq!(MAP_64.carry(old), new, "{old}");
     }
 }
 
 #[test]
 fn a_name_gives_its_number_and_nothing_else_does() {
-    for map in [MAP, MAP_24] {
+    for map in [MAP, MAP_64] {
         let mut assigned = 0;
         for n in 0..=u16::MAX {
             if let Some(name) = name(&map, n) {
@@ -146,7 +146,7 @@ fn a_name_gives_its_number_and_nothing_else_does() {
 
 #[test]
 fn the_lists_are_in_the_order_of_the_numbers() {
-    for map in [MAP, MAP_24] {
+    for map in [MAP, MAP_64] {
         for (at, setting) in Setting::ALL.into_iter().enumerate() {
             assert_eq!(map.class(0, setting), map.block(0) + at as u16);
         }
@@ -160,7 +160,7 @@ fn the_lists_are_in_the_order_of_the_numbers() {
 
 #[test]
 fn shadowed_are_those_that_request_v_names() {
-    for map in [MAP, MAP_24] {
+    for map in [MAP, MAP_64] {
         let shadowed = |n: &u16| map.register(*n).is_some_and(|it| it.is_shadowed());
         assert_eq!(
             (0..=u16::MAX).filter(shadowed).count(),

@@ -158,8 +158,8 @@ fn handler_class(class: &reference::Class) -> Class {
 /// The reference's edition.
 pub fn reference_edition(edition: Edition) -> reference::Edition {
     match edition {
-        Edition::Bytes24 => reference::Edition::First,
-        Edition::Bytes70 => reference::Edition::Second,
+        Edition::Alerts64 => reference::Edition::First,
+        Edition::Alerts248 => reference::Edition::Second,
     }
 }
 

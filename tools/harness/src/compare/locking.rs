@@ -37,8 +37,8 @@ impl Locking {
     /// Takes in the tick of a record, by the handler before it.
     pub fn tick(&mut self, edition: Edition, head: Head, word: u64, before: &Handler) {
         let number = match edition {
-            Edition::Bytes24 => carried(head.register),
-            Edition::Bytes70 => head.register,
+            Edition::Alerts64 => carried(head.register),
+            Edition::Alerts248 => head.register,
         };
         let register = Register::decode(number, before.n);
         let (Some(register), true) = (register, head.kind == WRITE) else {

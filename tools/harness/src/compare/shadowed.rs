@@ -57,8 +57,8 @@ impl Shadowed {
         after: &Handler,
     ) {
         let number = match edition {
-            Edition::Bytes24 => carried(head.register),
-            Edition::Bytes70 => head.register,
+            Edition::Alerts64 => carried(head.register),
+            Edition::Alerts248 => head.register,
         };
         let Some(register) = Register::decode(number, before.n) else {
             return;

@@ -9,8 +9,8 @@ use handler::Edition;
 /// write.
 fn large(edition: Edition) -> &'static [usize] {
     match edition {
-        Edition::Bytes24 => &[170, 171, 341, 682, 1023, 1024, 1025, 2730, 8192, 8193],
-        Edition::Bytes70 => &[58, 59, 117, 468, 936, 937, 2047, 2048, 2049, 8193],
+        Edition::Alerts64 => &[170, 171, 341, 682, 1023, 1024, 1025, 2730, 8192, 8193],
+        Edition::Alerts248 => &[58, 59, 117, 468, 936, 937, 2047, 2048, 2049, 8193],
     }
 }
 

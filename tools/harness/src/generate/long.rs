@@ -15,8 +15,8 @@ const MOST: u64 = 65535;
 /// then goes on with weighted steps.
 pub fn long(edition: Edition, mut rng: Rng, seed: u64) -> Vec<u8> {
     let n = rng.pick(match edition {
-        Edition::Bytes24 => &[2, 9, 64],
-        Edition::Bytes70 => &[2, 65, 248],
+        Edition::Alerts64 => &[2, 9, 64],
+        Edition::Alerts248 => &[2, 65, 248],
     });
     let mut scene = Scene::new(edition, rng, n);
     scene.active = vec![0, scene.n - 1];

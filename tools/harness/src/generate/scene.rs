@@ -45,7 +45,7 @@ impl Scene {
         for _ in 0..rng.below(6) {
             active.push(rng.index(count));
         }
-        if edition != Edition::Bytes24 {
+        if edition != Edition::Alerts64 {
             active.push(rng.pick(&BORDERS).min(count - 1));
         }
         Scene {

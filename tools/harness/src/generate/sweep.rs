@@ -40,7 +40,7 @@ pub fn sweep(edition: Edition, mut rng: Rng) -> Vec<u8> {
     }
     raise_each(&mut scene);
     // Old traces, of which the golden set has the words, stay as they were.
-    if edition != Edition::Bytes24 {
+    if edition != Edition::Alerts64 {
         break_each(&mut scene);
     }
     scene.finish()

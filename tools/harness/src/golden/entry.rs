@@ -31,7 +31,7 @@ impl Golden {
     /// What a program gives for a trace, and how many lines it printed.
     pub fn of(path: &Path, kind: Kind, seed: u64) -> io::Result<(Golden, u64)> {
         let case = Case {
-            edition: Edition::Bytes24,
+            edition: Edition::Alerts64,
             kind,
             seed,
             records: None,

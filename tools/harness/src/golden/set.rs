@@ -11,7 +11,7 @@ use std::path::Path;
 /// The traces of the set: the first ones of the fixed set and of damaged input.
 /// Those that begin with 255 are left out: such an input is no old one.
 pub fn cases() -> impl Iterator<Item = Case> {
-    let old = Edition::Bytes24;
+    let old = Edition::Alerts64;
     let whole = generated(old, DEFAULT_SEED).take(300);
     let all = whole.chain(damage(old, DEFAULT_SEED).take(100));
     all.filter(move |case| opened(&case.bytes()).edition == old)

@@ -17,8 +17,8 @@ use harness::rng::Rng;
 /// Alerts at the ends of words, which have all the events.
 fn used(edition: Edition) -> [usize; 5] {
     match edition {
-        Edition::Bytes24 => [0, 1, 31, 62, 63],
-        Edition::Bytes70 => [0, 63, 64, 191, 247],
+        Edition::Alerts64 => [0, 1, 31, 62, 63],
+        Edition::Alerts248 => [0, 63, 64, 191, 247],
     }
 }
 

@@ -84,7 +84,7 @@ mod tests {
     /// A name is the same in every edition, a number is the edition's own.
     #[test]
     fn a_register_has_a_name_and_a_number() {
-        for (edition, number) in [(Edition::Bytes24, 321), (Edition::Bytes70, 1281)] {
+        for (edition, number) in [(Edition::Alerts64, 321), (Edition::Alerts248, 1281)] {
             let access = Ok(Access::Write(number, 0x393F));
             for text in [
                 "write CLASSA_CTRL 0x393f",
@@ -99,7 +99,7 @@ mod tests {
 
     #[test]
     fn an_edition_names_its_own_alerts() {
-        for (edition, most) in [(Edition::Bytes24, 64), (Edition::Bytes70, 248)] {
+        for (edition, most) in [(Edition::Alerts64, 64), (Edition::Alerts248, 248)] {
             let read = |i: usize| parsed(edition, &format!("read ALERT{i}_EN"));
             assert!(read(most - 1).is_ok());
             let problem = format!("no such register: ALERT{most}_EN");

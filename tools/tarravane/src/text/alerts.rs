@@ -43,7 +43,7 @@ pub fn words(n: u8) -> String {
 #[cfg(test)]
 mod tests {
     use super::*;
-    use Edition::{Bytes24, Bytes70};
+    use Edition::{Alerts248, Alerts64};
 
     #[test]
     fn n_is_any_byte() {
@@ -53,14 +53,14 @@ mod tests {
             }
             assert_eq!(parse(edition, " alerts\t0x40 "), Ok(64));
         }
-        assert_eq!(parse(Bytes70, "alerts 255"), Ok(255));
+        assert_eq!(parse(Alerts248, "alerts 255"), Ok(255));
         let problem = "a first byte of 255 is that of edition 70";
-        assert_eq!(parse(Bytes24, "alerts 255"), Err(problem.to_string()));
+        assert_eq!(parse(Alerts64, "alerts 255"), Err(problem.to_string()));
     }
 
     #[test]
     fn bad_words_are_told() {
-        for (edition, most) in [(Bytes24, 64), (Bytes70, 248)] {
+        for (edition, most) in [(Alerts64, 64), (Alerts248, 248)] {
             let wanted = format!(
                 "alerts wants a number: 1 to {most}, or another byte for a trace that is refused"
             );

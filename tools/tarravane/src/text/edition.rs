@@ -39,7 +39,7 @@ mod tests {
             assert!(is_edition(&line));
             assert_eq!(parse(&line), Ok(edition));
         }
-        assert_eq!(parse(" edition\t0x18 "), Ok(Edition::Bytes24));
+        assert_eq!(parse(" edition\t0x18 "), Ok(Edition::Alerts64));
         assert!(!is_edition("editions 24") && !is_edition(""));
     }
 

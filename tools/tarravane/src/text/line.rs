@@ -143,13 +143,13 @@ mod tests {
         let zeros = |count: usize| "0".repeat(count);
         for (edition, digits, raw, cut) in [
             (
-                Edition::Bytes24,
+                Edition::Alerts64,
                 48,
                 "raw wants 48 hex digits, the 24 bytes of a record",
                 "cut wants 2 to 46 hex digits, two for each of 1 to 23 bytes",
             ),
             (
-                Edition::Bytes70,
+                Edition::Alerts248,
                 140,
                 "raw wants 140 hex digits, the 70 bytes of a record",
                 "cut wants 2 to 138 hex digits, two for each of 1 to 69 bytes",

@@ -124,7 +124,7 @@ mod tests {
     use super::*;
 
     fn parsed(text: &str) -> Result<Wires, String> {
-        parse(Edition::Bytes70, text.split_whitespace())
+        parse(Edition::Alerts248, text.split_whitespace())
     }
 
     #[test]
@@ -197,7 +197,7 @@ mod tests {
         ] {
             assert_eq!(parsed(text), Err(problem.to_string()), "{text}");
         }
-        let old = |text: &str| parse(Edition::Bytes24, text.split_whitespace());
+        let old = |text: &str| parse(Edition::Alerts64, text.split_whitespace());
         assert!(old("0-63=10").is_ok());
         let problem = "no such alert, 0 to 63: 64";
         assert_eq!(old("64=10"), Err(problem.to_string()));

@@ -150,7 +150,7 @@ mod tests {
             sample: Sample::AT_REST,
         };
         let good = rest(Access::Nothing);
-        for (edition, over) in [(Edition::Bytes24, 1024), (Edition::Bytes70, 2048)] {
+        for (edition, over) in [(Edition::Alerts64, 1024), (Edition::Alerts248, 2048)] {
             for bad in [
                 Access::Read(over),
                 Access::Write(over, 0),

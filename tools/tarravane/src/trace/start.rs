@@ -19,7 +19,7 @@ fn byte(from: &mut impl Read, name: &str) -> Result<Option<u8>, String> {
 impl Start {
     /// No bytes at all: the start of an edition without a mark.
     pub const EMPTY: Start = Start {
-        edition: Edition::Bytes24,
+        edition: Edition::Alerts64,
         n: None,
     };
 
@@ -87,7 +87,7 @@ mod tests {
             assert_eq!(start.bytes(), bytes);
             assert_eq!(from.len(), if whole { 3 } else { 0 });
             let marked = bytes.first() == Some(&255);
-            assert_eq!(start.edition == Edition::Bytes70, marked);
+            assert_eq!(start.edition == Edition::Alerts248, marked);
         }
     }
 
@@ -111,22 +111,22 @@ mod tests {
         let why = |edition, n| Start { edition, n }.made().expect_err("it is refused");
         for (edition, n, wanted) in [
             (
-                Edition::Bytes24,
+                Edition::Alerts64,
                 Some(65),
                 "the trace asks for 65 alerts: records of 24 bytes are for 1 to 64",
             ),
             (
-                Edition::Bytes70,
+                Edition::Alerts248,
                 Some(249),
                 "the trace asks for 249 alerts: records of 70 bytes are for 1 to 248",
             ),
             (
-                Edition::Bytes24,
+                Edition::Alerts64,
                 None,
                 "the trace is empty: it begins with the number of alerts",
             ),
             (
-                Edition::Bytes70,
+                Edition::Alerts248,
                 None,
                 "the trace ends after 255: the number of alerts comes next",
             ),
@@ -143,10 +143,10 @@ mod tests {
         };
         assert_eq!(Start::EMPTY.records(0), 0);
         for (bytes, records) in [(0, 0), (1, 0), (24, 0), (25, 1), (48, 1), (49, 2)] {
-            assert_eq!(start(Edition::Bytes24).records(bytes), records);
+            assert_eq!(start(Edition::Alerts64).records(bytes), records);
         }
         for (bytes, records) in [(1, 0), (2, 0), (71, 0), (72, 1), (141, 1), (142, 2)] {
-            assert_eq!(start(Edition::Bytes70).records(bytes), records);
+            assert_eq!(start(Edition::Alerts248).records(bytes), records);
         }
     }
 }

@@ -24,15 +24,15 @@ pub fn configure(edition: Edition, register: u16, value: u32) -> Vec<u8> {
 }
 
 /// A record of 24 bytes, its wires as two words.
-pub fn record_24(kind: u64, register: u64, value: u64, (pos, neg): (u64, u64)) -> Vec<u8> {
+pub fn record_64(kind: u64, register: u64, value: u64, (pos, neg): (u64, u64)) -> Vec<u8> {
     let mut wires = Wires::REST;
     (wires.pos[0], wires.neg[0]) = (pos, neg);
-    record(Edition::Bytes24, kind, register, value, wires)
+    record(Edition::Alerts64, kind, register, value, wires)
 }
 
 /// A record of 70 bytes.
-pub fn record_70(kind: u64, register: u64, value: u64, wires: Wires) -> Vec<u8> {
-    record(Edition::Bytes70, kind, register, value, wires)
+pub fn record_248(kind: u64, register: u64, value: u64, wires: Wires) -> Vec<u8> {
+    record(Edition::Alerts248, kind, register, value, wires)
 }
 
 /// Wires at rest but for these alerts; 0b10 has the positive wire at 1, the negative at 0.

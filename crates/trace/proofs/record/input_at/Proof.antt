@@ -11,8 +11,11 @@ use Rattle.trace.proofs.record.input_at.Tie as tie
 word-at-requires : tie.Need-word-at-requires
 word-at-requires c κs = omega (arith, record-parts (c .before .args .edition), c .before .pre)
 
-first-access-requires : tie.Need-first-access-requires
-first-access-requires c κs = search needs
+head-of-requires : tie.Need-head-of-requires
+head-of-requires c κs = search needs
+
+access-in-requires : tie.Need-access-in-requires
+access-in-requires c κs = search needs
 
 carried-requires : tie.Need-carried-requires
 carried-requires c κs = search needs
@@ -21,7 +24,7 @@ add-wires-at : tie.Need-add-wires-at
 add-wires-at c = search needs
 
 wires-at-requires : tie.Need-wires-at-requires
-wires-at-requires c κs = let b = c .before .before .before .before in omega (arith, record-parts (b .args .edition), b .pre)
+wires-at-requires c κs = let b = c .before .before .before .before .before in omega (arith, record-parts (b .args .edition), b .pre)
 
 add-wires-at-2 : tie.Need-add-wires-at-2
 add-wires-at-2 c = search needs
@@ -34,15 +37,15 @@ add-wires-at-3 c = search needs
 
 wires-at-requires-2 : tie.Need-wires-at-requires-2
 wires-at-requires-2 c κs =
-    let b = c .before .before .before .before .before .before in
+    let b = c .before .before .before .before .before .before .before in
     omega (arith, record-parts (b .args .edition), b .pre, ap (λ (n : ℕ). n / 8) (c .alerts .ensures))
 
 returns : tie.Need-returns
 returns c =
-    let first = c .before .before .before .before .before in
+    let first = c .before .before .before .before .before .before in
     let begin = first .before .before in
-    record-input (begin .args .edition) (begin .args .at) (begin .args .bytes .now) (λ i. first .before .shared-slice-known .given i .fits) (begin .pre) _ _ _ _ _ _
-    (first .word-at .ensures) (c .before .before .before .before .first-access .ensures) (c .before .before .before .carried .ensures) (c .before .alerts .ensures)
+    record-input (begin .args .edition) (begin .args .at) (begin .args .bytes .now) (λ i. first .before .shared-slice-known .given i .fits) (begin .pre) _ _ _ _ _ _ _
+    (first .word-at .ensures) (c .before .before .before .before .before .head-of .ensures) (c .before .before .before .before .access-in .ensures) (c .before .before .before .carried .ensures) (c .before .alerts .ensures)
     (c .before .before .wires-at .ensures) (c .wires-at2 .ensures)
 
 pub input-at-spec : {M : Type 1} → statement M
@@ -50,7 +53,8 @@ input-at-spec =
     tie.close
     (tie.spec
     word-at-requires
-    first-access-requires
+    head-of-requires
+    access-in-requires
     carried-requires
     add-wires-at
     wires-at-requires

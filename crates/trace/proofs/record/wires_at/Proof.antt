@@ -10,22 +10,22 @@ use Rattle.trace.proofs.record.wires_at.Tie as tie
 enum-told : tie.Need-enum-told
 enum-told c = search needs
 
-wires-24-requires : tie.Need-wires-24-requires
-wires-24-requires c κs = omega (arith, ap wireBytes (c .enum-told .given .1), c .before .before .before .pre)
+wires-64-requires : tie.Need-wires-64-requires
+wires-64-requires c κs = omega (arith, ap wireBytes (c .enum-told .given .1), c .before .before .before .pre)
 
 enum-told-2 : tie.Need-enum-told-2
 enum-told-2 c = search needs
 
-wires-70-requires : tie.Need-wires-70-requires
-wires-70-requires c κs = omega (arith, ap wireBytes (c .enum-told2 .given .1), c .before .before .before .pre)
+wires-248-requires : tie.Need-wires-248-requires
+wires-248-requires c κs = omega (arith, ap wireBytes (c .enum-told2 .given .1), c .before .before .before .pre)
 
 returns : tie.Need-returns
-returns c = rw (c .before .enum-told .given .1) (c .wires-24 .ensures)
+returns c = rw (c .before .enum-told .given .1) (c .wires-64 .ensures)
 
 returns-2 : tie.Need-returns-2
-returns-2 c = rw (c .before .enum-told2 .given .1) (c .wires-70 .ensures)
+returns-2 c = rw (c .before .enum-told2 .given .1) (c .wires-248 .ensures)
 
 pub wires-at-spec : {M : Type 1} → statement M
 wires-at-spec =
     tie.close
-    (tie.spec enum-told wires-24-requires enum-told-2 wires-70-requires returns returns-2)
+    (tie.spec enum-told wires-64-requires enum-told-2 wires-248-requires returns returns-2)

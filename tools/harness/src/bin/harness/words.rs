@@ -74,7 +74,7 @@ pub fn case(kind: &str, seed: &str, options: &Options) -> Result<Case, Trouble> 
     let kind = Kind::named(kind).ok_or_else(|| usage(format!("no kind {kind}")))?;
     let seed = number(seed)?;
     Ok(Case {
-        edition: options.edition()?.unwrap_or(Edition::Bytes24),
+        edition: options.edition()?.unwrap_or(Edition::Alerts64),
         kind,
         seed,
         records: options.get("--records").map(|records| records as usize),

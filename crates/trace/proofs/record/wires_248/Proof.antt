@@ -1,9 +1,9 @@
--- `record::wires_70` meets its contract: three words, and seven bytes.
+-- `record::wires_248` meets its contract: three words, and seven bytes.
 -- Assumes nothing.
-use Rattle.trace.proofs.Wires.{wires-70}
+use Rattle.trace.proofs.Wires.{wires-248}
 use borrow.Author.Needs.{needs}
-use Rattle.trace.proofs.record.wires_70.Statement.{statement}
-use Rattle.trace.proofs.record.wires_70.Tie as tie
+use Rattle.trace.proofs.record.wires_248.Statement.{statement}
+use Rattle.trace.proofs.record.wires_248.Tie as tie
 
 word-at-requires : tie.Need-word-at-requires
 word-at-requires c κs = search needs
@@ -27,10 +27,10 @@ seven-at-requires : tie.Need-seven-at-requires
 seven-at-requires c κs = search needs
 
 returns : tie.Need-returns
-returns c = let b = c .before .before .before .before .before in wires-70 (b .args .bytes .now) (λ i. c .before .before .before .before .shared-slice-known .given i .fits) (b .args .at) _ _ _ _ (b .pre) (c .before .before .before .word-at .ensures) (c .before .before .word-at2 .ensures) (c .before .word-at3 .ensures) (c .seven-at .ensures)
+returns c = let b = c .before .before .before .before .before in wires-248 (b .args .bytes .now) (λ i. c .before .before .before .before .shared-slice-known .given i .fits) (b .args .at) _ _ _ _ (b .pre) (c .before .before .before .word-at .ensures) (c .before .before .word-at2 .ensures) (c .before .word-at3 .ensures) (c .seven-at .ensures)
 
-pub wires-70-spec : {M : Type 1} → statement M
-wires-70-spec =
+pub wires-248-spec : {M : Type 1} → statement M
+wires-248-spec =
     tie.close
     (tie.spec
     word-at-requires

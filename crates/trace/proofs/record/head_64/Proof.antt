@@ -1,19 +1,19 @@
--- `record::first_70` meets its contract: the first 64 bits of the layout.
+-- `record::head_64` meets its contract: the first 64 bits of the layout.
 -- Assumes nothing.
 use Prim.Native.Nat.{ℕ, _/_, _%_, _^_, _<_}
-use mathlib.Core.Path.{_≡_, ap₂, _∙_}
+use mathlib.Core.Path.{_≡_, ap₂}
 use native.Mathlib.Omega.{arith}
 use Rattle.bits.specs.Fields.{unpack}
-use Rattle.rules.specs.Record.{accessIn}
 use Rattle.rules.specs.declared.Edition.{Edition}
-use Rattle.trace.specs.Parts.{accessOfWord}
+use Rattle.trace.specs.Parts.{headOf}
+use Rattle.trace.specs.declared.record.Head.{Head}
 use borrow.Author.Needs.{needs}
-use Rattle.trace.proofs.record.first_70.Statement.{statement}
-use Rattle.trace.proofs.record.first_70.Tie as tie
+use Rattle.trace.proofs.record.head_64.Statement.{statement}
+use Rattle.trace.proofs.record.head_64.Tie as tie
 
-fields : (x : ℕ) → x < 2 ^ 64 → accessIn (x / 2 ^ 62) (x / 2 ^ 51 % 2 ^ 11) (x / 2 ^ 32 % 2 ^ 19) (x % 2 ^ 32) ≡ accessOfWord Edition.Bytes70 x
+fields : (x : ℕ) → x < 2 ^ 64 → record { kind = x / 2 ^ 62; register = x / 2 ^ 52 % 2 ^ 10; zeros = x / 2 ^ 32 % 2 ^ 20; value = x % 2 ^ 32 } ≡ headOf Edition.Alerts64 x
 unfolding unpack
-fields x h = ap₂ (λ (k v : ℕ). accessIn k (x / 2 ^ 51 % 2 ^ 11) (x / 2 ^ 32 % 2 ^ 19) v) (omega arith) (omega arith)
+fields x h = ap₂ {C = Head} (λ (k v : ℕ). record { kind = k; register = x / 2 ^ 52 % 2 ^ 10; zeros = x / 2 ^ 32 % 2 ^ 20; value = v }) (omega arith) (omega arith)
 
 cast-kind : tie.Need-cast-kind
 cast-kind c = search needs
@@ -39,14 +39,11 @@ cast-zeros c = search needs
 cast-value : tie.Need-cast-value
 cast-value c = search needs
 
-access-in-requires : tie.Need-access-in-requires
-access-in-requires c κs = search needs
-
 returns : tie.Need-returns
-returns c = c .access-in .ensures ∙ fields (c .before .args .first) (search needs)
+returns c = fields (c .args .first) (search needs)
 
-pub first-70-spec : {M : Type 1} → statement M
-first-70-spec =
+pub head-64-spec : {M : Type 1} → statement M
+head-64-spec =
     tie.close
     (tie.spec
     cast-kind
@@ -57,5 +54,4 @@ first-70-spec =
     cast-register-3
     cast-zeros
     cast-value
-    access-in-requires
     returns)

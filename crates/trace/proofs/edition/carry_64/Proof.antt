@@ -1,11 +1,11 @@
--- `edition::carry_24` meets its contract, range by range.
+-- `edition::carry_64` meets its contract, range by range.
 -- Assumes nothing.
 use borrow.Author.Tests.{lt-ltb, le-ltb}
-use Rattle.rules.specs.Edition.{carried24}
+use Rattle.rules.specs.Edition.{carried64}
 use Rattle.rules.specs.Map.{numberOf}
 use borrow.Author.Needs.{needs}
-use Rattle.trace.proofs.edition.carry_24.Statement.{statement}
-use Rattle.trace.proofs.edition.carry_24.Tie as tie
+use Rattle.trace.proofs.edition.carry_64.Statement.{statement}
+use Rattle.trace.proofs.edition.carry_64.Tie as tie
 
 mul-result : tie.Need-mul-result
 mul-result c = search needs
@@ -17,21 +17,21 @@ add-result-2 : tie.Need-add-result-2
 add-result-2 c = search needs
 
 returns : tie.Need-returns
-unfolding carried24 numberOf
+unfolding carried64 numberOf
 returns c = rw (lt-ltb _ _ (c .if1 .taken))
 
 returns-2 : tie.Need-returns-2
-unfolding carried24 numberOf
+unfolding carried64 numberOf
 returns-2 c = rw (le-ltb _ _ (c .before .if1 .left), lt-ltb _ _ (c .if2 .taken))
 
 returns-3 : tie.Need-returns-3
-unfolding carried24 numberOf
+unfolding carried64 numberOf
 returns-3 c = rw (le-ltb _ _ (c .before .before .if1 .left), le-ltb _ _ (c .before .if2 .left), lt-ltb _ _ (c .if3 .taken))
 
 returns-4 : tie.Need-returns-4
-unfolding carried24 numberOf
+unfolding carried64 numberOf
 returns-4 c = rw (le-ltb _ _ (c .before .before .if1 .left), le-ltb _ _ (c .before .if2 .left), le-ltb _ _ (c .if3 .left))
 
-pub carry-24-spec : {M : Type 1} → statement M
-carry-24-spec =
+pub carry-64-spec : {M : Type 1} → statement M
+carry-64-spec =
     tie.close (tie.spec mul-result add-result add-result-2 returns returns-2 returns-3 returns-4)

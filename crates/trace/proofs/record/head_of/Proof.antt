@@ -1,0 +1,28 @@
+-- `record::head_of` meets its contract, edition by edition.
+-- Assumes nothing.
+use borrow.Author.Needs.{needs}
+use Rattle.trace.proofs.record.head_of.Statement.{statement}
+use Rattle.trace.proofs.record.head_of.Tie as tie
+
+enum-told : tie.Need-enum-told
+enum-told c = search needs
+
+head-64-requires : tie.Need-head-64-requires
+head-64-requires c κs = search needs
+
+enum-told-2 : tie.Need-enum-told-2
+enum-told-2 c = search needs
+
+head-248-requires : tie.Need-head-248-requires
+head-248-requires c κs = search needs
+
+returns : tie.Need-returns
+returns c = rw (c .before .enum-told .given .1) (c .head-64 .ensures)
+
+returns-2 : tie.Need-returns-2
+returns-2 c = rw (c .before .enum-told2 .given .1) (c .head-248 .ensures)
+
+pub head-of-spec : {M : Type 1} → statement M
+head-of-spec =
+    tie.close
+    (tie.spec enum-told head-64-requires enum-told-2 head-248-requires returns returns-2)
