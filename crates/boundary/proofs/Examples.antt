@@ -16,6 +16,7 @@ use Rattle.policy.specs.Plan.{boot, lifecycleOf}
 use Rattle.policy.specs.declared.Installed.{Installed}
 use Rattle.policy.specs.declared.Lifecycle.{Lifecycle}
 use Rattle.rules.proofs.Scenes.{rules, settings, zeros, station}
+use Rattle.rules.specs.Samples.{atRest}
 use Rattle.rules.specs.State.{newHandler, made, alert, classAt, resetClass, withInterrupts, withClasses}
 use Rattle.rules.specs.Tick.{ticked}
 use Rattle.rules.specs.declared.Access.{Access}
@@ -48,13 +49,6 @@ too-many r e = (ap (λ (x : Made). x .answer) e, ap (λ (x : Made). x .handler) 
 abbrev tick : Handler → ℕ → ℕ → ℕ → Sample → Answered
 tick h kind register value sample = answered (ticked h (inputBy kind register value sample))
 
-abbrev ones : ℕ
-ones = 2 ^ 64 - 1
-
--- all wires at (0,1)
-abbrev rest : Sample
-rest = record { alerts = record { pos = replicate 4 0; neg = replicate 4 ones } }
-
 -- the wire of alert i in words of 64, alert 0 the highest bit of the first
 abbrev wire : ℕ → List ℕ
 wire i = unpack (replicate 4 64) (2 ^ (255 - i))
@@ -69,11 +63,11 @@ watching = station 248 (1 ∷ replicate 246 0 ++ 1 ∷ []) (replicate 248 2) 2 (
 
 module _ (r : Answered) where
   -- a read of 1281, a write of 9 to INTR_ENABLE, and kind 3 with alert 0 high: refused, and the tick runs with its samples
-  reads : r ≡ tick (newHandler 1) 1 1281 0 rest → r .answer ≡ pos 0x393C
+  reads : r ≡ tick (newHandler 1) 1 1281 0 atRest → r .answer ≡ pos 0x393C
   unfolding rules answered
   reads e = ap (λ (x : Answered). x .answer) e
 
-  writes : r ≡ tick (newHandler 1) 2 1 9 rest → (r .answer ≡ pos 0) × (r .handler .interrupts .enable ≡ 9)
+  writes : r ≡ tick (newHandler 1) 2 1 9 atRest → (r .answer ≡ pos 0) × (r .handler .interrupts .enable ≡ 9)
   unfolding rules answered
   writes e = (ap (λ (x : Answered). x .answer) e, ap (λ (x : Answered). x .handler .interrupts .enable) e)
 
@@ -105,7 +99,7 @@ broken n =
     withInterrupts (record { state = 15; enable = 15 }) (withClasses (driving ∷ replicate 3 resetClass) (newHandler n))
 
 -- the state is unchanged and the tick is not run: interrupts and lines 0, where at N = 248 they are 15 and 15
-bad-state : (r : Answered) → r ≡ tick (broken 249) 2 1 0 rest
+bad-state : (r : Answered) → r ≡ tick (broken 249) 2 1 0 atRest
     → (r .answer ≡ negsuc 6) × (r .handler ≡ broken 249) × (r .output .interrupts ≡ 0) × (r .output .lines ≡ 0)
 unfolding rules answered
 bad-state r e = (
@@ -115,7 +109,7 @@ bad-state r e = (
   ap (λ (x : Answered). x .output .lines) e,
 )
 
-good-state : (r : Answered) → r ≡ tick (broken 248) 0 0 0 rest → (r .answer ≡ pos 0) × (r .output .interrupts ≡ 15) × (r .output .lines ≡ 15)
+good-state : (r : Answered) → r ≡ tick (broken 248) 0 0 0 atRest → (r .answer ≡ pos 0) × (r .output .interrupts ≡ 15) × (r .output .lines ≡ 15)
 unfolding rules answered
 good-state r e = (
   ap (λ (x : Answered). x .answer) e,

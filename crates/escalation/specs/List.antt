@@ -1,11 +1,12 @@
 -- "A started escalation": a list of ticks, numbered one after another from any first number.
 -- Assumes nothing.
 use Prim.Native.Nat.{ℕ, _+_, _-_, _≤_, _<_}
-use mathlib.Core.List.{List, []}
+use mathlib.Core.List.{List}
 use lib.ListN.{getD, length, take}
 use Rattle.class_rules.specs.declared.Class.{Class}
 use Rattle.rules.specs.Access.{acted}
 use Rattle.rules.specs.Run.{run, ticks}
+use Rattle.rules.specs.Samples.{atRest}
 use Rattle.rules.specs.State.{classAt, newHandler}
 use Rattle.rules.specs.Tick.{noOutput}
 use Rattle.rules.specs.declared.Access.{Access}
@@ -22,7 +23,7 @@ pub record IsTick (first : ℕ) (xs : List Input) (t : ℕ) : Type 0 where
 
 -- what stands past the ends of the lists, and is never read of a tick of the list
 abbrev pub noInput : Input
-noInput = record { access = Access.Nothing; sample = record { alerts = record { pos = []; neg = [] } } }
+noInput = record { access = Access.Nothing; sample = atRest }
 
 abbrev pub noTick : Ticked
 noTick = record { handler = newHandler 0; answer = Answer.Done; output = noOutput }

@@ -1,14 +1,13 @@
 -- Request (vi), "Boot policy": registers written and read back, one access a tick with all wires at (0,1).
 -- Assumes nothing.
-use Prim.Native.Nat.{ℕ, _-_, _^_}
+use Prim.Native.Nat.{ℕ}
 use mathlib.Core.Bool.{Bool, true, false, cond}
 use mathlib.Core.List.{List, [], _∷_, _++_}
 use lib.Dec.{eqb}
 use lib.IntN.{ℤ, pos, negsuc}
-use lib.ListN.{replicate}
 use Rattle.rules.specs.Answer.{number}
 use Rattle.rules.specs.Map.{numberOf, isShadowed}
-use Rattle.rules.specs.State.{words}
+use Rattle.rules.specs.Samples.{atRest}
 use Rattle.rules.specs.Tick.{ticked}
 use Rattle.rules.specs.declared.Access.{Access}
 use Rattle.rules.specs.declared.Access.the-variants.{Read, Write}
@@ -20,7 +19,7 @@ use Rattle.policy.specs.declared.Progress.{Progress}
 
 -- all wires at (0,1)
 abbrev pub rest : Access → Input
-rest x = record { access = x; sample = record { alerts = record { pos = replicate words 0; neg = replicate words (2 ^ 64 - 1) } } }
+rest x = record { access = x; sample = atRest }
 
 -- ── one access ──
 

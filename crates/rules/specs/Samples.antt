@@ -1,8 +1,9 @@
 -- "One tick", step 2: the samples, of the handler g after step 1, the wires w and the effects e of step 1.
 -- Assumes nothing.
-use Prim.Native.Nat.{ℕ}
+use Prim.Native.Nat.{ℕ, _-_, _^_}
 use mathlib.Core.Bool.{Bool, true, false, cond, not, _&&_, _||_}
 use lib.Dec.{eqb, ltb}
+use lib.ListN.{replicate}
 use Rattle.bits.specs.Bits.{bit, bitsOf}
 use Rattle.bits.specs.Index.{each, anyTo, placeIn, wordsBy}
 use Rattle.rules.specs.State.{most, words, localCount, local, alert, armed, withLocals, withAlerts, withLocalColumn, withAlertColumn}
@@ -12,6 +13,11 @@ use Rattle.rules.specs.declared.Handler.{Handler}
 use Rattle.rules.specs.declared.Heard.{Heard}
 use Rattle.rules.specs.declared.Sample.{Sample}
 use Rattle.rules.specs.declared.Wires.{Wires}
+
+-- ── a sample at rest: all wires at (0,1) ──
+
+abbrev pub atRest : Sample
+atRest = record { alerts = record { pos = replicate words 0; neg = replicate words (2 ^ 64 - 1) } }
 
 -- ── one alert: its wire pair and its receiver ──
 

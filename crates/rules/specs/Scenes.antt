@@ -7,6 +7,7 @@ use lib.ListN.{replicate}
 use Rattle.bits.specs.Fields.{unpack}
 use Rattle.rules.specs.Answer.{number}
 use Rattle.rules.specs.Map.{numberOf}
+use Rattle.rules.specs.Samples.{atRest}
 use Rattle.rules.specs.State.{words}
 use Rattle.rules.specs.Tick.{ticked}
 use Rattle.rules.specs.declared.Access.{Access}
@@ -29,7 +30,7 @@ wire i = 2 ^ (255 - i)
 
 -- all wires at (0,1)
 abbrev pub rest : Access → Input
-rest x = wired 0 ones x
+rest x = record { access = x; sample = atRest }
 
 -- alert i at (1,0), the others at (0,1)
 abbrev pub raise : ℕ → Access → Input
