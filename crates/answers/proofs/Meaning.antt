@@ -1,6 +1,6 @@
 -- The number of an answer: its meaning, over all answers, and negated numbers as signed 64-bit integers.
 -- Assumes nothing.
-use Prim.Native.Nat.{ℕ, zero, suc, _-_, _≤_, _<_}
+use Prim.Native.Nat.{ℕ, zero, suc, _<_}
 use mathlib.Core.Path.{_≡_, refl, sym, ap, _∙_}
 use mathlib.Core.Bool.{cond}
 use mathlib.Core.Logic.{inl, inr}
@@ -10,6 +10,7 @@ use lib.IntN.{ℤ, pos, negsuc, negℤ, negℤ-negℤ, natAbs, _-ℤ_, +ℤ-idl,
 use mir.Syntax.{w64}
 use mir.Val.{SFits}
 use borrow.Author.Needs.{sfits-of, needs}
+use Rattle.rules.proofs.AnswerLaws.{refused-number}
 use Rattle.rules.specs.Answer.{refusalNumber, number}
 use Rattle.rules.specs.declared.Answer.{Answer}
 use Rattle.rules.specs.declared.Refusal.{Refusal}
@@ -41,22 +42,6 @@ refusal-number ShortBuffer = refl
 refusal-number Differs = refl
 refusal-number SillyThreshold = refl
 
--- it is 1 to 14
-pub number-range : (m : Refusal) → (1 ≤ refusalNumber m) × (refusalNumber m ≤ 14)
-number-range NoRegister = (omega arith, omega arith)
-number-range WrongWay = (omega arith, omega arith)
-number-range Locked = (omega arith, omega arith)
-number-range TooWide = (omega arith, omega arith)
-number-range BadRecord = (omega arith, omega arith)
-number-range BadCount = (omega arith, omega arith)
-number-range BadState = (omega arith, omega arith)
-number-range BadLength = (omega arith, omega arith)
-number-range ShortList = (omega arith, omega arith)
-number-range NoRecord = (omega arith, omega arith)
-number-range ShortBuffer = (omega arith, omega arith)
-number-range Differs = (omega arith, omega arith)
-number-range SillyThreshold = (omega arith, omega arith)
-
 -- ── negated numbers ──
 
 pub sub-zero : (n : ℕ) → pos 0 -ℤ pos n ≡ negℤ (pos n)
@@ -67,15 +52,6 @@ neg-fits zero h = search needs
 neg-fits (suc n) h = sfits-of (omega arith)
 
 -- ── the meaning of every answer that is in range ──
-
--- the number of a refusal is below zero, by 1 to 14
-refused-number : (m : Refusal) → (k : ℕ) × (k ≤ 13) × (number (Answer.Refused m) ≡ negsuc k)
-unfolding number
-refused-number m =
-    let r = number-range m in
-    let k : ℕ = refusalNumber m - 1 in
-    let e : refusalNumber m ≡ suc k = omega arith in
-    (k, omega arith, ap (λ (n : ℕ). negℤ (pos n)) e)
 
 -- equal numbers are of equal refusals
 same-refusal : (m n : Refusal) → negℤ (pos (refusalNumber m)) ≡ negℤ (pos (refusalNumber n)) → m ≡ n

@@ -6,6 +6,7 @@ use mathlib.Core.Bool.{Bool, true, false, false≢true, _&&_}
 use native.Mathlib.Omega.{arith}
 use borrow.Author.Tests.{ne-eqb}
 use lib.Dec.{eqb}
+use lib.IntN.{ℤ}
 use lib.ListN.{getD-replicate}
 use Rattle.bits.proofs.BitLaws.{bit-none, bit-ones}
 use Rattle.bits.specs.Bits.{bit, place}
@@ -25,6 +26,7 @@ use Rattle.laws.specs.InMap.{inMap}
 use Rattle.laws.specs.Quiet.{AtRest, Silent, runs}
 use Rattle.laws.specs.RegisterFile.{commits, plain}
 use Rattle.laws.specs.StageFile.{names}
+use Rattle.rules.proofs.AnswerLaws.{refused-number}
 use Rattle.rules.specs.Access.{value, verdict, accepts, accepted, isClrOf, writesClr, accessedBy, accessed, acted, answerTo, effects, clears}
 use Rattle.rules.specs.Answer.{number}
 use Rattle.rules.specs.Map.{numberOf}
@@ -60,20 +62,7 @@ at-rest x =
 
 -- a refusal is no answer that is wanted
 refused-not : (m : Refusal) (v : ℕ) → is (number (Answer.Refused m)) v ≡ false
-unfolding number
-refused-not Refusal.NoRegister v = refl
-refused-not Refusal.WrongWay v = refl
-refused-not Refusal.Locked v = refl
-refused-not Refusal.TooWide v = refl
-refused-not Refusal.BadRecord v = refl
-refused-not Refusal.BadCount v = refl
-refused-not Refusal.BadState v = refl
-refused-not Refusal.BadLength v = refl
-refused-not Refusal.ShortList v = refl
-refused-not Refusal.NoRecord v = refl
-refused-not Refusal.ShortBuffer v = refl
-refused-not Refusal.Differs v = refl
-refused-not Refusal.SillyThreshold v = refl
+refused-not m v = ap (λ (z : ℤ). is z v) (refused-number m .2)
 
 pub wants-accepted : (h : Handler) (a : Ask) → valid h ≡ true → wants h a ≡ true → accepted h (a .access) ≡ true
 unfolding answerTo accessed

@@ -1,4 +1,5 @@
 pub mod Scenes
+pub mod AnswerLaws
 pub mod AnswerExamples
 pub mod MapExamples
 pub mod AccessExamples

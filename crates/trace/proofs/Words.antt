@@ -1,6 +1,6 @@
 -- What the word of a tick says: each field, and each bit of the interrupts and lines.
 -- Assumes nothing.
-use Prim.Native.Nat.{ℕ, zero, suc, _-_, _^_, _<_}
+use Prim.Native.Nat.{ℕ, zero, suc, _-_, _^_, _≤_, _<_}
 use mathlib.Core.Path.{_≡_, refl, ap, _∙_}
 use mathlib.Core.Bool.{Bool}
 use mathlib.Core.List.{List, [], _∷_}
@@ -13,29 +13,17 @@ use Rattle.bits.specs.Fields.{unpack, Fit, none, one}
 use Rattle.bits.proofs.BitLaws.{num-lt}
 use Rattle.bits.proofs.FieldLaws.{unpack-pack}
 use Rattle.bits.proofs.PackLaws.{fit-append}
+use Rattle.rules.proofs.AnswerLaws.{number-range}
 use Rattle.rules.specs.Answer.{refusalNumber}
 use Rattle.rules.specs.declared.Answer.{Answer}
 use Rattle.rules.specs.declared.Refusal.{Refusal}
-use Rattle.rules.specs.declared.Refusal.the-variants.{NoRegister, WrongWay, Locked, TooWide, BadRecord, BadCount, BadState, BadLength, ShortList, NoRecord, ShortBuffer, Differs, SillyThreshold}
 use Rattle.rules.specs.declared.Ticked.{Ticked}
 use Rattle.rules.specs.Word.{wordLayout, refusalOf, readOf, wordFields, wordBy, wordOf}
 use Rattle.trace.proofs.Digits.{num-one}
 
 -- a refusal number is below 16, so that 4 bits hold it
 refusal-lt : (m : Refusal) → refusalNumber m < 2 ^ 4
-refusal-lt NoRegister = omega arith
-refusal-lt WrongWay = omega arith
-refusal-lt Locked = omega arith
-refusal-lt TooWide = omega arith
-refusal-lt BadRecord = omega arith
-refusal-lt BadCount = omega arith
-refusal-lt BadState = omega arith
-refusal-lt BadLength = omega arith
-refusal-lt ShortList = omega arith
-refusal-lt NoRecord = omega arith
-refusal-lt ShortBuffer = omega arith
-refusal-lt Differs = omega arith
-refusal-lt SillyThreshold = omega arith
+refusal-lt m = let b : refusalNumber m ≤ 14 = number-range m .1 in omega arith
 
 answer-lt : (a : Answer) → refusalOf a < 2 ^ 4
 answer-lt Answer.Done = omega arith
