@@ -9,16 +9,16 @@ use lib.ListN.{length, getD, take, drop, length-map, List·getD-append, List·ge
 use Rattle.bits.specs.Bits.{bit}
 use Rattle.bits.specs.Fields.{pack}
 use Rattle.escalation.specs.List.{IsTick, givenAt, noInput, noTick}
-use Rattle.rules.specs.Batch.{Batched, admits, batch}
-use Rattle.rules.specs.Edition.{recordBytes}
+use Rattle.trace_rules.specs.Batch.{Batched, admits, batch}
+use Rattle.trace_rules.specs.Edition.{recordBytes}
 use Rattle.rules.specs.Run.{run, ticks}
-use Rattle.rules.specs.declared.Edition.{Edition}
+use Rattle.trace_rules.specs.declared.Edition.{Edition}
 use Rattle.rules.specs.declared.Handler.{Handler}
 use Rattle.rules.specs.declared.Input.{Input}
 use Rattle.rules.specs.declared.Ticked.{Ticked}
-use Rattle.rules.specs.Word.{readOf, wordBy, wordOf}
-use Rattle.rules.specs.Record.{inputsOf, recordCount}
-use Rattle.laws.proofs.BatchLaws.{admits-valid, batch-good}
+use Rattle.trace_rules.specs.Word.{readOf, wordBy, wordOf}
+use Rattle.trace_rules.specs.Record.{inputsOf, recordCount}
+use Rattle.trace_laws.proofs.BatchLaws.{admits-valid, batch-good}
 use Rattle.laws.proofs.KeepsValid.{run-valid}
 use Rattle.laws.proofs.Runs.{ticks-at, length-ticks}
 use Rattle.trace.proofs.Words.{line-bit}

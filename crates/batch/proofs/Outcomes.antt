@@ -9,19 +9,19 @@ use lib.Dec.{eqb, ltb}
 use lib.IntN.{ℤ}
 use lib.ListN.{length, drop}
 use Rattle.rules.specs.Answer.{firstOf, number}
-use Rattle.rules.specs.Batch as rules
-use Rattle.rules.specs.Batch.{admits, batchVerdict}
-use Rattle.rules.specs.Edition.{recordBytes}
+use Rattle.trace_rules.specs.Batch as rules
+use Rattle.trace_rules.specs.Batch.{admits, batchVerdict}
+use Rattle.trace_rules.specs.Edition.{recordBytes}
 use Rattle.rules.specs.Run.{run, ticks}
 use Rattle.rules.specs.declared.Answer.{Answer}
-use Rattle.rules.specs.declared.Edition.{Edition}
+use Rattle.trace_rules.specs.declared.Edition.{Edition}
 use Rattle.rules.specs.declared.Handler.{Handler}
 use Rattle.rules.specs.declared.Refusal.{Refusal}
 use Rattle.rules.specs.declared.Refusal.the-variants.{BadState, BadLength, ShortList}
 use Rattle.rules.specs.declared.Verdict.{Verdict}
-use Rattle.rules.specs.Word.{wordOf}
-use Rattle.rules.specs.Record.{inputsOf, recordCount}
-use Rattle.laws.proofs.BatchLaws.{batch-good, batch-refused}
+use Rattle.trace_rules.specs.Word.{wordOf}
+use Rattle.trace_rules.specs.Record.{inputsOf, recordCount}
+use Rattle.trace_laws.proofs.BatchLaws.{batch-good, batch-refused}
 use Rattle.batch.specs.BatchedBy.{BatchedBy}
 use Rattle.batch.specs.declared.Batched.{Batched}
 

@@ -8,19 +8,19 @@ use native.Mathlib.Omega.{arith}
 use lib.ListN.{length, getD, set, take, drop, length-set, length-map}
 use lib.Seq.{take-suc, take-all, length-take-le, drop-cons, set-at, append-snoc}
 use Rattle.bits.proofs.IndexLaws.{at-each, length-each}
-use Rattle.rules.specs.Edition.{recordBytes}
-use Rattle.rules.specs.Record.{inputOf, inputsOf, recordAt, recordCount}
+use Rattle.trace_rules.specs.Edition.{recordBytes}
+use Rattle.trace_rules.specs.Record.{inputOf, inputsOf, recordAt, recordCount}
 use Rattle.rules.specs.Run.{run, ticks}
 use Rattle.rules.specs.State.{most}
 use Rattle.rules.specs.Tick.{tick, ticked}
 use Rattle.rules.specs.Valid.{valid}
-use Rattle.rules.specs.declared.Edition.{Edition}
+use Rattle.trace_rules.specs.declared.Edition.{Edition}
 use Rattle.rules.specs.declared.Handler.{Handler}
 use Rattle.rules.specs.declared.Input.{Input}
 use Rattle.rules.specs.declared.Ticked.{Ticked}
-use Rattle.rules.specs.Word.{wordBy, wordOf}
+use Rattle.trace_rules.specs.Word.{wordBy, wordOf}
 use Rattle.laws.proofs.KeepsValid.{run-valid}
-use Rattle.laws.proofs.PartLaws.{some-bytes, part-within}
+use Rattle.trace_laws.proofs.PartLaws.{some-bytes, part-within}
 use Rattle.laws.proofs.Refusal7.{ticked-good}
 use Rattle.laws.proofs.Runs.{run-next, ticks-append, length-ticks}
 use Rattle.laws.proofs.ValidLaws.{facts}

@@ -3,8 +3,8 @@
 use Prim.Native.Nat.{ℕ}
 use mathlib.Core.Path.{_≡_}
 use mathlib.Core.List.{List}
-use Rattle.rules.specs.Batch.{batch}
-use Rattle.rules.specs.declared.Edition.{Edition}
+use Rattle.trace_rules.specs.Batch.{batch}
+use Rattle.trace_rules.specs.declared.Edition.{Edition}
 use Rattle.rules.specs.declared.Handler.{Handler}
 use Rattle.batch.specs.declared.Batched.{Batched}
 

@@ -7,7 +7,7 @@ use lib.ListN.{length, take, drop}
 use Rattle.rules.specs.Run.{run, ticks}
 use Rattle.rules.specs.declared.Handler.{Handler}
 use Rattle.rules.specs.declared.Input.{Input}
-use Rattle.rules.specs.Word.{wordOf}
+use Rattle.trace_rules.specs.Word.{wordOf}
 
 -- the ticks with the first i of the inputs xs have led from h to g, and their words stand in the list, whose later words are as they were
 pub record Running (h : Handler) (xs : List Input) (old : List ℕ) (g : Handler) (out : List ℕ) (i : ℕ) : Type 0 where

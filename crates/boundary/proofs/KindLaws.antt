@@ -2,8 +2,8 @@
 -- Assumes nothing.
 use Prim.Native.Nat.{ℕ, _≤_}
 use mathlib.Core.Path.{_≡_, refl}
-use Rattle.laws.proofs.RecordLaws.{kind-over}
-use Rattle.rules.specs.Record.{accessOf}
+use Rattle.trace_laws.proofs.RecordLaws.{kind-over}
+use Rattle.trace_rules.specs.Record.{accessOf}
 use Rattle.rules.specs.declared.Access.{Access}
 use Rattle.boundary.specs.Input.{accessBy}
 

@@ -3,7 +3,7 @@
 use Prim.Native.Nat.{ℕ}
 use mathlib.Core.Bool.{cond}
 use lib.Dec.{eqb}
-use Rattle.rules.specs.Record.{accessOf}
+use Rattle.trace_rules.specs.Record.{accessOf}
 use Rattle.rules.specs.declared.Access.{Access}
 use Rattle.rules.specs.declared.Input.{Input}
 use Rattle.rules.specs.declared.Sample.{Sample}

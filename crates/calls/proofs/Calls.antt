@@ -15,11 +15,11 @@ use Rattle.escalation.specs.List.{IsTick, givenAt, noInput, noTick}
 use Rattle.laws.proofs.KeepsValid.{run-valid}
 use Rattle.laws.proofs.Refusal7.{seven}
 use Rattle.laws.proofs.Runs.{run-append, ticks-append, ticks-at, length-ticks}
-use Rattle.rules.specs.Batch.{batch, batchOf, batchVerdict, batchInputs}
+use Rattle.trace_rules.specs.Batch.{batch, batchOf, batchVerdict, batchInputs}
 use Rattle.rules.specs.Run.{run, ticks}
 use Rattle.rules.specs.Tick.{ticked}
 use Rattle.rules.specs.Valid.{valid}
-use Rattle.rules.specs.Word.{wordOf}
+use Rattle.trace_rules.specs.Word.{wordOf}
 use Rattle.rules.specs.declared.Answer.{Answer}
 use Rattle.rules.specs.declared.Handler.{Handler}
 use Rattle.rules.specs.declared.Input.{Input}

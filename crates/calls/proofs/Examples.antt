@@ -16,13 +16,14 @@ use Rattle.escalation.specs.Escalation.{Escalated, valueOf}
 use Rattle.escalation.specs.List.{IsTick, givenAt, noTick}
 use Rattle.laws.proofs.Refusal7.{seven}
 use Rattle.rules.proofs.Scenes.{rules, settings, zeros}
-use Rattle.rules.specs.Batch.{batch}
+use Rattle.trace_rules.proofs.Scenes.{traces}
+use Rattle.trace_rules.specs.Batch.{batch}
 use Rattle.rules.specs.Run.{ticks}
 use Rattle.rules.specs.Scenes.{rest, raise, none, write}
 use Rattle.rules.specs.Tick.{ticked}
 use Rattle.rules.specs.Valid.{valid}
 use Rattle.rules.specs.declared.Answer.{Answer}
-use Rattle.rules.specs.declared.Edition.{Edition}
+use Rattle.trace_rules.specs.declared.Edition.{Edition}
 use Rattle.rules.specs.declared.Handler.{Handler}
 use Rattle.rules.specs.declared.Input.{Input}
 use Rattle.rules.specs.declared.Refusal.the-variants.{BadState}
@@ -71,7 +72,7 @@ gives : (batch Edition.Alerts248 (after 1) (0 ∷ rest248) (5 ∷ 5 ∷ []) .ans
     × (batch Edition.Alerts248 (after 1) (0 ∷ rest248) (5 ∷ 5 ∷ []) .out ≡ 5 ∷ 5 ∷ [])
     × (batch Edition.Alerts64 (after 2) (rest64 ++ rest64) (7 ∷ 7 ∷ 7 ∷ []) .out ≡ 0x0800000000000000 ∷ 0x0400000000000000 ∷ 7 ∷ [])
     × (batch Edition.Alerts248 (after 3) rest248 (9 ∷ []) .out ≡ 0x0400000000000000 ∷ [])
-unfolding rules leavesAll
+unfolding rules traces leavesAll
 gives = (refl, refl, refl, refl)
 
 -- the lines that the callers see in ticks 100 to 104: 0, 0, 1, 1, 2
@@ -85,19 +86,19 @@ computed : map lines (seenAll station calls)
     ∷ (false ∷ true ∷ false ∷ false ∷ [])
     ∷ (false ∷ false ∷ true ∷ false ∷ [])
     ∷ []
-unfolding rules seenAll
+unfolding rules traces seenAll
 computed = refl
 
 -- ── the same start, and then any calls cs: what the claim says of every tick t that they reach ──
 
 module _ (cs : List Call) where
   claim : AcrossCalls station (starting ∷ cs)
-  unfolding rules
+  unfolding rules traces
   claim = across-calls station (starting ∷ cs) refl
 
   -- whatever the number of the first tick, line 0 is seen on in it
   at-any-number : (first : ℕ) → seenAt first station (starting ∷ cs) first 0 ≡ true
-  unfolding rules inputsAll
+  unfolding rules traces inputsAll
   at-any-number first =
       let n : first - first ≡ 0 = omega arith in
       claim .line first first 0 (record { from = omega arith; to = omega arith }) (omega arith)
@@ -109,7 +110,7 @@ module _ (cs : List Call) where
     of-list = record { from = from; to = omega arith }
 
     escalated : Escalated class 100 t (givenAt 100 station (inputsAll station (starting ∷ cs)) t) 2
-    unfolding rules inputsAll
+    unfolding rules traces inputsAll
     escalated =
         claim .demand3 .escalation 100 2 100 (record { from = omega arith; to = omega arith })
         (record { is-class = omega arith; is-start = refl; is-locked = refl; has-en = refl; has-lock = refl }) t from of-list
@@ -146,7 +147,7 @@ abbrev locking : Call
 locking = Tick (rest (write (Block Setting.Regwen 3) 0))
 
 stays : (cs : List Call) → valueOf (leavesAll open3 (locking ∷ cs)) 1329 ≡ 0x393F
-unfolding rules inputsAll
+unfolding rules traces inputsAll
 stays cs =
     let a : AcrossCalls open3 (locking ∷ cs) = across-calls open3 (locking ∷ cs) refl in
     let n : ℕ = length (locking ∷ cs) in

@@ -10,12 +10,12 @@ use lib.ListN.{getD, length, take}
 use Rattle.bits.specs.Bits.{bit}
 use Rattle.escalation.specs.Escalation.{Demand3}
 use Rattle.escalation.specs.List.{IsTick, givenAt}
-use Rattle.rules.specs.Batch.{batch, batchVerdict, batchInputs}
+use Rattle.trace_rules.specs.Batch.{batch, batchVerdict, batchInputs}
 use Rattle.rules.specs.Run.{run}
 use Rattle.rules.specs.Tick.{ticked}
 use Rattle.rules.specs.Valid.{valid}
 use Rattle.rules.specs.declared.Answer.{Answer}
-use Rattle.rules.specs.declared.Edition.{Edition}
+use Rattle.trace_rules.specs.declared.Edition.{Edition}
 use Rattle.rules.specs.declared.Handler.{Handler}
 use Rattle.rules.specs.declared.Input.{Input}
 use Rattle.rules.specs.declared.Refusal.the-variants.{BadState}

@@ -3,9 +3,10 @@
 use mathlib.Core.Path.{refl}
 use Rattle.cases.specs.List.{List12}
 use Rattle.rules.proofs.Scenes.{rules}
+use Rattle.trace_rules.proofs.Scenes.{traces}
 
 pub list12 : List12
-unfolding rules
+unfolding rules traces
 list12 =
     record {
       P1 = refl;

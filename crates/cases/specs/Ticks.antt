@@ -7,13 +7,13 @@ use lib.Dec.{eqb}
 use lib.IntN.{ℤ}
 use Rattle.rules.specs.Answer.{number}
 use Rattle.rules.specs.Access.{value}
-use Rattle.rules.specs.Record.{carried}
+use Rattle.trace_rules.specs.Record.{carried}
 use Rattle.rules.specs.Run.{run, ticks}
 use Rattle.rules.specs.Scenes as scenes
 use Rattle.rules.specs.Scenes.{rest, raise, bothHigh}
 use Rattle.rules.specs.Stages.{stage}
 use Rattle.rules.specs.declared.Access.{Access}
-use Rattle.rules.specs.declared.Edition.{Edition}
+use Rattle.trace_rules.specs.declared.Edition.{Edition}
 use Rattle.rules.specs.declared.Handler.{Handler}
 use Rattle.rules.specs.declared.Input.{Input}
 use Rattle.rules.specs.declared.Register.{Register}

@@ -1,13 +1,13 @@
 // One tick, played and shown.
 use libc::STDOUT_FILENO;
 use rules::Access;
-use rules::Edition;
 use rules::Handler;
 use rules::Input;
 use rules::Output;
 use rules::Sample;
 use rules::Wires;
 use trace::edition::carry;
+use trace_rules::Edition;
 
 // The cases keep document 01's numbers, and are played as its records say them. Class 0's registers, by number.
 pub const REGWEN: u16 = 320;

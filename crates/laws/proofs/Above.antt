@@ -13,7 +13,6 @@ use Rattle.bits.proofs.IndexLaws.{and-true}
 use Rattle.bits.specs.Bits.{place}
 use Rattle.bits.specs.Index.{placeIn}
 use Rattle.rules.specs.Access.{store, fieldStored, named, acted, effects}
-use Rattle.rules.specs.Batch.{batch, batchOf, batchInputs, batchVerdict}
 use Rattle.rules.specs.Map.{decode, numberOf, isRegister}
 use Rattle.rules.specs.Run.{run}
 use Rattle.bits.specs.Index.{placeIn}
@@ -27,7 +26,6 @@ use Rattle.rules.specs.declared.Access.the-variants.{Nothing, Read, Write, Malf
 use Rattle.rules.specs.declared.Alerts.{Alerts}
 use Rattle.rules.specs.declared.Effects.{Effects}
 use Rattle.rules.specs.declared.Field.{Field}
-use Rattle.rules.specs.declared.Edition.{Edition}
 use Rattle.rules.specs.declared.Handler.{Handler}
 use Rattle.rules.specs.declared.Heard.{Heard}
 use Rattle.rules.specs.declared.Input.{Input}
@@ -177,11 +175,6 @@ pub run-above : (h : Handler) (xs : List Input) → SameAbove h (run h xs)
 unfolding run
 run-above h [] = same h
 run-above h (x ∷ xs) = then h (ticked h x .handler) (run (ticked h x .handler) xs) (ticked-above h x) (run-above (ticked h x .handler) xs)
-
--- a batch, refused or not
-pub batch-above : (e : Edition) (h : Handler) (bytes out : List ℕ) → SameAbove h (batch e h bytes out .handler)
-unfolding batch batchOf
-batch-above e h bytes out = run-above h (batchInputs e (batchVerdict e h bytes out) bytes)
 
 -- ── a new handler has them at reset, also where refusal 6 is met ──
 

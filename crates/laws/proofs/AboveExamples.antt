@@ -1,4 +1,4 @@
--- The laws of the entries at N and above in the raw fields, for every list of ticks, every batch and every N: laws that said less would not do here.
+-- The laws of the entries at N and above in the raw fields, for every list of ticks and every N: laws that said less would not do here.
 -- Assumes nothing.
 use Prim.Native.Nat.{ℕ, _≤_, _<_}
 use mathlib.Core.Path.{_≡_}
@@ -7,16 +7,14 @@ use mathlib.Core.List.{List}
 use native.Mathlib.Omega.{arith}
 use lib.ListN.{getD}
 use Rattle.bits.specs.Index.{placeIn}
-use Rattle.rules.specs.Batch.{batch}
 use Rattle.rules.specs.Run.{run}
 use Rattle.rules.specs.Stages.{stageIn}
 use Rattle.rules.specs.State.{made}
-use Rattle.rules.specs.declared.Edition.{Edition}
 use Rattle.rules.specs.declared.Field.{Field}
 use Rattle.rules.specs.declared.Handler.{Handler}
 use Rattle.rules.specs.declared.Input.{Input}
 use Rattle.laws.specs.Above.{SameAbove}
-use Rattle.laws.proofs.Above.{run-above, batch-above, made-entries}
+use Rattle.laws.proofs.Above.{run-above, made-entries}
 
 -- what g has of alert i is what h has
 pub record Untouched (h g : Handler) (i : ℕ) : Type 0 where
@@ -28,7 +26,7 @@ pub record Untouched (h g : Handler) (i : ℕ) : Type 0 where
   pub en-stage : getD (g .stages .alerts .en) i 0 ≡ getD (h .stages .alerts .en) i 0
   pub class-stage : getD (g .stages .alerts .class) i 0 ≡ getD (h .stages .alerts .class) i 0
 
-untouched : (h g : Handler) → SameAbove h g → (i : ℕ) → h .n ≤ i → i < 248 → Untouched h g i
+pub untouched : (h g : Handler) → SameAbove h g → (i : ℕ) → h .n ≤ i → i < 248 → Untouched h g i
 unfolding stageIn
 untouched h g s i a l = record {
   regwen = s .alerts Field.Regwen i a l;
@@ -40,12 +38,9 @@ untouched h g s i a l = record {
   class-stage = s .stages Field.Class i a l;
 }
 
--- "no call changes them": a list of ticks, and a batch
+-- "no call changes them": a list of ticks
 by-ticks : (h : Handler) (xs : List Input) (i : ℕ) → h .n ≤ i → i < 248 → Untouched h (run h xs) i
 by-ticks h xs = untouched h (run h xs) (run-above h xs)
-
-by-batch : (e : Edition) (h : Handler) (bytes out : List ℕ) (i : ℕ) → h .n ≤ i → i < 248 → Untouched h (batch e h bytes out .handler) i
-by-batch e h bytes out = untouched h (batch e h bytes out .handler) (batch-above e h bytes out)
 
 -- "a new handler has them at reset", re-armed and with no stage
 at-reset : (n i : ℕ) → i < 248

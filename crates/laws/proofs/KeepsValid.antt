@@ -13,7 +13,6 @@ use Rattle.bits.proofs.IndexLaws.{and-true, at-each}
 use Rattle.class_rules.specs.Class.{noClass, stateOf}
 use Rattle.class_rules.specs.Step.{classStep}
 use Rattle.rules.specs.Access.{acted, effects}
-use Rattle.rules.specs.Batch.{batch, batchOf, batchInputs, batchVerdict}
 use Rattle.rules.specs.Map.{fieldBits}
 use Rattle.rules.specs.Run.{run}
 use Rattle.rules.specs.Samples.{sampled, marked, alertEvent, occurs}
@@ -22,7 +21,6 @@ use Rattle.rules.specs.State.{most, localCount, classCount, local, alert, class
 use Rattle.rules.specs.Tick.{signals, stepped, linksAfter, hears, after, tick, ticked}
 use Rattle.rules.specs.Valid.{valid}
 use Rattle.rules.specs.declared.Field.{Field}
-use Rattle.rules.specs.declared.Edition.{Edition}
 use Rattle.rules.specs.declared.Effects.{Effects}
 use Rattle.rules.specs.declared.Handler.{Handler}
 use Rattle.rules.specs.declared.Heard.{Heard}
@@ -93,11 +91,6 @@ pub run-valid : (h : Handler) (xs : List Input) → valid h ≡ true → valid (
 unfolding run
 run-valid h [] e = e
 run-valid h (x ∷ xs) e = run-valid (ticked h x .handler) xs (ticked-valid h x e)
-
--- a batch, refused or not; request (iii): a batch of old records answers 7 to a state of more than 64 alerts all the same, by what its edition admits
-pub batch-valid : (e : Edition) (h : Handler) (bytes out : List ℕ) → valid h ≡ true → valid (batch e h bytes out .handler) ≡ true
-unfolding batch batchOf
-batch-valid e h bytes out v = run-valid h (batchInputs e (batchVerdict e h bytes out) bytes) v
 
 -- ── a new handler ──
 

@@ -2,7 +2,6 @@ pub mod Cases
 pub mod RowLaws
 pub mod MapLaws
 pub mod ColumnLaws
-pub mod CarryLaws
 pub mod Step1
 pub mod Refusals
 pub mod RegisterFile
@@ -31,13 +30,6 @@ pub mod AtRest
 pub mod Named
 pub mod Raises
 pub mod Runs
-pub mod PartLaws
-pub mod BatchLaws
-pub mod WireLaws
-pub mod RecordLaws
-pub mod WellFormedLaws
-pub mod Recordable
-pub mod WriterLaws
 pub mod Inert
 pub mod Written
 pub mod Quiet

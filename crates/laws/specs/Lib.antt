@@ -1,5 +1,4 @@
 pub mod InMap
-pub mod Carry
 pub mod Facts
 pub mod RegisterFile
 pub mod StageFile
@@ -9,7 +8,5 @@ pub mod Above
 pub mod ClearedBy
 pub mod Block
 pub mod Unchecked
-pub mod Batches
-pub mod Wires
 pub mod Columns
 pub mod Quiet

@@ -7,11 +7,11 @@ use native.Mathlib.Nat.{div-add-mod', mod-lt}
 use native.Mathlib.Omega.{arith}
 use lib.ListN.{length, getD, set, take, drop, length-drop, take-append-drop}
 use lib.Seq.{append-snoc, drop-append-add, drop-cons, getD-append-add, getD-drop, length-take-le, set-at, take-all, take-at, take-suc}
-use Rattle.rules.specs.Edition.{recordBytes}
-use Rattle.rules.specs.declared.Edition.{Edition}
-use Rattle.rules.specs.Record.{inputsOf, recordCount}
-use Rattle.laws.proofs.BatchLaws.{count-append, inputs-append}
-use Rattle.laws.proofs.PartLaws.{some-bytes, place-add}
+use Rattle.trace_rules.specs.Edition.{recordBytes}
+use Rattle.trace_rules.specs.declared.Edition.{Edition}
+use Rattle.trace_rules.specs.Record.{inputsOf, recordCount}
+use Rattle.trace_laws.proofs.BatchLaws.{count-append, inputs-append}
+use Rattle.trace_laws.proofs.PartLaws.{some-bytes, place-add}
 use Rattle.replay.specs.Rest.{Kept, restOf}
 use Rattle.replay.proofs.Whole.{inputs-whole, part-take, whole-length, wholeOf}
 

@@ -7,11 +7,11 @@ use native.Mathlib.Omega.{arith}
 use borrow.Author.Tests.{le-leb}
 use Rattle.bits.proofs.IndexLaws.{true-and}
 use Rattle.rules.specs.Answer.{number}
-use Rattle.rules.specs.Batch.{admits}
-use Rattle.rules.specs.Edition.{alerts}
+use Rattle.trace_rules.specs.Batch.{admits}
+use Rattle.trace_rules.specs.Edition.{alerts}
 use Rattle.rules.specs.State.{newHandler, badCount, made}
 use Rattle.rules.specs.declared.Answer.{Answer}
-use Rattle.rules.specs.declared.Edition.{Edition}
+use Rattle.trace_rules.specs.declared.Edition.{Edition}
 use Rattle.rules.specs.declared.Made.{Made}
 use Rattle.rules.specs.declared.Refusal.the-variants.{BadCount}
 use Rattle.laws.proofs.KeepsValid.{made-valid}

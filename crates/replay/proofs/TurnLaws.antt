@@ -9,14 +9,14 @@ use native.Mathlib.Omega.{arith}
 use lib.ListN.{length, take, drop, length-take, take-append-drop}
 use lib.Seq.{take-take}
 use Rattle.bits.specs.Index.{eachFrom}
-use Rattle.rules.specs.Batch.{admits}
-use Rattle.rules.specs.Edition.{recordBytes}
-use Rattle.rules.specs.Record.{inputOf, inputsOf, recordAt, recordCount}
+use Rattle.trace_rules.specs.Batch.{admits}
+use Rattle.trace_rules.specs.Edition.{recordBytes}
+use Rattle.trace_rules.specs.Record.{inputOf, inputsOf, recordAt, recordCount}
 use Rattle.rules.specs.Run.{run}
-use Rattle.rules.specs.declared.Edition.{Edition}
+use Rattle.trace_rules.specs.declared.Edition.{Edition}
 use Rattle.rules.specs.declared.Handler.{Handler}
-use Rattle.laws.proofs.BatchLaws.{run-admits}
-use Rattle.laws.proofs.PartLaws.{some-bytes}
+use Rattle.trace_laws.proofs.BatchLaws.{run-admits}
+use Rattle.trace_laws.proofs.PartLaws.{some-bytes}
 use Rattle.laws.proofs.Runs.{run-append}
 use Rattle.replay.specs.Rest.{Ran, Turned, restOf}
 use Rattle.replay.proofs.RestLaws.{inputs-behind, rest-behind}

@@ -10,19 +10,19 @@ use lib.ListN.{length, take, drop, length-map}
 use lib.Seq.{take-take, take-at, take-all, length-take-le}
 use Rattle.bits.proofs.IndexLaws.{each-ext}
 use Rattle.bits.specs.Index.{each}
-use Rattle.rules.specs.Batch as rules
-use Rattle.rules.specs.Batch.{admits}
-use Rattle.rules.specs.Edition.{recordBytes}
-use Rattle.rules.specs.Record.{inputOf, inputsOf, recordAt, recordCount}
+use Rattle.trace_rules.specs.Batch as rules
+use Rattle.trace_rules.specs.Batch.{admits}
+use Rattle.trace_rules.specs.Edition.{recordBytes}
+use Rattle.trace_rules.specs.Record.{inputOf, inputsOf, recordAt, recordCount}
 use Rattle.rules.specs.Run.{run, ticks}
-use Rattle.rules.specs.declared.Edition.{Edition}
+use Rattle.trace_rules.specs.declared.Edition.{Edition}
 use Rattle.rules.specs.declared.Handler.{Handler}
 use Rattle.rules.specs.declared.Input.{Input}
-use Rattle.rules.specs.Word.{wordOf}
-use Rattle.laws.proofs.BatchLaws.{batch-good}
-use Rattle.laws.proofs.PartLaws.{some-bytes, part-within, parts-within, many-parts}
+use Rattle.trace_rules.specs.Word.{wordOf}
+use Rattle.trace_laws.proofs.BatchLaws.{batch-good}
+use Rattle.trace_laws.proofs.PartLaws.{some-bytes, part-within, parts-within, many-parts}
 use Rattle.laws.proofs.Runs.{length-ticks}
-use Rattle.laws.specs.Batches.{ofTicks}
+use Rattle.trace_laws.specs.Batches.{ofTicks}
 use Rattle.batch.proofs.Running.{length-inputs}
 use Rattle.batch.specs.BatchedBy as batch
 use Rattle.batch.specs.declared.Batched.{Batched}

@@ -5,10 +5,10 @@ use mathlib.Core.Path.{_≡_}
 use mathlib.Core.List.{List, _++_, map}
 use lib.ListN.{drop}
 use Rattle.rules.specs.Run.{run, ticks}
-use Rattle.rules.specs.declared.Edition.{Edition}
+use Rattle.trace_rules.specs.declared.Edition.{Edition}
 use Rattle.rules.specs.declared.Handler.{Handler}
-use Rattle.rules.specs.Word.{wordOf}
-use Rattle.rules.specs.Record.{inputsOf, recordCount}
+use Rattle.trace_rules.specs.Word.{wordOf}
+use Rattle.trace_rules.specs.Record.{inputsOf, recordCount}
 use Rattle.text.specs.Lines.{linesOf}
 use Rattle.replay.specs.declared.records.Replayed.{Replayed}
 

@@ -4,11 +4,11 @@ use Prim.Native.Nat.{ℕ, _*_, _<_}
 use mathlib.Core.Path.{_≡_}
 use mathlib.Core.List.{List, _++_}
 use lib.ListN.{take, drop}
-use Rattle.rules.specs.Edition.{recordBytes}
+use Rattle.trace_rules.specs.Edition.{recordBytes}
 use Rattle.rules.specs.Run.{run}
-use Rattle.rules.specs.declared.Edition.{Edition}
+use Rattle.trace_rules.specs.declared.Edition.{Edition}
 use Rattle.rules.specs.declared.Handler.{Handler}
-use Rattle.rules.specs.Record.{inputsOf, recordCount}
+use Rattle.trace_rules.specs.Record.{inputsOf, recordCount}
 
 abbrev pub restOf : Edition → List ℕ → List ℕ
 restOf e bytes = drop (recordCount e bytes * recordBytes e) bytes

@@ -1,15 +1,15 @@
 // The text that a part of the input gives: a line for the word of each record.
 use batch::batch;
-use rules::Edition;
 use rules::Handler;
 use text::hex_lines;
 use trace::edition::record_bytes;
+use trace_rules::Edition;
 ghost use mathlib.Core.Path.{_≡_};
 ghost use mathlib.Core.Bool.{true};
 ghost use Prim.Native.Nat.{_*_, _≤_};
 ghost use lib.ListN.{length};
-ghost use Rattle.rules.specs.Batch.{admits};
-ghost use Rattle.rules.specs.Record.{recordCount};
+ghost use Rattle.trace_rules.specs.Batch.{admits};
+ghost use Rattle.trace_rules.specs.Record.{recordCount};
 ghost use Rattle.replay.specs.ReplayedBy.{ReplayedBy};
 
 // The records of a turn, and the bytes of their lines.

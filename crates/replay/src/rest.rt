@@ -1,6 +1,6 @@
 // The bytes of a record that has not come whole. They wait at the start of the buffer for the next read.
-use rules::Edition;
 use trace::edition::record_bytes;
+use trace_rules::Edition;
 ghost use mathlib.Core.Path.{_≡_};
 ghost use mathlib.Core.List.{_++_};
 ghost use Prim.Native.Nat.{_+_, _≤_};

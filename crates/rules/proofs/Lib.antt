@@ -5,8 +5,6 @@ pub mod MapExamples
 pub mod AccessExamples
 pub mod ValidExamples
 pub mod TickExamples
-pub mod TraceExamples
-pub mod WriterExamples
 pub mod ShadowExamples
 pub mod LockExamples
 pub mod ApartExamples

@@ -20,18 +20,12 @@ use Rattle.rules.specs.Access.{value, locked, verdict, store, written, a
 use Rattle.rules.specs.Samples.{happened, alertBroken, rearmed, raised, heard, alertEvent, occurs, sampled, assigned}
 use Rattle.rules.specs.Tick.{event, interruptNow, signals, stepped, interrupts, lines, outputOf, hears, after, tick, ticked}
 use Rattle.rules.specs.Run.{run, ticks}
-use Rattle.rules.specs.Edition.{carried64, carried248}
-use Rattle.rules.specs.Record.{accessOf, heldIn, inputOf, recordOf, recordable, inputsOf}
-use Rattle.rules.specs.Word
-use Rattle.rules.specs.Batch.{admits, batchVerdict, batchOf, batch}
-use Rattle.rules.specs.Writer.{recordsOf, anyUnrecordable, writeVerdict, writeOf}
-use Rattle.rules.specs.Writer
 use Rattle.rules.specs.declared.Access.{Access}
 use Rattle.rules.specs.declared.Handler.{Handler}
 
 -- names every definition that an example computes with: `unfolding rules` opens them all
 unfoldable pub rules : ℕ → ℕ
-unfolding bit bitsOf wordOf eachFrom anyTo allTo pack unpack stateOf drives classFits counted startsFrom movedFrom classStep number firstOf put newHandler made blockAt decode numberOf carried64 carried248 bits writeOnly readOnly guard isLock isShadowed stageIn withStage dropped classStagesFit stagesFit valid value locked verdict store written acted answerTo effects clears accessed happened alertBroken rearmed raised heard alertEvent occurs sampled assigned event interruptNow signals stepped interrupts lines outputOf hears after tick ticked run ticks accessOf heldIn inputOf Word.wordBy Word.wordOf recordOf recordable inputsOf admits batchVerdict batchOf batch recordsOf anyUnrecordable writeVerdict writeOf Writer.write
+unfolding bit bitsOf wordOf eachFrom anyTo allTo pack unpack stateOf drives classFits counted startsFrom movedFrom classStep number firstOf put newHandler made blockAt decode numberOf bits writeOnly readOnly guard isLock isShadowed stageIn withStage dropped classStagesFit stagesFit valid value locked verdict store written acted answerTo effects clears accessed happened alertBroken rearmed raised heard alertEvent occurs sampled assigned event interruptNow signals stepped interrupts lines outputOf hears after tick ticked run ticks
 rules n = n
 
 -- the state after these accesses, and the number that an access or a read answers

@@ -7,9 +7,4 @@ pub mod Access
 pub mod Samples
 pub mod Tick
 pub mod Run
-pub mod Edition
-pub mod Record
-pub mod Word
-pub mod Batch
-pub mod Writer
 pub mod Scenes

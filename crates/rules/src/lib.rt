@@ -152,12 +152,6 @@ pub struct Row {
 
 // ---- What goes in. ----
 
-// The form of a trace, named by what it brings: its record speaks of 64 alerts, or of 248.
-pub enum Edition {
-    Alerts64,
-    Alerts248,
-}
-
 pub enum Access {
     Nothing,
     Read(u16),

@@ -14,11 +14,11 @@ use Rattle.bits.proofs.ByteLaws.{bytes-lt}
 use Rattle.bits.proofs.IndexLaws.{is-each}
 use Rattle.bits.proofs.FieldLaws.{pack-unpack, unpack-fits}
 use Rattle.bits.proofs.PackLaws.{unpack-append, bytes-append}
-use Rattle.rules.specs.Edition.{recordBytes, alerts, tail}
-use Rattle.rules.specs.Record.{head, wires, layout, accessIn, wireWords, inputOfParts, inputOfFields, heldIn, carried, inputOf}
+use Rattle.trace_rules.specs.Edition.{recordBytes, alerts, tail}
+use Rattle.trace_rules.specs.Record.{head, wires, layout, accessIn, wireWords, inputOfParts, inputOfFields, heldIn, carried, inputOf}
 use Rattle.rules.specs.declared.Access.{Access}
-use Rattle.rules.specs.declared.Edition.{Edition}
-use Rattle.rules.specs.declared.Edition.the-variants.{Alerts64, Alerts248}
+use Rattle.trace_rules.specs.declared.Edition.{Edition}
+use Rattle.trace_rules.specs.declared.Edition.the-variants.{Alerts64, Alerts248}
 use Rattle.rules.specs.declared.Input.{Input}
 use Rattle.trace.specs.Parts.{wireBytes, tailBytes, headOf, fieldsOf}
 use Rattle.trace.specs.declared.record.Head.{Head}

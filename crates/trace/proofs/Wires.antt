@@ -9,7 +9,7 @@ use lib.ListN.{getD, length, take, drop, replicate}
 use lib.Pow.{pow-pos, pow-add, shl-lt}
 use Rattle.bits.specs.Fields.{total, unpack, ofBytes}
 use Rattle.bits.proofs.PackLaws.{unpack-parts}
-use Rattle.rules.specs.Record.{wireWords}
+use Rattle.trace_rules.specs.Record.{wireWords}
 use Rattle.rules.specs.State.{words}
 use Rattle.trace.proofs.Records.{getD-byte, part-bytes, part-lt}
 

@@ -18,7 +18,7 @@ use Rattle.rules.specs.Answer.{refusalNumber}
 use Rattle.rules.specs.declared.Answer.{Answer}
 use Rattle.rules.specs.declared.Refusal.{Refusal}
 use Rattle.rules.specs.declared.Ticked.{Ticked}
-use Rattle.rules.specs.Word.{wordLayout, refusalOf, readOf, wordFields, wordBy, wordOf}
+use Rattle.trace_rules.specs.Word.{wordLayout, refusalOf, readOf, wordFields, wordBy, wordOf}
 use Rattle.trace.proofs.Digits.{num-one}
 
 -- a refusal number is below 16, so that 4 bits hold it

@@ -4,9 +4,9 @@ use Prim.Native.Nat.{ℕ, _/_}
 use mathlib.Core.List.{List, [], _∷_}
 use lib.ListN.{getD}
 use Rattle.bits.specs.Fields.{total, unpack}
-use Rattle.rules.specs.Edition.{alerts, tail}
-use Rattle.rules.specs.Record.{head}
-use Rattle.rules.specs.declared.Edition.{Edition}
+use Rattle.trace_rules.specs.Edition.{alerts, tail}
+use Rattle.trace_rules.specs.Record.{head}
+use Rattle.trace_rules.specs.declared.Edition.{Edition}
 use Rattle.trace.specs.declared.record.Head.{Head}
 
 -- the bytes of the positive wires, and of the negative ones

@@ -1,7 +1,7 @@
 // What is known of an edition: the bytes of its record, the alerts that it speaks of, its register numbers.
-use rules::Edition;
+use trace_rules::Edition;
 ghost use mathlib.Core.Path.{_≡_};
-ghost use Rattle.rules.specs.Edition as rules;
+ghost use Rattle.trace_rules.specs.Edition as rules;
 
 // The record of the edition of 64 alerts: its bytes, the numbers that its register field holds, and the lowest bit of that field in the
 // first 64 bits.

@@ -7,11 +7,11 @@ use crate::edition::ALERTS_248_REGISTER_AT;
 use crate::edition::ALERTS_248_REGISTERS;
 use crate::edition::carry;
 use rules::Access;
-use rules::Edition;
 use rules::Input;
 use rules::Sample;
 use rules::WORDS;
 use rules::Wires;
+use trace_rules::Edition;
 ghost use mathlib.Core.Path.{_≡_};
 ghost use mathlib.Core.List.{[]};
 ghost use Prim.Native.Nat.{_+_, _*_, _^_, _≤_};
@@ -19,9 +19,9 @@ ghost use lib.ListN.{length, take, drop};
 ghost use Rattle.bits.specs.Fields.{ofBytes};
 ghost use mathlib.Core.Bool.{false};
 ghost use Rattle.rules.specs.Access.{malformed};
-ghost use Rattle.rules.specs.Edition.{newest, recordBytes, alerts};
-ghost use Rattle.rules.specs.Record as rules;
-ghost use Rattle.rules.specs.Record.{accessOf, clear, accessIn, wireWords, inputOf, recordOf};
+ghost use Rattle.trace_rules.specs.Edition.{newest, recordBytes, alerts};
+ghost use Rattle.trace_rules.specs.Record as rules;
+ghost use Rattle.trace_rules.specs.Record.{accessOf, clear, accessIn, wireWords, inputOf, recordOf};
 ghost use Rattle.trace.specs.Parts.{wireBytes, headOf, fieldsOf};
 
 // Four bytes as one number.

@@ -6,7 +6,7 @@ ghost use mathlib.Core.List.{[], _∷_};
 ghost use Prim.Native.Nat.{_<_};
 ghost use Rattle.bits.specs.Bits.{bit, num};
 ghost use Rattle.bits.specs.Fields.{pack};
-ghost use Rattle.rules.specs.Word.{refusalOf, readOf, wordBy};
+ghost use Rattle.trace_rules.specs.Word.{refusalOf, readOf, wordBy};
 
 // Bit k as a number.
 fn digit(x: u8, k: u32) -> u64

@@ -8,14 +8,14 @@ use lib.IntN.{ℤ}
 use lib.ListN.{getD, length, take}
 use borrow.Author.Tests.{not-false}
 use Rattle.bits.proofs.IndexLaws.{none-at}
-use Rattle.rules.specs.Edition.{newest, recordBytes}
+use Rattle.trace_rules.specs.Edition.{newest, recordBytes}
 use Rattle.rules.specs.State.{words}
-use Rattle.rules.specs.Writer.{AllWired, AllSame, writeVerdict, writeOf, write}
+use Rattle.trace_rules.specs.Writer.{AllWired, AllSame, writeVerdict, writeOf, write}
 use Rattle.rules.specs.declared.Input.{Input}
 use Rattle.rules.specs.declared.Refusal.the-variants.{NoRecord}
 use Rattle.rules.specs.declared.Verdict.{Verdict}
-use Rattle.rules.specs.Record.{inputsOf}
-use Rattle.laws.proofs.WriterLaws.{each-wired, records-length, accepted-recordable, write-accepted, read-written, written-read, well-formed-accepted}
+use Rattle.trace_rules.specs.Record.{inputsOf}
+use Rattle.trace_laws.proofs.WriterLaws.{each-wired, records-length, accepted-recordable, write-accepted, read-written, written-read, well-formed-accepted}
 use Rattle.writer.specs.Lent.{Lent, wordAt, inputAt, listOf, even, writeLent, Wrote, Numbers, ReadBack, WrittenBack}
 use Rattle.writer.specs.Parts.{unrecordableAt}
 use Rattle.writer.proofs.EntryLaws.{any-in-list, length-list}

@@ -11,11 +11,11 @@ use lib.ListN.{getD, length, take, drop}
 use lib.Seq.{sets, sets-eq, take-suc, take-all, length-take-le}
 use Rattle.bits.specs.Index.{eachFrom, anyTo}
 use Rattle.bits.proofs.IndexLaws.{length-each, at-each, any-ext, any-first}
-use Rattle.rules.specs.Edition.{newest, recordBytes}
-use Rattle.rules.specs.Record.{recordOf, recordable}
-use Rattle.rules.specs.Writer.{recordsOf, anyUnrecordable}
+use Rattle.trace_rules.specs.Edition.{newest, recordBytes}
+use Rattle.trace_rules.specs.Record.{recordOf, recordable}
+use Rattle.trace_rules.specs.Writer.{recordsOf, anyUnrecordable}
 use Rattle.rules.specs.declared.Input.{Input}
-use Rattle.laws.proofs.WriterLaws.{records-length, records-append}
+use Rattle.trace_laws.proofs.WriterLaws.{records-length, records-append}
 use Rattle.writer.specs.Lent.{Lent, inputAt, listOf}
 use Rattle.writer.specs.Parts.{unrecordableAt}
 use Rattle.writer.proofs.StoreLaws.{sets-append}

@@ -8,8 +8,8 @@ use lib.ListN.{drop, replicate}
 use Rattle.bits.specs.Fields.{pack, unpack}
 use Rattle.bits.specs.Index.{eachFrom}
 use Rattle.rules.specs.Answer.{firstOf, number}
-use Rattle.rules.specs.Record.{accessOf, recordOf, recordable}
-use Rattle.rules.specs.Writer.{recordsOf, anyUnrecordable, writeVerdict, writeOf, write}
+use Rattle.trace_rules.specs.Record.{accessOf, recordOf, recordable}
+use Rattle.trace_rules.specs.Writer.{recordsOf, anyUnrecordable, writeVerdict, writeOf, write}
 use Rattle.writer.specs.Lent.{Lent, lent, listOf, writeLent}
 
 -- the words of an entry with no wire high

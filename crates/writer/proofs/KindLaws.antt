@@ -9,10 +9,10 @@ use lib.Dec.{eqb}
 use Rattle.bits.specs.Bits.{fits}
 use Rattle.bits.specs.Fields.{pack}
 use Rattle.bits.proofs.IndexLaws.{and-true}
-use Rattle.rules.specs.Edition.{newest, registerBits}
-use Rattle.rules.specs.Record.{valueBits, accessOf, recordable, kindOf, registerOf, valueOf}
+use Rattle.trace_rules.specs.Edition.{newest, registerBits}
+use Rattle.trace_rules.specs.Record.{valueBits, accessOf, recordable, kindOf, registerOf, valueOf}
 use Rattle.rules.specs.declared.Access.{Access}
-use Rattle.laws.proofs.RecordLaws.{kind-over}
+use Rattle.trace_laws.proofs.RecordLaws.{kind-over}
 use Rattle.writer.specs.Parts.{accessWord}
 
 -- kind 0: neither register nor value

@@ -13,9 +13,9 @@ use lib.ListN.{length, drop}
 use Rattle.bits.specs.Index.{anyTo}
 use Rattle.bits.proofs.IndexLaws.{and-true}
 use Rattle.rules.specs.Answer.{firstOf, number}
-use Rattle.rules.specs.Edition.{newest, recordBytes}
+use Rattle.trace_rules.specs.Edition.{newest, recordBytes}
 use Rattle.rules.specs.State.{words}
-use Rattle.rules.specs.Writer.{Written, recordsOf, anyUnrecordable, writeVerdict, writeOf, write}
+use Rattle.trace_rules.specs.Writer.{Written, recordsOf, anyUnrecordable, writeVerdict, writeOf, write}
 use Rattle.rules.specs.declared.Answer.{Answer}
 use Rattle.rules.specs.declared.Refusal.{Refusal}
 use Rattle.rules.specs.declared.Refusal.the-variants.{NoRecord}

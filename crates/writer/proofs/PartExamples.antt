@@ -10,12 +10,12 @@ use lib.ListN.{getD, length, take, drop, replicate}
 use Rattle.bits.specs.Bits.{bit}
 use Rattle.bits.specs.Fields.{pack, unpack}
 use Rattle.bits.specs.Index.{eachFrom, placeIn}
-use Rattle.laws.proofs.RecordLaws.{held-wired}
-use Rattle.laws.proofs.Recordable.{record-formed}
+use Rattle.trace_laws.proofs.RecordLaws.{held-wired}
+use Rattle.trace_laws.proofs.Recordable.{record-formed}
 use Rattle.rules.specs.Answer.{firstOf}
-use Rattle.rules.specs.Edition.{newest, carried248}
-use Rattle.rules.specs.Record.{accessOf, heldIn, inputOf, kindOf, registerOf, valueOf, recordOf, recordable, inputsOf}
-use Rattle.rules.specs.Writer.{SameRead, AllSame, no-more, and, WellFormed, Written, anyUnrecordable, writeVerdict}
+use Rattle.trace_rules.specs.Edition.{newest, carried248}
+use Rattle.trace_rules.specs.Record.{accessOf, heldIn, inputOf, kindOf, registerOf, valueOf, recordOf, recordable, inputsOf}
+use Rattle.trace_rules.specs.Writer.{SameRead, AllSame, no-more, and, WellFormed, Written, anyUnrecordable, writeVerdict}
 use Rattle.rules.specs.declared.Access.the-variants.{Read, Write}
 use Rattle.rules.specs.declared.Input.{Input}
 use Rattle.rules.specs.declared.Verdict.{Verdict}

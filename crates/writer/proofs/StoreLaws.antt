@@ -14,11 +14,11 @@ use Rattle.bits.proofs.ByteLaws.{length-bytes}
 use Rattle.bits.proofs.FieldLaws.{pack-lt}
 use Rattle.bits.proofs.IndexLaws.{length-each}
 use Rattle.bits.proofs.PackLaws.{pack-append, pack-two, unpack-parts, total-bytes}
-use Rattle.rules.specs.Edition.{newest, alerts}
-use Rattle.rules.specs.Record.{head, wires, wiresOf, accessOf, headFields, recordOf}
+use Rattle.trace_rules.specs.Edition.{newest, alerts}
+use Rattle.trace_rules.specs.Record.{head, wires, wiresOf, accessOf, headFields, recordOf}
 use Rattle.rules.specs.State.{words}
 use Rattle.rules.specs.declared.Input.{Input}
-use Rattle.laws.proofs.WireLaws.{wires-lt}
+use Rattle.trace_laws.proofs.WireLaws.{wires-lt}
 use Rattle.writer.specs.Parts.{inputIn, accessWord, wordBytes, setBytes}
 
 -- one run of stores behind another

@@ -8,10 +8,10 @@ use lib.Dec.{eqb}
 use lib.IntN.{ℤ}
 use lib.ListN.{getD, length, take, drop}
 use Rattle.bits.specs.Index.{each}
-use Rattle.rules.specs.Edition.{newest, recordBytes}
-use Rattle.rules.specs.Record.{accessOf, kindOf, registerOf, valueOf, inputsOf}
+use Rattle.trace_rules.specs.Edition.{newest, recordBytes}
+use Rattle.trace_rules.specs.Record.{accessOf, kindOf, registerOf, valueOf, inputsOf}
 use Rattle.rules.specs.State.{words}
-use Rattle.rules.specs.Writer.{Written, WellFormed, AllSame, writeVerdict, writeOf, write}
+use Rattle.trace_rules.specs.Writer.{Written, WellFormed, AllSame, writeVerdict, writeOf, write}
 use Rattle.rules.specs.declared.Input.{Input}
 use Rattle.rules.specs.declared.Refusal.the-variants.{NoRecord}
 use Rattle.rules.specs.declared.Verdict.{Verdict}

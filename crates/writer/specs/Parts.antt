@@ -8,8 +8,8 @@ use lib.ListN.{getD, length}
 use Rattle.bits.specs.Fields.{pack, toBytes}
 use Rattle.bits.specs.Index.{anyTo}
 use Rattle.rules.specs.Answer.{firstOf}
-use Rattle.rules.specs.Edition.{newest, recordBytes}
-use Rattle.rules.specs.Record.{head, accessOf, headFields, recordable}
+use Rattle.trace_rules.specs.Edition.{newest, recordBytes}
+use Rattle.trace_rules.specs.Record.{head, accessOf, headFields, recordable}
 use Rattle.rules.specs.State.{words}
 use Rattle.rules.specs.declared.Access.{Access}
 use Rattle.rules.specs.declared.Input.{Input}

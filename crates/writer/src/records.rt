@@ -10,10 +10,10 @@ ghost use mathlib.Core.List.{_++_};
 ghost use Prim.Native.Nat.{_+_, _*_, _≤_};
 ghost use lib.ListN.{length, drop};
 ghost use lib.Seq.{sets};
-ghost use Rattle.rules.specs.Edition.{newest, recordBytes};
-ghost use Rattle.rules.specs.Record.{accessOf, recordOf, recordable};
+ghost use Rattle.trace_rules.specs.Edition.{newest, recordBytes};
+ghost use Rattle.trace_rules.specs.Record.{accessOf, recordOf, recordable};
 ghost use Rattle.rules.specs.State.{words};
-ghost use Rattle.rules.specs.Writer.{recordsOf};
+ghost use Rattle.trace_rules.specs.Writer.{recordsOf};
 ghost use Rattle.writer.specs.Lent.{lent, wordAt, wordsAt, listOf};
 ghost use Rattle.writer.specs.Parts.{inputIn, accessWord, wordBytes, setBytes, Ready};
 

@@ -12,15 +12,15 @@ use mir.Facts.{toZ-ofZ}
 use mir.Syntax.{w64}
 use mir.Val.{toZ, ofZ}
 use Rattle.escalation.proofs.Demand3.{demand3}
-use Rattle.laws.proofs.BatchLaws.{admits-valid}
-use Rattle.laws.proofs.PartLaws.{some-bytes}
-use Rattle.rules.specs.Batch.{admits}
-use Rattle.rules.specs.Edition.{recordBytes}
+use Rattle.trace_laws.proofs.BatchLaws.{admits-valid}
+use Rattle.trace_laws.proofs.PartLaws.{some-bytes}
+use Rattle.trace_rules.specs.Batch.{admits}
+use Rattle.trace_rules.specs.Edition.{recordBytes}
 use Rattle.rules.specs.Run.{run, ticks}
 use Rattle.rules.specs.declared.Handler.{Handler}
 use Rattle.rules.specs.declared.Refusal.the-variants.{BadState, BadLength, ShortList}
-use Rattle.rules.specs.Word.{wordOf}
-use Rattle.rules.specs.Record.{inputsOf, recordCount}
+use Rattle.trace_rules.specs.Word.{wordOf}
+use Rattle.trace_rules.specs.Record.{inputsOf, recordCount}
 use Rattle.batch.proofs.Outcomes.{seven, eight, nine, given-refusal, given-ticks}
 use Rattle.batch.proofs.batch.Statement.{statement}
 use Rattle.batch.proofs.batch.Tie as tie

@@ -6,8 +6,8 @@ use native.Mathlib.Omega.{arith}
 use native.Mathlib.Numerals.{add-one}
 use borrow.Author.Needs.{needs}
 use lib.ListN.{take, drop}
-use Rattle.rules.specs.Edition.{recordBytes}
-use Rattle.rules.specs.Record.{inputOf, inputsOf}
+use Rattle.trace_rules.specs.Edition.{recordBytes}
+use Rattle.trace_rules.specs.Record.{inputOf, inputsOf}
 use Rattle.handler.specs.Quiet.{ended}
 use Rattle.batch.specs.Running.{Running}
 use Rattle.batch.proofs.Running.{start, end, length-inputs, record-within, few-alerts, next-record}

@@ -6,9 +6,9 @@ use mathlib.Core.List.{List}
 use native.Mathlib.Omega.{arith}
 use borrow.Author.Needs.{needs}
 use lib.ListN.{length, take, length-take}
-use Rattle.rules.specs.Edition.{recordBytes}
-use Rattle.rules.specs.declared.Edition.{Edition}
-use Rattle.rules.specs.Record.{recordCount}
+use Rattle.trace_rules.specs.Edition.{recordBytes}
+use Rattle.trace_rules.specs.declared.Edition.{Edition}
+use Rattle.trace_rules.specs.Record.{recordCount}
 use Rattle.replay.proofs.Whole.{few-records}
 use Rattle.replay.proofs.run_whole.Statement.{statement}
 use Rattle.replay.proofs.run_whole.Tie as tie

@@ -1,7 +1,7 @@
 -- `replay::start_248` is safe: what is made is valid, and the newest records speak of every alert.
 -- Assumes nothing.
 use mathlib.Core.Path.{ap, _∙_}
-use Rattle.laws.proofs.BatchLaws.{admits-all}
+use Rattle.trace_laws.proofs.BatchLaws.{admits-all}
 use Rattle.laws.proofs.KeepsValid.{made-valid}
 use Rattle.rules.specs.Valid.{valid}
 use Rattle.rules.specs.declared.Made.{Made}

@@ -1,8 +1,8 @@
 -- `replay::start_64` is safe: what is made for at most 64 alerts is admitted.
 -- Assumes nothing.
 use mathlib.Core.Path.{ap, _∙_}
-use Rattle.rules.specs.Batch.{admits}
-use Rattle.rules.specs.declared.Edition.{Edition}
+use Rattle.trace_rules.specs.Batch.{admits}
+use Rattle.trace_rules.specs.declared.Edition.{Edition}
 use Rattle.rules.specs.declared.Made.{Made}
 use Rattle.replay.proofs.Starts.{made-admits}
 use borrow.Author.Needs.{needs}

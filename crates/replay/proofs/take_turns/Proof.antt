@@ -5,7 +5,7 @@ use mathlib.Core.List.{[]}
 use mathlib.Core.Path.{_≡_, ap, _∙_}
 use borrow.Author.Needs.{needs}
 use lib.ListN.{length}
-use Rattle.rules.specs.Edition.{recordBytes}
+use Rattle.trace_rules.specs.Edition.{recordBytes}
 use Rattle.replay.specs.Rest.{Turned}
 use Rattle.replay.proofs.TurnLaws.{turned-next, turned-start, turned-admits}
 use Rattle.replay.proofs.take_turns.Statement.{statement}

@@ -11,8 +11,8 @@ use lib.ListN.{length}
 use mir.Facts.{toZ-pos, toZ-ofZ}
 use mir.Syntax.{w64}
 use mir.Val.{toZ, ofZ}
-use Rattle.rules.specs.Edition.{newest, recordBytes}
-use Rattle.rules.specs.Writer.{writeVerdict}
+use Rattle.trace_rules.specs.Edition.{newest, recordBytes}
+use Rattle.trace_rules.specs.Writer.{writeVerdict}
 use Rattle.writer.specs.Lent.{Lent, listOf, even, Wrote, ReadBack, WrittenBack}
 use Rattle.writer.specs.Parts.{Ready}
 use Rattle.writer.proofs.Back.{contract}

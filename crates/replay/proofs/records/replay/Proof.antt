@@ -6,8 +6,8 @@ use native.Mathlib.Nat.{div-mul-le-self}
 use native.Mathlib.Omega.{arith}
 use borrow.Author.Needs.{needs}
 use lib.ListN.{length, length-take, replicate}
-use Rattle.laws.proofs.PartLaws.{some-bytes}
-use Rattle.rules.specs.Record.{recordCount}
+use Rattle.trace_laws.proofs.PartLaws.{some-bytes}
+use Rattle.trace_rules.specs.Record.{recordCount}
 use Rattle.replay.proofs.Whole.{given-sized}
 use Rattle.replay.proofs.records.replay.Statement.{statement}
 use Rattle.replay.proofs.records.replay.Tie as tie

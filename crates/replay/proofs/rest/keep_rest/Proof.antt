@@ -5,7 +5,7 @@ use mathlib.Core.Path.{sym, subst}
 use native.Mathlib.Nat.{mod-le}
 use native.Mathlib.Omega.{arith}
 use borrow.Author.Needs.{needs}
-use Rattle.laws.proofs.PartLaws.{some-bytes}
+use Rattle.trace_laws.proofs.PartLaws.{some-bytes}
 use Rattle.replay.proofs.RestLaws.{kept-front}
 use Rattle.replay.proofs.rest.keep_rest.Statement.{statement}
 use Rattle.replay.proofs.rest.keep_rest.Tie as tie

@@ -1,7 +1,7 @@
 -- `edition::carry_248` meets its contract.
 -- Assumes nothing.
 use borrow.Author.Needs.{needs}
-use Rattle.rules.specs.Edition.{carried248}
+use Rattle.trace_rules.specs.Edition.{carried248}
 use Rattle.trace.proofs.edition.carry_248.Statement.{statement}
 use Rattle.trace.proofs.edition.carry_248.Tie as tie
 

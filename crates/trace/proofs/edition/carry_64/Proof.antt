@@ -1,7 +1,7 @@
 -- `edition::carry_64` meets its contract, range by range.
 -- Assumes nothing.
 use borrow.Author.Tests.{lt-ltb, le-ltb}
-use Rattle.rules.specs.Edition.{carried64}
+use Rattle.trace_rules.specs.Edition.{carried64}
 use Rattle.rules.specs.Map.{numberOf}
 use borrow.Author.Needs.{needs}
 use Rattle.trace.proofs.edition.carry_64.Statement.{statement}

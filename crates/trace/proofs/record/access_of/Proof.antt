@@ -3,8 +3,8 @@
 use mathlib.Core.Path.{sym}
 use native.Mathlib.Omega.{arith}
 use borrow.Author.Tests.{eq-eqb, ne-eqb}
-use Rattle.laws.proofs.RecordLaws.{kind-over}
-use Rattle.rules.specs.Record.{accessOf}
+use Rattle.trace_laws.proofs.RecordLaws.{kind-over}
+use Rattle.trace_rules.specs.Record.{accessOf}
 use Rattle.trace.proofs.record.access_of.Statement.{statement}
 use Rattle.trace.proofs.record.access_of.Tie as tie
 

@@ -8,11 +8,11 @@ use mir.Syntax.{w8}
 use mir.Val.{Fits}
 use lib.ListN.{getD, length}
 use lib.Seq.{take-all}
-use Rattle.laws.proofs.RecordLaws as laws
-use Rattle.laws.proofs.WriterLaws.{own-numbers}
+use Rattle.trace_laws.proofs.RecordLaws as laws
+use Rattle.trace_laws.proofs.WriterLaws.{own-numbers}
 use Rattle.rules.specs.Access.{malformed}
-use Rattle.rules.specs.Edition.{newest, recordBytes}
-use Rattle.rules.specs.Record.{inputOf, recordOf}
+use Rattle.trace_rules.specs.Edition.{newest, recordBytes}
+use Rattle.trace_rules.specs.Record.{inputOf, recordOf}
 use Rattle.rules.specs.declared.Input.{Input}
 use Rattle.trace.proofs.record.input_of.Statement.{statement}
 use Rattle.trace.proofs.record.input_of.Tie as tie

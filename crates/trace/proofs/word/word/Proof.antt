@@ -3,7 +3,7 @@
 use native.Mathlib.Omega.{arith}
 use borrow.Author.Needs.{needs}
 use Rattle.bits.specs.Fields.{pack}
-use Rattle.rules.specs.Word.{wordBy}
+use Rattle.trace_rules.specs.Word.{wordBy}
 use Rattle.trace.proofs.word.word.Statement.{statement}
 use Rattle.trace.proofs.word.word.Tie as tie
 

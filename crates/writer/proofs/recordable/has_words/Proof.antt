@@ -8,7 +8,7 @@ use native.Mathlib.Nat.{mul-div-cancel, mul-mod-left}
 use native.Mathlib.Omega.{arith}
 use borrow.Author.Tests.{eq-eqb, ne-eqb}
 use lib.Dec.{eqb}
-use Rattle.laws.proofs.PartLaws.{whole-parts}
+use Rattle.trace_laws.proofs.PartLaws.{whole-parts}
 use Rattle.rules.specs.State.{words}
 use Rattle.writer.proofs.recordable.has_words.Statement.{statement}
 use Rattle.writer.proofs.recordable.has_words.Tie as tie

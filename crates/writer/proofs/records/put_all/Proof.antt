@@ -7,8 +7,8 @@ use borrow.Author.Needs.{needs}
 use borrow.Author.Tests.{not-false}
 use lib.ListN.{length, take}
 use lib.Seq.{sets}
-use Rattle.rules.specs.Edition.{newest}
-use Rattle.rules.specs.Writer.{recordsOf}
+use Rattle.trace_rules.specs.Edition.{newest}
+use Rattle.trace_rules.specs.Writer.{recordsOf}
 use Rattle.writer.specs.Lent.{listOf}
 use Rattle.writer.proofs.EntryLaws.{put-next, put-end}
 use Rattle.bits.proofs.IndexLaws.{none-at}

@@ -6,18 +6,18 @@ use mathlib.Core.List.{List, [], _∷_, _++_, map}
 use lib.Dec.{eqb, leb, ltb}
 use lib.IntN.{ℤ}
 use lib.ListN.{length, drop}
 use Rattle.rules.specs.Answer.{Case, firstOf, number}
-use Rattle.rules.specs.Edition.{recordBytes, alerts}
-use Rattle.rules.specs.Record.{recordCount, inputsOf}
+use Rattle.trace_rules.specs.Edition.{recordBytes, alerts}
+use Rattle.trace_rules.specs.Record.{recordCount, inputsOf}
 use Rattle.rules.specs.Run.{run, ticks}
 use Rattle.rules.specs.Valid.{valid}
-use Rattle.rules.specs.Word.{wordOf}
+use Rattle.trace_rules.specs.Word.{wordOf}
 use Rattle.rules.specs.declared.Answer.{Answer}
-use Rattle.rules.specs.declared.Edition.{Edition}
+use Rattle.trace_rules.specs.declared.Edition.{Edition}
 use Rattle.rules.specs.declared.Handler.{Handler}
 use Rattle.rules.specs.declared.Input.{Input}
 use Rattle.rules.specs.declared.Refusal.the-variants.{BadState, BadLength, ShortList}
 use Rattle.rules.specs.declared.Verdict.{Verdict}
 
 -- a state that the ticks of an edition's batch may start from
 unfoldable pub admits : Edition → Handler → Bool

@@ -12,14 +12,14 @@ use Rattle.bits.specs.Fields.{total, pack, unpack, Fit}
 use Rattle.bits.specs.Index.{placeIn}
 use Rattle.bits.proofs.BitLaws.{bit-mod, bit-shr}
 use Rattle.bits.proofs.FieldLaws.{pack-lt, unpack-pack, pack-unpack}
-use Rattle.rules.specs.Edition.{alerts}
-use Rattle.rules.specs.Record.{wireWords, wiresOf}
+use Rattle.trace_rules.specs.Edition.{alerts}
+use Rattle.trace_rules.specs.Record.{wireWords, wiresOf}
 use Rattle.rules.specs.State.{words}
-use Rattle.rules.specs.Writer.{Wired, SameRead}
-use Rattle.rules.specs.declared.Edition.{Edition}
+use Rattle.trace_rules.specs.Writer.{Wired, SameRead}
+use Rattle.trace_rules.specs.declared.Edition.{Edition}
 use Rattle.rules.specs.declared.Input.{Input}
-use Rattle.rules.specs.declared.Edition.the-variants.{Alerts64, Alerts248}
-use Rattle.laws.specs.Wires.{shown}
+use Rattle.trace_rules.specs.declared.Edition.the-variants.{Alerts64, Alerts248}
+use Rattle.trace_laws.specs.Wires.{shown}
 
 -- the words have room for an edition's wires
 room : (e : Edition) → alerts e ≤ 64 * words

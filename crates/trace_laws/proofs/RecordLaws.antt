@@ -16,17 +16,17 @@ use Rattle.bits.proofs.ByteLaws.{length-bytes, is-byte, bytes-lt, to-of-bytes, 
 use Rattle.bits.proofs.FieldLaws.{pack-lt, unpack-pack, pack-unpack, unpack-fits}
 use Rattle.bits.proofs.IndexLaws.{and-true}
 use Rattle.rules.specs.Access.{malformed}
-use Rattle.rules.specs.Edition.{recordBytes, registerBits, zeroBits, alerts, tail}
-use Rattle.rules.specs.Record.{layout, valueBits, accessOf, accessIn, inputOfFields, heldIn, kindOf, registerOf, valueOf, tailFields, fieldsOfInput, recordOf, recordable}
-use Rattle.rules.specs.Writer.{Wired}
+use Rattle.trace_rules.specs.Edition.{recordBytes, registerBits, zeroBits, alerts, tail}
+use Rattle.trace_rules.specs.Record.{layout, valueBits, accessOf, accessIn, inputOfFields, heldIn, kindOf, registerOf, valueOf, tailFields, fieldsOfInput, recordOf, recordable}
+use Rattle.trace_rules.specs.Writer.{Wired}
 use Rattle.rules.specs.declared.Access.{Access}
 use Rattle.rules.specs.declared.Access.the-variants.{Nothing, Read, Write, Malformed}
-use Rattle.rules.specs.declared.Edition.{Edition}
-use Rattle.rules.specs.declared.Edition.the-variants.{Alerts64, Alerts248}
+use Rattle.trace_rules.specs.declared.Edition.{Edition}
+use Rattle.trace_rules.specs.declared.Edition.the-variants.{Alerts64, Alerts248}
 use Rattle.rules.specs.declared.Input.{Input}
 use Rattle.rules.specs.declared.Sample.{Sample}
-use Rattle.laws.specs.Wires.{shown}
-use Rattle.laws.proofs.WireLaws.{wires-lt, wires-back}
+use Rattle.trace_laws.specs.Wires.{shown}
+use Rattle.trace_laws.proofs.WireLaws.{wires-lt, wires-back}
 
 pub record-length : (e : Edition) (x : Input) → length (recordOf e x) ≡ recordBytes e
 unfolding recordOf

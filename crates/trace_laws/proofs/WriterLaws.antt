@@ -15,23 +15,23 @@ use lib.Seq.{take-at}
 use Rattle.bits.proofs.IndexLaws.{length-each}
 use Rattle.bits.specs.Index.{each, eachFrom}
 use Rattle.rules.specs.Answer.{firstOf, number}
-use Rattle.rules.specs.Edition.{newest, recordBytes, carried248}
-use Rattle.rules.specs.Record.{carried, heldIn, inputOf, recordOf, recordable, inputsOf, recordAt, recordCount}
-use Rattle.rules.specs.Writer.{WellFormed, Wired, AllWired, none, one, AllSame, no-more, and, recordsOf, anyUnrecordable, writeCases, writeVerdict, writeOf, write}
+use Rattle.trace_rules.specs.Edition.{newest, recordBytes, carried248}
+use Rattle.trace_rules.specs.Record.{carried, heldIn, inputOf, recordOf, recordable, inputsOf, recordAt, recordCount}
+use Rattle.trace_rules.specs.Writer.{WellFormed, Wired, AllWired, none, one, AllSame, no-more, and, recordsOf, anyUnrecordable, writeCases, writeVerdict, writeOf, write}
 use Rattle.rules.specs.declared.Answer.{Answer}
 use Rattle.rules.specs.declared.Access.{Access}
 use Rattle.rules.specs.declared.Access.the-variants.{Nothing, Read, Write, Malformed}
-use Rattle.rules.specs.declared.Edition.{Edition}
+use Rattle.trace_rules.specs.declared.Edition.{Edition}
 use Rattle.rules.specs.declared.Input.{Input}
 use Rattle.rules.specs.declared.Refusal.{Refusal}
 use Rattle.rules.specs.declared.Refusal.the-variants.{NoRecord, ShortBuffer}
 use Rattle.rules.specs.declared.Verdict.{Verdict}
-use Rattle.laws.proofs.RecordLaws.{record-length, input-record, record-input}
-use Rattle.laws.proofs.Recordable.{read-recordable, record-formed}
+use Rattle.trace_laws.proofs.RecordLaws.{record-length, input-record, record-input}
+use Rattle.trace_laws.proofs.Recordable.{read-recordable, record-formed}
 use Rattle.laws.proofs.Refusals.{first-accepts}
-use Rattle.laws.proofs.WellFormedLaws.{formed-one, none-formed, well-formed-append, inputs-none, inputs-cons, by-records}
-use Rattle.laws.proofs.WireLaws.{same-shown}
-use Rattle.laws.specs.Wires.{shown}
+use Rattle.trace_laws.proofs.WellFormedLaws.{formed-one, none-formed, well-formed-append, inputs-none, inputs-cons, by-records}
+use Rattle.trace_laws.proofs.WireLaws.{same-shown}
+use Rattle.trace_laws.specs.Wires.{shown}
 
 -- ── a record for each ──
 

@@ -4,9 +4,9 @@ use Prim.Native.Nat.{ℕ, suc, _+_, _*_, _/_, _%_, _≤_, _<_}
 use mathlib.Core.Path.{_≡_, sym, ap, _∙_}
 use native.Mathlib.Nat.{div-add-mod', div-self, mod-self, suc-mul, add-mul, le-div-iff-mul-le, mul-add-div-right, mul-add-mod-self-right, mul-div-cancel}
 use native.Mathlib.Omega.{arith}
-use Rattle.rules.specs.Edition.{recordBytes}
-use Rattle.rules.specs.declared.Edition.{Edition}
-use Rattle.rules.specs.declared.Edition.the-variants.{Alerts64, Alerts248}
+use Rattle.trace_rules.specs.Edition.{recordBytes}
+use Rattle.trace_rules.specs.declared.Edition.{Edition}
+use Rattle.trace_rules.specs.declared.Edition.the-variants.{Alerts64, Alerts248}
 
 -- a record has bytes
 pub some-bytes : (e : Edition) → 0 < recordBytes e

@@ -8,14 +8,14 @@ use lib.ListN.{getD, length, take, drop, replicate}
 use Rattle.bits.specs.Bits.{fits}
 use Rattle.bits.specs.Fields.{pack, unpack, ofBytes, toBytes}
 use Rattle.bits.specs.Index.{each}
-use Rattle.rules.specs.Edition.{recordBytes, registerBits, zeroBits, alerts, tail, carry}
+use Rattle.trace_rules.specs.Edition.{recordBytes, registerBits, zeroBits, alerts, tail, carry}
 use Rattle.rules.specs.State.{words}
 use Rattle.rules.specs.declared.Access.{Access}
 use Rattle.rules.specs.declared.Access.the-variants.{Nothing, Read, Write, Malformed}
-use Rattle.rules.specs.declared.Edition.{Edition}
-use Rattle.rules.specs.declared.Edition.the-variants.{Alerts64, Alerts248}
+use Rattle.trace_rules.specs.declared.Edition.{Edition}
+use Rattle.trace_rules.specs.declared.Edition.the-variants.{Alerts64, Alerts248}
 use Rattle.rules.specs.declared.Input.{Input}
 use Rattle.rules.specs.declared.Sample.{Sample}
 
 -- ── a record, most significant bit first ──
 

@@ -12,13 +12,13 @@ use lib.Pow.{pow-pos}
 use lib.Seq.{length-take-le, take-all, getD-append-add}
 use Rattle.bits.specs.Index.{each, eachFrom}
 use Rattle.rules.specs.Access.{malformed}
-use Rattle.rules.specs.Edition.{recordBytes}
-use Rattle.rules.specs.Record.{heldIn, inputOf, inputsOf, recordAt, recordCount}
-use Rattle.rules.specs.Writer.{WellFormed}
-use Rattle.rules.specs.declared.Edition.{Edition}
+use Rattle.trace_rules.specs.Edition.{recordBytes}
+use Rattle.trace_rules.specs.Record.{heldIn, inputOf, inputsOf, recordAt, recordCount}
+use Rattle.trace_rules.specs.Writer.{WellFormed}
+use Rattle.trace_rules.specs.declared.Edition.{Edition}
 use Rattle.rules.specs.declared.Input.{Input}
-use Rattle.laws.proofs.BatchLaws.{count-append, rest-append, record-first, record-second, inputs-append}
-use Rattle.laws.proofs.PartLaws.{some-bytes, one-part, one-whole, whole-parts}
+use Rattle.trace_laws.proofs.BatchLaws.{count-append, rest-append, record-first, record-second, inputs-append}
+use Rattle.trace_laws.proofs.PartLaws.{some-bytes, one-part, one-whole, whole-parts}
 
 -- ── one record ──
 

@@ -8,13 +8,14 @@ use lib.IntN.{pos}
 use lib.ListN.{replicate}
 use Rattle.bits.specs.Fields.{ofBytes}
 use Rattle.bits.specs.Index.{each}
-use Rattle.rules.specs.Record.{recordOf, recordable}
-use Rattle.rules.specs.Writer.{write}
+use Rattle.trace_rules.specs.Record.{recordOf, recordable}
+use Rattle.trace_rules.specs.Writer.{write}
 use Rattle.rules.specs.declared.Access.{Access}
-use Rattle.rules.specs.declared.Edition.the-variants.{Alerts248}
+use Rattle.trace_rules.specs.declared.Edition.the-variants.{Alerts248}
 use Rattle.rules.specs.declared.Input.{Input}
 use Rattle.rules.specs.Scenes.{refused, ones, wire, wired}
 use Rattle.rules.proofs.Scenes.{rules}
+use Rattle.trace_rules.proofs.Scenes.{traces}
 
 -- ── one record, its bytes written out ──
 
@@ -29,7 +30,7 @@ abbrev writes2047 : List ℕ
 writes2047 = 0xBF ∷ 0xF8 ∷ replicate 37 0 ++ 0x80 ∷ replicate 30 0
 
 two-records : (recordOf Alerts248 (quiet (Access.Read 1281)) ≡ reads1281) × (recordOf Alerts248 (quiet (Access.Write 2047 0)) ≡ writes2047)
-unfolding rules
+unfolding rules traces
 two-records = (refl, refl)
 
 -- kind, register and value, each at its place
@@ -38,19 +39,19 @@ places : (recordOf Alerts248 (wired 0 0 Access.Nothing) ≡ replicate 70 0)
     × (recordOf Alerts248 (wired 0 0 (Access.Read 1024)) ≡ 0x60 ∷ replicate 69 0)
     × (recordOf Alerts248 (wired 0 0 (Access.Write 0 1)) ≡ 0x80 ∷ replicate 6 0 ++ 1 ∷ replicate 62 0)
     × (recordOf Alerts248 (wired 0 0 (Access.Write 0 (2 ^ 31))) ≡ 0x80 ∷ 0 ∷ 0 ∷ 0 ∷ 0x80 ∷ replicate 65 0)
-unfolding rules
+unfolding rules traces
 places = (refl, refl, refl, refl, refl)
 
 -- alert 0 comes first among the positive and among the negative wires, and alert 247 last; places 248 to 255 are no wires
 wires-in-order : (recordOf Alerts248 (wired (wire 0) (wire 247) Access.Nothing) ≡ replicate 8 0 ++ 0x80 ∷ replicate 60 0 ++ 1 ∷ [])
     × (recordOf Alerts248 (wired (wire 247) (wire 0) Access.Nothing) ≡ replicate 38 0 ++ 1 ∷ 0x80 ∷ replicate 30 0)
     × (recordOf Alerts248 (wired 255 255 Access.Nothing) ≡ replicate 70 0)
-unfolding rules
+unfolding rules traces
 wires-in-order = (refl, refl, refl)
 
 -- every field full: only the 19 bits are zero
 full : recordOf Alerts248 (wired ones ones (Access.Write 2047 (2 ^ 32 - 1))) ≡ 0xBF ∷ 0xF8 ∷ 0 ∷ 0 ∷ replicate 66 0xFF
-unfolding rules
+unfolding rules traces
 full = refl
 
 -- most significant byte first: register 0x155, value 0x01020304, and bytes 5 to 66 as wires
@@ -58,7 +59,7 @@ abbrev wiresFrom : ℕ → ℕ
 wiresFrom b = ofBytes (each 31 (λ i. b + i)) * 2 ^ 8
 
 bytes-in-order : recordOf Alerts248 (wired (wiresFrom 5) (wiresFrom 36) (Access.Write 341 0x01020304)) ≡ 0x8A ∷ 0xA8 ∷ 0 ∷ 0 ∷ 1 ∷ 2 ∷ 3 ∷ 4 ∷ each 62 (λ i. 5 + i)
-unfolding rules
+unfolding rules traces
 bytes-in-order = refl
 
 -- ── "an access that no well-formed record holds" ──
@@ -66,7 +67,7 @@ bytes-in-order = refl
 held : (recordable Alerts248 Access.Nothing ≡ true)
     × (recordable Alerts248 (Access.Read 2047) ≡ true)
     × (recordable Alerts248 (Access.Write 2047 (2 ^ 32 - 1)) ≡ true)
-unfolding rules
+unfolding rules traces
 held = (refl, refl, refl)
 
 not-held : (recordable Alerts248 (Access.Read 2048) ≡ false)
@@ -74,7 +75,7 @@ not-held : (recordable Alerts248 (Access.Read 2048) ≡ false)
     × (recordable Alerts248 (Access.Write 2048 0) ≡ false)
     × (recordable Alerts248 (Access.Write 0 (2 ^ 32)) ≡ false)
     × (recordable Alerts248 Access.Malformed ≡ false)
-unfolding rules
+unfolding rules traces
 not-held = (refl, refl, refl, refl, refl)
 
 -- ── writing ──
@@ -85,25 +86,25 @@ success : (write Alerts248 (quiet (Access.Read 1281) ∷ quiet (Access.Write 204
     × (write Alerts248 (quiet (Access.Read 1281) ∷ []) (replicate 70 7) ≡ record { answer = pos 70; buffer = reads1281 })
     × (write Alerts248 [] (7 ∷ 8 ∷ []) ≡ record { answer = pos 0; buffer = 7 ∷ 8 ∷ [] })
     × (write Alerts248 [] [] ≡ record { answer = pos 0; buffer = [] })
-unfolding rules
+unfolding rules traces
 success = (refl, refl, refl, refl)
 
 -- "the lent buffer keeps its bytes .. when too short, refused with 11"
 too-short : (write Alerts248 (quiet (Access.Read 1281) ∷ []) (replicate 69 7) ≡ record { answer = refused 11; buffer = replicate 69 7 })
     × (write Alerts248 (quiet (Access.Read 1281) ∷ quiet (Access.Write 2047 0) ∷ []) (replicate 139 7) ≡ record { answer = refused 11; buffer = replicate 139 7 })
     × (write Alerts248 (quiet Access.Nothing ∷ []) [] ≡ record { answer = refused 11; buffer = [] })
-unfolding rules
+unfolding rules traces
 too-short = (refl, refl, refl)
 
 -- "an access that no well-formed record holds is refused with 10 and the lent buffer keeps its bytes", whichever of the list it is
 no-record : (write Alerts248 (quiet (Access.Read 1281) ∷ quiet (Access.Write 2047 0) ∷ quiet (Access.Read 2048) ∷ []) (replicate 210 7)
     ≡ record { answer = refused 10; buffer = replicate 210 7 })
     × (write Alerts248 (quiet Access.Malformed ∷ quiet (Access.Read 1281) ∷ []) (replicate 150 7) ≡ record { answer = refused 10; buffer = replicate 150 7 })
-unfolding rules
+unfolding rules traces
 no-record = (refl, refl)
 
 -- "10 comes first"
 order : (write Alerts248 (quiet (Access.Read 1281) ∷ quiet Access.Malformed ∷ []) (replicate 69 7) ≡ record { answer = refused 10; buffer = replicate 69 7 })
     × (write Alerts248 (quiet (Access.Write 0 (2 ^ 32)) ∷ []) [] ≡ record { answer = refused 10; buffer = [] })
-unfolding rules
+unfolding rules traces
 order = (refl, refl)

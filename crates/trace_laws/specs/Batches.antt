@@ -4,13 +4,13 @@ use Prim.Native.Nat.{ℕ}
 use mathlib.Core.List.{List, _++_, map}
 use lib.ListN.{take, drop}
 use Rattle.rules.specs.Answer.{number}
-use Rattle.rules.specs.Batch.{Batched, batch}
+use Rattle.trace_rules.specs.Batch.{Batched, batch}
 use Rattle.rules.specs.Run.{run, ticks}
 use Rattle.rules.specs.declared.Answer.{Answer}
-use Rattle.rules.specs.declared.Edition.{Edition}
+use Rattle.trace_rules.specs.declared.Edition.{Edition}
 use Rattle.rules.specs.declared.Handler.{Handler}
-use Rattle.rules.specs.Word.{wordOf}
-use Rattle.rules.specs.Record.{inputsOf, recordCount}
+use Rattle.trace_rules.specs.Word.{wordOf}
+use Rattle.trace_rules.specs.Record.{inputsOf, recordCount}
 
 -- what a batch gives that is not refused: the state after its ticks, and a word for each, the later words as they were
 abbrev pub ofTicks : Edition → Handler → List ℕ → List ℕ → Batched

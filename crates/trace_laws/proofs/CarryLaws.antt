@@ -8,17 +8,17 @@ use native.Mathlib.Decide.{decLt}
 use borrow.Author.Tests.{ltb-true, lt-ltb, le-ltb}
 use lib.Dec.{ltb}
 use Rattle.bits.proofs.IndexLaws.{and-true}
-use Rattle.rules.specs.Edition.{carried64, carry}
+use Rattle.trace_rules.specs.Edition.{carried64, carry}
 use Rattle.rules.specs.Map.{decode, numberOf, isRegister, singleNumber, offset, stride, classBase}
 use Rattle.rules.specs.State.{localCount, classCount, fieldIndex}
-use Rattle.rules.specs.declared.Edition.the-variants.{Alerts64}
+use Rattle.trace_rules.specs.declared.Edition.the-variants.{Alerts64}
 use Rattle.rules.specs.declared.Field.{Field}
 use Rattle.rules.specs.declared.Register.{Register}
 use Rattle.rules.specs.declared.Register.the-variants.{Only, Local, Alert, Block, Unassigned}
-use Rattle.laws.specs.Carry.{number64}
+use Rattle.trace_laws.specs.Carry.{number64}
 use Rattle.laws.specs.InMap.{inMap, settingExists}
 use Rattle.laws.proofs.Cases.{by-field}
 use Rattle.laws.proofs.MapLaws.{single-lt, single-number, offset-lt, decode-number, number-decode, decode-in-map}
 
 -- ── a carried number, range by range ──
 

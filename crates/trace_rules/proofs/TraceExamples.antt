@@ -6,18 +6,19 @@ use mathlib.Core.List.{List, [], _∷_, _++_, map}
 use lib.IntN.{ℤ, pos}
 use lib.ListN.{replicate}
 use Rattle.bits.specs.Fields.{toBytes}
-use Rattle.rules.specs.Batch.{Batched, batch}
-use Rattle.rules.specs.Edition.{carry}
-use Rattle.rules.specs.Record.{inputOf}
+use Rattle.trace_rules.specs.Batch.{Batched, batch}
+use Rattle.trace_rules.specs.Edition.{carry}
+use Rattle.trace_rules.specs.Record.{inputOf}
 use Rattle.rules.specs.State.{newHandler}
 use Rattle.rules.specs.declared.Access.{Access}
 use Rattle.rules.specs.declared.Answer.{Answer}
-use Rattle.rules.specs.declared.Edition.{Edition}
-use Rattle.rules.specs.declared.Edition.the-variants.{Alerts64, Alerts248}
+use Rattle.trace_rules.specs.declared.Edition.{Edition}
+use Rattle.trace_rules.specs.declared.Edition.the-variants.{Alerts64, Alerts248}
 use Rattle.rules.specs.declared.Refusal.the-variants.{NoRegister, BadRecord}
 use Rattle.rules.specs.Scenes.{refused}
-use Rattle.rules.specs.Word.{wordOf}
+use Rattle.trace_rules.specs.Word.{wordOf}
 use Rattle.rules.proofs.Scenes.{rules}
+use Rattle.trace_rules.proofs.Scenes.{traces}
 
 -- ── records ──
 
@@ -35,26 +36,26 @@ kinds : (accessIn 0 0 ≡ Access.Nothing)
     × (accessIn 0x94500000 0x10000 ≡ Access.Write (carry Alerts64 325) 65536)
     × (accessIn 0x80000000 0 ≡ Access.Write 0 0)
     × (accessIn 0xBFF00000 0xFFFFFFFF ≡ Access.Write (carry Alerts64 1023) 4294967295)
-unfolding rules
+unfolding rules traces
 kinds = (refl, refl, refl, refl, refl, refl)
 
 -- "Malformed: kind 3, a nonzero bit among the 20, a read with a value, kind 0 with a register or value"
 malformed : map (λ (n : ℕ). accessIn n 0) (0xC0000000 ∷ 0x80080000 ∷ 0x80000001 ∷ 0x00080000 ∷ 0x00000001 ∷ 0x00100000 ∷ [])
     ≡ replicate 6 Access.Malformed
-unfolding rules
+unfolding rules traces
 malformed = refl
 
 malformed-values : (accessIn 0x54100000 1 ≡ Access.Malformed)
     × (accessIn 0x54100000 0x80000000 ≡ Access.Malformed)
     × (accessIn 0 1 ≡ Access.Malformed)
     × (accessIn 0xC0000000 1 ≡ Access.Malformed)
-unfolding rules
+unfolding rules traces
 malformed-values = (refl, refl, refl, refl)
 
 -- "64 positive wires with alert 0 first, 64 negative wires"
 wires : (inputOf Alerts64 (bytes 0 0 5 9) .sample .alerts .pos ≡ 5 ∷ 0 ∷ 0 ∷ 0 ∷ [])
     × (inputOf Alerts64 (bytes 0 0 5 9) .sample .alerts .neg ≡ 9 ∷ 0 ∷ 0 ∷ 0 ∷ [])
-unfolding rules
+unfolding rules traces
 wires = (refl, refl)
 
 -- request (iii): "their register numbers carried over, numbers unassigned then still refused with 1", at both ends of every range; 3 is unassigned
@@ -62,7 +63,7 @@ carried : (map (carry Alerts64) (0 ∷ 1 ∷ 2 ∷ 3 ∷ 16 ∷ 46 ∷ 47 ∷ 63
     × (map (carry Alerts64) (64 ∷ 127 ∷ 128 ∷ 191 ∷ 192 ∷ 255 ∷ 256 ∷ 319 ∷ []) ≡ 256 ∷ 319 ∷ 512 ∷ 575 ∷ 768 ∷ 831 ∷ 1024 ∷ 1087 ∷ [])
     × (map (carry Alerts64) (320 ∷ 333 ∷ 383 ∷ 384 ∷ 512 ∷ 768 ∷ 1023 ∷ []) ≡ 1280 ∷ 1293 ∷ 1343 ∷ 3 ∷ 3 ∷ 3 ∷ 3 ∷ [])
     × (map (carry Alerts248) (0 ∷ 64 ∷ 320 ∷ 384 ∷ 2047 ∷ []) ≡ 0 ∷ 64 ∷ 320 ∷ 384 ∷ 2047 ∷ [])
-unfolding rules
+unfolding rules traces
 carried = (refl, refl, refl, refl)
 
 -- ── the record of 70 bytes ──
@@ -80,12 +81,12 @@ kinds248 : (accessIn248 0 0 ≡ Access.Nothing)
     × (accessIn248 0xA8280000 0x10000 ≡ Access.Write 1285 65536)
     × (accessIn248 0x80000000 0 ≡ Access.Write 0 0)
     × (accessIn248 0xBFF80000 0xFFFFFFFF ≡ Access.Write 2047 4294967295)
-unfolding rules
+unfolding rules traces
 kinds248 = (refl, refl, refl, refl, refl, refl)
 
 malformed248 : map (λ (n : ℕ). accessIn248 n 0) (0xC0000000 ∷ 0x80040000 ∷ 0x80000001 ∷ 0x00040000 ∷ 0x00000001 ∷ 0x00080000 ∷ [])
     ≡ replicate 6 Access.Malformed
-unfolding rules
+unfolding rules traces
 malformed248 = refl
 
 -- alert 0 first, at the highest bit of the first word; alert 247 last
@@ -93,7 +94,7 @@ wires248 : (inputOf Alerts248 (bytes248 0 0 (2 ^ 247) 1) .sample .alerts .pos �
     × (inputOf Alerts248 (bytes248 0 0 (2 ^ 247) 1) .sample .alerts .neg ≡ 0 ∷ 0 ∷ 0 ∷ 2 ^ 8 ∷ [])
     × (inputOf Alerts248 (bytes248 0 0 (2 ^ 183) (2 ^ 184)) .sample .alerts .pos ≡ 0 ∷ 2 ^ 63 ∷ 0 ∷ 0 ∷ [])
     × (inputOf Alerts248 (bytes248 0 0 (2 ^ 183) (2 ^ 184)) .sample .alerts .neg ≡ 1 ∷ 0 ∷ 0 ∷ 0 ∷ [])
-unfolding rules
+unfolding rules traces
 wires248 = (refl, refl, refl, refl)
 
 -- ── words ──
@@ -111,7 +112,7 @@ words : (wordOfParts 1 0 Answer.Done ≡ 0x8000000000000000)
     × (wordOfParts 15 15 (Answer.Refused BadRecord) ≡ 0xFF50000000000000)
     × (wordOfParts 0 0 (Answer.Value 4294967295) ≡ 0x00000000FFFFFFFF)
     × (wordOfParts 5 10 (Answer.Value 1) ≡ 0xA500000000000001)
-unfolding rules
+unfolding rules traces
 words = (refl, refl, refl, refl, refl, refl, refl, refl, refl)
 
 -- ── batches ──
@@ -127,7 +128,7 @@ writes1023 = toBytes 24 0xbff000000000000000000000000000008000000000000000
 two-records : (batch Alerts64 (newHandler 1) (reads321 ++ writes1023) (7 ∷ 8 ∷ 9 ∷ 10 ∷ []) .out ≡ 0x393C ∷ 0x0010000000000000 ∷ 9 ∷ 10 ∷ [])
     × (batch Alerts64 (newHandler 1) (reads321 ++ writes1023) (7 ∷ 8 ∷ 9 ∷ 10 ∷ []) .answer ≡ pos 0)
     × (batch Alerts64 (newHandler 1) (writes1023 ++ reads321) (7 ∷ 8 ∷ []) .out ≡ 0x0010000000000000 ∷ 0x393C ∷ [])
-unfolding rules
+unfolding rules traces
 two-records = (refl, refl, refl)
 
 -- a batch runs each record on the state that the one before it left: EN of alert 0, EN and line 0 of class 0, twice each, then a rise
@@ -138,7 +139,7 @@ abbrev rises : List ℕ
 rises = twice (bytes 0x88000000 1 0 (2 ^ 63)) ++ twice (bytes 0x94100000 5 0 (2 ^ 63)) ++ bytes 0x54C00000 0 (2 ^ 63) 0 ++ bytes 0x54C00000 0 (2 ^ 63) 0
 
 run-on : batch Alerts64 (newHandler 1) rises (replicate 6 0) .out ≡ 0 ∷ 0 ∷ 0 ∷ 0 ∷ 0x0800000000000000 ∷ 4 ∷ []
-unfolding rules
+unfolding rules traces
 run-on = refl
 
 -- "No bytes means no ticks"; "for a batch 7, 8, 9": each leaves state and list unchanged
@@ -152,7 +153,7 @@ refusals : (batch Alerts64 (newHandler 1) [] (7 ∷ []) ≡ record { handler = n
     × (batch Alerts64 (newHandler 1) (replicate 23 0) (7 ∷ []) ≡ record { handler = newHandler 1; answer = refused 8; out = 7 ∷ [] })
     × (batch Alerts64 (newHandler 1) (replicate 24 0) [] ≡ record { handler = newHandler 1; answer = refused 9; out = [] })
     × (batch Alerts64 (newHandler 1) (replicate 48 0) (7 ∷ []) ≡ record { handler = newHandler 1; answer = refused 9; out = 7 ∷ [] })
-unfolding rules
+unfolding rules traces
 refusals = (refl, refl, refl, refl, refl, refl, refl)
 
 -- request (iii): "8 reads 70"; a refused batch of 249 alerts (more of how many alerts a batch runs with is in rule_examples MostAlertsExamples)
@@ -161,7 +162,7 @@ refusals248 : (given (batch Alerts248 (newHandler 249) [] []) ≡ refused 7)
     × (given (batch Alerts248 (newHandler 1) (replicate 71 0) []) ≡ refused 8)
     × (given (batch Alerts64 (newHandler 1) (replicate 70 0) []) ≡ refused 8)
     × (batch Alerts248 (newHandler 1) (replicate 70 0) [] ≡ record { handler = newHandler 1; answer = refused 9; out = [] })
-unfolding rules
+unfolding rules traces
 refusals248 = (refl, refl, refl, refl, refl)
 
 -- lengths that divide by 2, 4, 8 or 12, or by 7, 10, 14 or 35, and no multiples of the record's, with room in the list
@@ -172,10 +173,18 @@ not-multiples : (map (uneven Alerts64) (1 ∷ 2 ∷ 4 ∷ 8 ∷ 12 ∷ 16 ∷ 20
     × (map (uneven Alerts248) (1 ∷ 7 ∷ 10 ∷ 14 ∷ 24 ∷ 35 ∷ 48 ∷ 72 ∷ 105 ∷ 120 ∷ []) ≡ replicate 10 (refused 8))
     × (map (uneven Alerts64) (0 ∷ 24 ∷ 48 ∷ []) ≡ replicate 3 (pos 0))
     × (map (uneven Alerts248) (0 ∷ 70 ∷ 140 ∷ []) ≡ replicate 3 (pos 0))
-unfolding rules
+unfolding rules traces
 not-multiples = (refl, refl, refl, refl)
 
 -- a batch of new records runs: CTRL of class 0 is read, and a number that the map does not assign is refused with 1
 run-on248 : batch Alerts248 (newHandler 65) (bytes248 0x68080000 0 0 0 ++ bytes248 0x7FF80000 0 0 0) (7 ∷ 8 ∷ 9 ∷ []) .out ≡ 0x393C ∷ 0x0010000000000000 ∷ 9 ∷ []
-unfolding rules
+unfolding rules traces
 run-on248 = refl
+
+-- request (iii): "an old batch answers 7 to a handler of more than 64 alerts"; a new one runs with it
+batches : (given (batch Alerts64 (newHandler 64) [] []) ≡ pos 0)
+    × (given (batch Alerts248 (newHandler 65) [] []) ≡ pos 0)
+    × (given (batch Alerts64 (newHandler 248) (replicate 24 0) (7 ∷ [])) ≡ refused 7)
+    × (given (batch Alerts248 (newHandler 248) [] []) ≡ pos 0)
+unfolding rules traces
+batches = (refl, refl, refl, refl)

@@ -14,15 +14,15 @@ use Rattle.bits.specs.Fields.{unpack, ofBytes}
 use Rattle.bits.proofs.FieldLaws.{unpack-fits}
 use Rattle.bits.proofs.IndexLaws.{true-and}
 use Rattle.rules.specs.Access.{malformed}
-use Rattle.rules.specs.Edition.{registerBits, alerts}
-use Rattle.rules.specs.Record.{layout, valueBits, accessIn, registerOf, valueOf, wireWords, heldIn, recordOf, recordable}
-use Rattle.rules.specs.Writer.{WellFormed, HeldBy, Wired}
+use Rattle.trace_rules.specs.Edition.{registerBits, alerts}
+use Rattle.trace_rules.specs.Record.{layout, valueBits, accessIn, registerOf, valueOf, wireWords, heldIn, recordOf, recordable}
+use Rattle.trace_rules.specs.Writer.{WellFormed, HeldBy, Wired}
 use Rattle.rules.specs.declared.Access.{Access}
 use Rattle.rules.specs.declared.Access.the-variants.{Nothing, Read, Write, Malformed}
-use Rattle.rules.specs.declared.Edition.{Edition}
+use Rattle.trace_rules.specs.declared.Edition.{Edition}
 use Rattle.rules.specs.declared.Input.{Input}
-use Rattle.laws.proofs.RecordLaws.{record-length, record-byte, input-record, access-fields}
-use Rattle.laws.proofs.WellFormedLaws.{formed-one, one-formed}
+use Rattle.trace_laws.proofs.RecordLaws.{record-length, record-byte, input-record, access-fields}
+use Rattle.trace_laws.proofs.WellFormedLaws.{formed-one, one-formed}
 
 -- ── what a record holds ──
 

@@ -13,25 +13,26 @@ use lib.Seq.{take-append-le, drop-append-le, drop-append-add, getD-append-add, t
 use Rattle.bits.proofs.IndexLaws.{and-true, true-and, at-each, length-each, is-each}
 use Rattle.bits.specs.Index.{each}
 use Rattle.rules.specs.Answer.{firstOf, number}
-use Rattle.rules.specs.Batch.{Batched, admits, batch, batchOf, batchVerdict}
-use Rattle.rules.specs.Edition.{newest, recordBytes, alerts}
-use Rattle.rules.specs.Record.{inputOf, inputsOf, recordAt, recordCount}
+use Rattle.trace_rules.specs.Batch.{Batched, admits, batch, batchOf, batchInputs, batchVerdict}
+use Rattle.trace_rules.specs.Edition.{newest, recordBytes, alerts}
+use Rattle.trace_rules.specs.Record.{inputOf, inputsOf, recordAt, recordCount}
 use Rattle.rules.specs.Run.{run, ticks}
 use Rattle.rules.specs.Valid.{valid}
 use Rattle.rules.specs.declared.Answer.{Answer}
-use Rattle.rules.specs.declared.Edition.{Edition}
+use Rattle.trace_rules.specs.declared.Edition.{Edition}
 use Rattle.rules.specs.State.{most}
 use Rattle.rules.specs.declared.Handler.{Handler}
 use Rattle.rules.specs.declared.Input.{Input}
 use Rattle.rules.specs.declared.Refusal.{Refusal}
 use Rattle.rules.specs.declared.Verdict.{Verdict}
-use Rattle.rules.specs.Word.{wordOf}
-use Rattle.laws.specs.Batches.{ofTicks, behind, followed}
+use Rattle.trace_rules.specs.Word.{wordOf}
+use Rattle.trace_laws.specs.Batches.{ofTicks, behind, followed}
+use Rattle.laws.specs.Above.{SameAbove}
 use Rattle.laws.proofs.Above.{run-above}
 use Rattle.laws.proofs.KeepsValid.{run-valid}
-use Rattle.laws.proofs.PartLaws.{some-bytes, part-within, count-add, place-add, rest-add}
+use Rattle.trace_laws.proofs.PartLaws.{some-bytes, part-within, count-add, place-add, rest-add}
 use Rattle.laws.proofs.Runs.{run-append, ticks-append, length-ticks}
 use Rattle.laws.proofs.ValidLaws.{facts}
 
 -- ── the states that an edition admits ──
 
@@ -50,6 +51,18 @@ run-admits e h xs a =
 pub admits-all : (h : Handler) → valid h ≡ true → admits newest h ≡ true
 unfolding admits
 admits-all h v = true-and v (le-leb (h .n) most (facts h v .n))
+
+-- ── refused or not ──
+
+-- request (iii): a batch of old records answers 7 to a state of more than 64 alerts all the same, by what its edition admits
+pub batch-valid : (e : Edition) (h : Handler) (bytes out : List ℕ) → valid h ≡ true → valid (batch e h bytes out .handler) ≡ true
+unfolding batch batchOf
+batch-valid e h bytes out v = run-valid h (batchInputs e (batchVerdict e h bytes out) bytes) v
+
+-- the entries at N and above stay
+pub batch-above : (e : Edition) (h : Handler) (bytes out : List ℕ) → SameAbove h (batch e h bytes out .handler)
+unfolding batch batchOf
+batch-above e h bytes out = run-above h (batchInputs e (batchVerdict e h bytes out) bytes)
 
 -- ── a refused batch ──
 

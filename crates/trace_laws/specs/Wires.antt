@@ -1,8 +1,8 @@
 -- What a record shows of a sample: the wires that its edition has a place for.
 -- Assumes nothing.
-use Rattle.rules.specs.Edition.{alerts}
-use Rattle.rules.specs.Record.{wireWords, wiresOf}
-use Rattle.rules.specs.declared.Edition.{Edition}
+use Rattle.trace_rules.specs.Edition.{alerts}
+use Rattle.trace_rules.specs.Record.{wireWords, wiresOf}
+use Rattle.trace_rules.specs.declared.Edition.{Edition}
 use Rattle.rules.specs.declared.Input.{Input}
 
 -- the same access, and words in which every place past the edition's alerts is 0

@@ -9,17 +9,17 @@ use lib.IntN.{ℤ, pos}
 use lib.ListN.{getD, length, drop, replicate}
 use Rattle.bits.specs.Fields.{Fit}
 use Rattle.bits.specs.Index.{placeIn}
 use Rattle.rules.specs.Answer.{Case, firstOf, number}
 use Rattle.rules.specs.Access.{malformed}
-use Rattle.rules.specs.Edition.{recordBytes, alerts}
-use Rattle.rules.specs.Record.{heldIn, recordOf, recordable, recordCount, recordAt}
+use Rattle.trace_rules.specs.Edition.{recordBytes, alerts}
+use Rattle.trace_rules.specs.Record.{heldIn, recordOf, recordable, recordCount, recordAt}
 use Rattle.rules.specs.State.{words}
 use Rattle.rules.specs.declared.Access.{Access}
 use Rattle.rules.specs.declared.Answer.{Answer}
-use Rattle.rules.specs.declared.Edition.{Edition}
+use Rattle.trace_rules.specs.declared.Edition.{Edition}
 use Rattle.rules.specs.declared.Input.{Input}
 use Rattle.rules.specs.declared.Refusal.the-variants.{NoRecord, ShortBuffer}
 use Rattle.rules.specs.declared.Verdict.{Verdict}
 
 -- a record for each
 unfoldable pub recordsOf : Edition → List Input → List ℕ

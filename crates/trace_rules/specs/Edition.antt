@@ -4,10 +4,10 @@ use Prim.Native.Nat.{ℕ, _+_, _-_, _*_, _/_, _%_}
 use mathlib.Core.Bool.{cond}
 use mathlib.Core.List.{List, []}
 use lib.Dec.{ltb}
 use Rattle.rules.specs.Map.{stride, classBase, numberOf}
-use Rattle.rules.specs.declared.Edition.{Edition}
-use Rattle.rules.specs.declared.Edition.the-variants.{Alerts64, Alerts248}
+use Rattle.trace_rules.specs.declared.Edition.{Edition}
+use Rattle.trace_rules.specs.declared.Edition.the-variants.{Alerts64, Alerts248}
 use Rattle.rules.specs.declared.Register.the-variants.{Unassigned}
 
 -- the edition that the trace writer writes
 abbrev pub newest : Edition

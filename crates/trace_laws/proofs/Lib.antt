@@ -1,0 +1,9 @@
+pub mod CarryLaws
+pub mod PartLaws
+pub mod BatchLaws
+pub mod AboveExamples
+pub mod WireLaws
+pub mod RecordLaws
+pub mod WellFormedLaws
+pub mod Recordable
+pub mod WriterLaws

@@ -1,0 +1,1 @@
+// Laws of traces: definitions and theorems alone, in specs/ and proofs/.

@@ -1,0 +1,7 @@
+// A trace's editions. What records and words hold, and what a batch and the writer give, are the definitions in specs/.
+
+// The form of a trace, named by what it brings: its record speaks of 64 alerts, or of 248.
+pub enum Edition {
+    Alerts64,
+    Alerts248,
+}
