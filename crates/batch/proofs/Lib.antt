@@ -1,4 +1,4 @@
 pub mod Running
-pub mod Outcomes
+pub mod BatchOutcomes
 pub mod ReadValues
-pub mod Lines
+pub mod WordLines

@@ -19,11 +19,11 @@ use Rattle.rules.specs.declared.Handler.{Handler}
 use Rattle.rules.specs.declared.Input.{Input}
 use Rattle.rules.specs.declared.Ticked.{Ticked}
 use Rattle.trace_rules.specs.Word.{wordBy, wordOf}
-use Rattle.laws.proofs.KeepsValid.{run-valid}
+use Rattle.laws.proofs.Valid.KeepsValid.{run-valid}
 use Rattle.trace_laws.proofs.PartLaws.{some-bytes, part-within}
-use Rattle.laws.proofs.Refusal7.{ticked-good}
-use Rattle.laws.proofs.Runs.{run-next, ticks-append, length-ticks}
-use Rattle.laws.proofs.ValidLaws.{facts}
+use Rattle.laws.proofs.Valid.Refusal7.{ticked-good}
+use Rattle.laws.proofs.Tick.Runs.{run-next, ticks-append, length-ticks}
+use Rattle.laws.proofs.Valid.ValidLaws.{facts}
 use Rattle.batch.specs.Running.{Running}
 
 module _ (h : Handler) (xs : List Input) (old : List ℕ) where

@@ -137,7 +137,7 @@ even-odd : (b : Bool) (a : ℕ) → ((num b + 2 * a) / 2 ≡ a) × ((num b + 2 *
 even-odd true a = (omega arith, omega arith)
 even-odd false a = (omega arith, omega arith)
 
-eqb-digit : (b : Bool) → eqb (num b) 1 ≡ b
+pub eqb-digit : (b : Bool) → eqb (num b) 1 ≡ b
 eqb-digit true = refl
 eqb-digit false = refl
 

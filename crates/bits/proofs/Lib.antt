@@ -1,6 +1,6 @@
 pub mod BitLaws
 pub mod FirstLaws
-pub mod Table
+pub mod TruthTables
 pub mod IndexLaws
 pub mod FieldLaws
 pub mod PackLaws

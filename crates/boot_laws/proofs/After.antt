@@ -9,8 +9,8 @@ use lib.Dec.{eqb, ltb}
 use Rattle.bits.proofs.IndexLaws.{true-and}
 use Rattle.bits.specs.Bits.{bit}
 use Rattle.class_rules.specs.Class.{en, lock}
-use Rattle.laws.proofs.Cases.{pick}
-use Rattle.laws.proofs.ValidLaws.{facts}
+use Rattle.laws.proofs.Map.Cases.{pick}
+use Rattle.laws.proofs.Valid.ValidLaws.{facts}
 use Rattle.laws.specs.Frame.{movesItself}
 use Rattle.laws.specs.InMap.{inMap}
 use Rattle.laws.specs.Quiet.{runs}

@@ -5,9 +5,9 @@ use mathlib.Core.Bool.{true}
 use mathlib.Core.List.{List, [], _∷_}
 use native.Mathlib.Omega.{arith}
 use lib.Dec.{ltb}
-use Rattle.laws.proofs.Above.{ticked-above}
-use Rattle.laws.proofs.Cases.{pick}
-use Rattle.laws.proofs.KeepsValid.{ticked-valid}
+use Rattle.laws.proofs.State.Above.{ticked-above}
+use Rattle.laws.proofs.Map.Cases.{pick}
+use Rattle.laws.proofs.Valid.KeepsValid.{ticked-valid}
 use Rattle.laws.specs.Above.{SameAbove}
 use Rattle.rules.specs.Tick.{ticked}
 use Rattle.rules.specs.Valid.{valid}

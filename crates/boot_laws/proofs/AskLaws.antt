@@ -7,10 +7,10 @@ use mathlib.Core.List.{List, [], _∷_}
 use native.Mathlib.Omega.{arith}
 use native.Mathlib.Nat.{le-of-suc-le-suc}
 use lib.ListN.{getD, take}
-use Rattle.laws.proofs.Cases.{pick}
-use Rattle.laws.proofs.Frame.{after-n}
-use Rattle.laws.proofs.KeepsValid.{ticked-valid}
-use Rattle.laws.proofs.Refusal7.{ticked-handler}
+use Rattle.laws.proofs.Map.Cases.{pick}
+use Rattle.laws.proofs.Tick.Frame.{after-n}
+use Rattle.laws.proofs.Valid.KeepsValid.{ticked-valid}
+use Rattle.laws.proofs.Valid.Refusal7.{ticked-handler}
 use Rattle.rules.specs.Run.{run}
 use Rattle.rules.specs.Tick.{ticked}
 use Rattle.rules.specs.Valid.{valid}

@@ -12,11 +12,11 @@ use lib.Dec.{eqb, ltb}
 use lib.IntN.{ℤ, pos}
 use lib.ListN.{getD, length}
 use Rattle.bits.proofs.IndexLaws.{and-true, true-and}
-use Rattle.laws.proofs.KeepsValid.{new-stage}
-use Rattle.laws.proofs.MapLaws.{number-eq}
-use Rattle.laws.proofs.StageFile.{in-most}
-use Rattle.laws.proofs.ValidLaws.{facts}
-use Rattle.laws.proofs.Written.{in-more, new-valid, new-unlocked}
+use Rattle.laws.proofs.Valid.KeepsValid.{new-stage}
+use Rattle.laws.proofs.Map.MapLaws.{number-eq}
+use Rattle.laws.proofs.Stages.StageFile.{in-most}
+use Rattle.laws.proofs.Valid.ValidLaws.{facts}
+use Rattle.laws.proofs.Access.Written.{in-more, new-valid, new-unlocked}
 use Rattle.laws.specs.InMap.{inMap}
 use Rattle.laws.specs.RegisterFile.{plain}
 use Rattle.rules.specs.Access.{value}

@@ -2,7 +2,7 @@
 -- Assumes nothing.
 use Prim.Native.Nat.{ℕ, _+_}
 use mathlib.Core.Path.{_≡_, refl, sym, ap, ap₂, _∙_, subst}
-use mathlib.Core.Bool.{Bool, true, false, cond, not, _&&_}
+use mathlib.Core.Bool.{Bool, true, false, cond, not, and-false, _&&_}
 use mathlib.Core.List.{List, [], _∷_, _++_}
 use native.Mathlib.Omega.{arith}
 use borrow.Author.Tests.{eqb-true, eq-eqb, ne-eqb, not-true}
@@ -10,24 +10,24 @@ use lib.Dec.{eqb}
 use lib.IntN.{ℤ}
 use Rattle.bits.specs.Bits.{fits}
 use Rattle.bits.proofs.IndexLaws.{and-true, true-and}
-use Rattle.laws.proofs.Cases.{pick}
-use Rattle.laws.proofs.Frame.{after-frame, after-stage-other}
-use Rattle.laws.proofs.Locks.{guard-in-map}
-use Rattle.laws.proofs.MapLaws.{decode-number}
-use Rattle.laws.proofs.Refusal7.{ticked-handler}
-use Rattle.laws.proofs.Refusals.{is-accepted, accepted-write}
-use Rattle.laws.proofs.RegisterFile.{read-answer, plain-takes}
-use Rattle.laws.proofs.StageFile.{in-most}
-use Rattle.laws.proofs.Step1.{answer-accepted}
-use Rattle.laws.proofs.ValidLaws.{facts}
-use Rattle.laws.proofs.Written.{ticked-answer, after-read, after-written, after-staged, shadowed-apart, shadowed-wise, guard-still, locked-same}
+use Rattle.laws.proofs.Map.Cases.{pick}
+use Rattle.laws.proofs.Tick.Frame.{after-frame, after-stage-other}
+use Rattle.laws.proofs.Access.Locks.{guard-in-map}
+use Rattle.laws.proofs.Map.MapLaws.{decode-number}
+use Rattle.laws.proofs.Valid.Refusal7.{ticked-handler}
+use Rattle.laws.proofs.Access.Refusals.{is-accepted, accepted-write}
+use Rattle.laws.proofs.Access.RegisterFile.{as-written, read-answer, plain-takes}
+use Rattle.laws.proofs.Stages.StageFile.{in-most}
+use Rattle.laws.proofs.Access.Step1.{answer-accepted}
+use Rattle.laws.proofs.Valid.ValidLaws.{facts}
+use Rattle.laws.proofs.Access.Written.{ticked-answer, after-read, after-written, after-staged, shadowed-apart, shadowed-wise, guard-still, locked-same}
 use Rattle.laws.specs.Frame.{movesItself}
 use Rattle.laws.specs.InMap.{inMap}
 use Rattle.laws.specs.RegisterFile.{target, asWritten, stores, commits, plain}
 use Rattle.laws.specs.StageFile.{names}
 use Rattle.rules.specs.Access.{value, locked, bars, unlike, silly, accepted, isFirst}
 use Rattle.rules.specs.Answer.{number}
-use Rattle.rules.specs.Map.{decode, numberOf, isRegister, row, onlyWritten, bits, readOnly, writeOnly, isLock, isShadowed, guard}
+use Rattle.rules.specs.Map.{decode, numberOf, isRegister, row, bits, readOnly, writeOnly, isLock, isShadowed, guard}
 use Rattle.rules.specs.Stages.{stage, isOpen}
 use Rattle.rules.specs.Tick.{ticked}
 use Rattle.rules.specs.Valid.{valid}
@@ -35,14 +35,12 @@ use Rattle.rules.specs.declared.Access.the-variants.{Read, Write}
 use Rattle.rules.specs.declared.Answer.{Answer}
 use Rattle.rules.specs.declared.Handler.{Handler}
 use Rattle.rules.specs.declared.Register.{Register}
-use Rattle.rules.specs.declared.Way.{Way}
 use Rattle.policy.specs.Install.{Ask, Entry, rest, is, under, asked, ask, install, write, read, asksOf}
 use Rattle.boot_laws.specs.Ran.{inputOf, wants, reach}
 use Rattle.policy.specs.Sound.{installable}
 use Rattle.policy.specs.declared.Progress.{Progress}
 use Rattle.boot_laws.proofs.AskLaws.{asked-wanted, asked-going, was-going, Kept, reach-kept, install-kept, install-run}
 use Rattle.policy.proofs.Asks.{install-append}
-use Rattle.boot_laws.proofs.Bools.{and-no}
 
 -- ── what the test of an entry says ──
 
@@ -65,12 +63,6 @@ fit n e t =
 
 -- ── a tick that names q, in a valid state h ──
 
-as-read : (w : Way) → asWritten w ≡ true → onlyWritten w ≡ false
-as-read Way.Both e = refl
-as-read Way.OneClears e = refl
-as-read Way.ReadOnly e = refl
-as-read Way.WriteOnly e = sym e
-
 module _ (h : Handler) (t : valid h ≡ true) (q : Register) (v : ℕ) (a : inMap (h .n) q ≡ true) (p : plain q ≡ true) where
   pub names-it : decode (h .n) (numberOf q) ≡ q
   names-it = decode-number (h .n) q (facts h t .n) a
@@ -81,7 +73,7 @@ module _ (h : Handler) (t : valid h ≡ true) (q : Register) (v : ℕ) (a : inMa
       ap (λ (x : Register). stores h (numberOf q) v && eqb (numberOf (target x)) (numberOf o)) names-it
       ∙ ap (λ (x : Register). stores h (numberOf q) v && eqb (numberOf x) (numberOf o)) (plain-takes q p .0)
       ∙ ap (λ (b : Bool). stores h (numberOf q) v && b) (ne-eqb (numberOf q) (numberOf o) d)
-      ∙ and-no (stores h (numberOf q) v)
+      ∙ and-false (stores h (numberOf q) v)
 
   pub other-name : (o : Register) → (numberOf q ≡ numberOf o → ⊥) → eqb (numberOf (decode (h .n) (numberOf q))) (numberOf o) ≡ false
   other-name o d = ap (λ (x : Register). eqb (numberOf x) (numberOf o)) names-it ∙ ne-eqb (numberOf q) (numberOf o) d
@@ -93,7 +85,7 @@ module _ (h : Handler) (t : valid h ≡ true) (q : Register) (v : ℕ) (a : inMa
       let k = and-true (isRegister q) (asWritten (row q .way)) p in
       ap number
       (ticked-answer h (rest (Read (numberOf q))) t
-      ∙ read-answer h (numberOf q) (ap isRegister names-it ∙ k .0) (ap writeOnly names-it ∙ as-read (row q .way) (k .1))
+      ∙ read-answer h (numberOf q) (ap isRegister names-it ∙ k .0) (ap writeOnly names-it ∙ as-written (row q .way) (k .1))
       ∙ ap (λ (x : Register). Answer.Value (value h x)) names-it)
 
   read-accepted : accepted h (Read (numberOf q)) ≡ true
@@ -104,7 +96,7 @@ module _ (h : Handler) (t : valid h ≡ true) (q : Register) (v : ℕ) (a : inMa
       (record {
         formed = refl;
         exists = ap not (ap isRegister names-it ∙ k .0);
-        way = ap writeOnly names-it ∙ as-read (row q .way) (k .1);
+        way = ap writeOnly names-it ∙ as-written (row q .way) (k .1);
         width = refl;
         threshold = refl;
         free = refl;
@@ -199,7 +191,7 @@ module _ (h : Handler) (t : valid h ≡ true) (q : Register) (v : ℕ) (k : Fit 
       reach-value h t q (k .exists) (write (numberOf q) v) (k .still)
       (ap (λ (x : Register). (accepted h (Write (numberOf q) v) && not (isFirst h x)) && eqb (numberOf (target x)) (numberOf q)) is-it
       ∙ ap (λ (b : Bool). (accepted h (Write (numberOf q) v) && not b) && eqb (numberOf (target q)) (numberOf q)) f
-      ∙ ap (λ (b : Bool). b && eqb (numberOf (target q)) (numberOf q)) (and-no (accepted h (Write (numberOf q) v))))
+      ∙ ap (λ (b : Bool). b && eqb (numberOf (target q)) (numberOf q)) (and-false (accepted h (Write (numberOf q) v))))
 
   -- its stage then is that of v or none
   pub write-stage : stage (reach h (write (numberOf q) v)) q ≡ cond (isFirst h q) (v + 1) 0
@@ -222,7 +214,7 @@ module _ (h : Handler) (t : valid h ≡ true) (q : Register) (v : ℕ) (k : Fit 
       g = reach h (write (numberOf q) v)
 
       either : (b : Bool) → (not (eqb (cond b (v + 1) 0) 0) && not (eqb (cond b (v + 1) 0) (v + 1))) ≡ false
-      either true = ap (λ (b : Bool). not (eqb (v + 1) 0) && not b) (eq-eqb (v + 1) (v + 1) refl) ∙ and-no (not (eqb (v + 1) 0))
+      either true = ap (λ (b : Bool). not (eqb (v + 1) 0) && not b) (eq-eqb (v + 1) (v + 1) refl) ∙ and-false (not (eqb (v + 1) 0))
       either false = refl
 
 -- ── it goes on ──

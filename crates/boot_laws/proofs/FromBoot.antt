@@ -18,12 +18,12 @@ use Rattle.class_rules.specs.declared.ClassState.the-variants.{Idle}
 use Rattle.escalation.proofs.Demand3.{demand3}
 use Rattle.escalation.specs.Escalation.{Starts, Demand3}
 use Rattle.escalation.specs.List.{IsTick, before, inputAt}
-use Rattle.laws.proofs.AlertStarts.{alert-starts}
-use Rattle.laws.proofs.Frame.{after-n}
-use Rattle.laws.proofs.KeepsValid.{ticked-valid, run-valid}
-use Rattle.laws.proofs.Locks.{acted-locked, after-locked}
-use Rattle.laws.proofs.Refusal7.{ticked-handler}
-use Rattle.laws.proofs.ValidLaws.{facts}
+use Rattle.laws.proofs.Tick.AlertStarts.{alert-starts}
+use Rattle.laws.proofs.Tick.Frame.{after-n}
+use Rattle.laws.proofs.Valid.KeepsValid.{ticked-valid, run-valid}
+use Rattle.laws.proofs.Access.Locks.{acted-locked, after-locked}
+use Rattle.laws.proofs.Valid.Refusal7.{ticked-handler}
+use Rattle.laws.proofs.Valid.ValidLaws.{facts}
 use Rattle.laws.specs.InMap.{inMap}
 use Rattle.rules.specs.Access.{value, locked, acted}
 use Rattle.rules.specs.Map.{numberOf, guard}

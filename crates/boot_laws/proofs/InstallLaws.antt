@@ -7,8 +7,8 @@ use mathlib.Core.List.{List, [], _∷_, _++_, cons≢nil}
 use borrow.Author.Tests.{eqb-false, ne-eqb, not-true}
 use lib.Dec.{eqb}
 use Rattle.bits.proofs.IndexLaws.{and-true, true-and}
-use Rattle.laws.proofs.Cases.{pick}
-use Rattle.laws.proofs.MapLaws.{number-eq}
+use Rattle.laws.proofs.Map.Cases.{pick}
+use Rattle.laws.proofs.Map.MapLaws.{number-eq}
 use Rattle.laws.specs.Frame.{movesItself}
 use Rattle.laws.specs.InMap.{inMap}
 use Rattle.rules.specs.Access.{value}

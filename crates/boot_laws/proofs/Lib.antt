@@ -1,4 +1,3 @@
-pub mod Bools
 pub mod AskLaws
 pub mod EntryLaws
 pub mod InstallLaws
@@ -11,7 +10,7 @@ pub mod Boot
 pub mod After
 pub mod FromBoot
 pub mod StopLaws
-pub mod Examples
+pub mod LockBootExamples
 pub mod AnyBoot
 pub mod Unlocked
 pub mod Course

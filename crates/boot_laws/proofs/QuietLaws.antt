@@ -2,7 +2,7 @@
 -- Assumes nothing.
 use Prim.Native.Nat.{ℕ, _+_, _-_, _/_, _%_, _^_, _<_}
 use mathlib.Core.Path.{_≡_, refl, sym, ap, _∙_}
-use mathlib.Core.Bool.{Bool, true, false, false≢true, _&&_}
+use mathlib.Core.Bool.{Bool, true, false, false≢true, and-false, _&&_}
 use native.Mathlib.Omega.{arith}
 use borrow.Author.Tests.{ne-eqb}
 use lib.Dec.{eqb}
@@ -12,16 +12,16 @@ use Rattle.bits.proofs.BitLaws.{bit-none, bit-ones}
 use Rattle.bits.specs.Bits.{bit, place}
 use Rattle.class_rules.specs.Class.{stateOf}
 use Rattle.class_rules.specs.declared.ClassState.the-variants.{Idle}
-use Rattle.laws.proofs.AtRest.{none-happened, none-broken}
-use Rattle.laws.proofs.Cases.{by-kind, by-setting}
-use Rattle.laws.proofs.Heard.{unheard}
-use Rattle.laws.proofs.KeepsAccess.{acted-valid}
-use Rattle.laws.proofs.Quiet.{quiet-tick, quiet-waits}
-use Rattle.laws.proofs.Raises.{accepted-raises, none-occurs}
-use Rattle.laws.proofs.Refusal7.{ticked-handler}
-use Rattle.laws.proofs.Step1.{clears-if}
-use Rattle.laws.proofs.ValidLaws.{facts}
-use Rattle.laws.proofs.Written.{ticked-answer}
+use Rattle.laws.proofs.Samples.AtRest.{none-happened, none-broken}
+use Rattle.laws.proofs.Map.Cases.{by-kind, by-setting}
+use Rattle.laws.proofs.Samples.Heard.{unheard}
+use Rattle.laws.proofs.Valid.KeepsAccess.{acted-valid}
+use Rattle.laws.proofs.Tick.Quiet.{quiet-tick, quiet-waits}
+use Rattle.laws.proofs.Samples.Raises.{accepted-raises, none-occurs}
+use Rattle.laws.proofs.Valid.Refusal7.{ticked-handler}
+use Rattle.laws.proofs.Access.Step1.{clears-if}
+use Rattle.laws.proofs.Valid.ValidLaws.{facts}
+use Rattle.laws.proofs.Access.Written.{ticked-answer}
 use Rattle.laws.specs.InMap.{inMap}
 use Rattle.laws.specs.Quiet.{AtRest, Silent, runs}
 use Rattle.laws.specs.RegisterFile.{commits, plain}
@@ -48,7 +48,6 @@ use Rattle.boot_laws.specs.Ran.{inputOf, wants, reach}
 use Rattle.boot_laws.proofs.AskLaws.{Kept, reach-kept}
 use Rattle.boot_laws.proofs.EntryLaws.{Fit, names-it, spares, other-name, reach-stage}
 use Rattle.boot_laws.proofs.InstallLaws.{Same}
-use Rattle.boot_laws.proofs.Bools.{and-no}
 
 -- all wires at (0,1)
 pub at-rest : (x : Access) → AtRest (rest x .sample .alerts)
@@ -111,7 +110,7 @@ module _ (h f : Handler) (w : Kept h f) (q : Register) (v : ℕ) (k : Fit (h .n)
 
   -- it clears nothing
   no-clear : (x : Access) → ((j : ℕ) → writesClr f x j ≡ false) → (j : ℕ) → j < classCount → clears f x j ≡ false
-  no-clear x c j l = clears-if f x j l ∙ ap (λ (b : Bool). accepted f x && b) (c j) ∙ and-no (accepted f x)
+  no-clear x c j l = clears-if f x j l ∙ ap (λ (b : Bool). accepted f x && b) (c j) ∙ and-false (accepted f x)
 
   write-clr : (j : ℕ) → writesClr f (Write (numberOf q) v) j ≡ false
   write-clr j =

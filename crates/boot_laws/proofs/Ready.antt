@@ -1,31 +1,29 @@
 -- After the boot of a new handler every alert is re-armed, so the corollary of FromBoot is met: alert 14, marked A, at (1,0) in the first tick.
 -- Assumes nothing.
-use Prim.Native.Nat.{ℕ, _-_, _*_, _/_, _%_, _^_, _≤_, _<_}
+use Prim.Native.Nat.{ℕ, _-_, _≤_, _<_}
 use mathlib.Core.Path.{_≡_, refl, sym, ap, _∙_, subst}
 use mathlib.Core.Bool.{Bool, true, false, cond}
 use mathlib.Core.List.{List, _∷_}
 use native.Mathlib.Omega.{arith}
 use borrow.Author.Tests.{lt-ltb}
-use lib.ListN.{getD-replicate}
-use Rattle.bits.proofs.BitLaws.{bit-ones}
-use Rattle.bits.specs.Bits.{place}
 use Rattle.class_rules.specs.declared.ClassState.the-variants.{Phase0}
 use Rattle.escalation.specs.Escalation.{stateIn, Starts}
 use Rattle.escalation.specs.List.{IsTick, givenAt}
-use Rattle.laws.proofs.Frame.{after-n}
-use Rattle.laws.proofs.KeepsValid.{ticked-valid}
-use Rattle.laws.proofs.RegisterFile.{acted-n}
-use Rattle.laws.proofs.Refusal7.{ticked-handler}
-use Rattle.laws.proofs.Arming.{happens-in, after-armed}
-use Rattle.laws.proofs.ValidLaws.{facts}
-use Rattle.laws.proofs.Written.{new-valid}
+use Rattle.laws.proofs.State.Above.{new-armed}
+use Rattle.laws.proofs.Tick.Frame.{after-n}
+use Rattle.laws.proofs.Valid.KeepsValid.{ticked-valid}
+use Rattle.laws.proofs.Access.RegisterFile.{acted-n}
+use Rattle.laws.proofs.Valid.Refusal7.{ticked-handler}
+use Rattle.laws.proofs.Samples.Arming.{happens-in, after-armed}
+use Rattle.laws.proofs.Valid.ValidLaws.{facts}
+use Rattle.laws.proofs.Access.Written.{new-valid}
 use Rattle.laws.specs.Quiet.{AtRest}
 use Rattle.rules.proofs.Scenes.{rules}
 use Rattle.rules.specs.Access.{acted}
 use Rattle.rules.specs.Run.{run, ticks}
 use Rattle.rules.specs.Samples.{positive, negative, happens, armedAfter, rearmed}
 use Rattle.rules.specs.Scenes.{raise, none}
-use Rattle.rules.specs.State.{most, words, armed, newHandler}
+use Rattle.rules.specs.State.{most, armed, newHandler}
 use Rattle.rules.specs.Tick.{ticked}
 use Rattle.rules.specs.Valid.{valid}
 use Rattle.rules.specs.declared.Access.{Access}
@@ -64,11 +62,6 @@ record Armed (n i : ℕ) (g : Handler) : Type 0 where
   size : g .n ≡ n
   ready : armed g i ≡ true
 
-new-ready : (n i : ℕ) → i < 64 * words → armed (newHandler n) i ≡ true
-unfolding newHandler
-new-ready n i l =
-    ap (λ (x : ℕ). place x (i % 64)) (getD-replicate words (i / 64) (2 ^ 64 - 1) 0 (omega arith)) ∙ bit-ones 64 (63 - i % 64) (omega arith)
-
 boot-armed : (l : Lifecycle) (n i : ℕ) → 0 < n → n ≤ most → i < n → Armed n i (boot l (newHandler n) .handler)
 unfolding newHandler
 boot-armed l n i z m b =
@@ -76,7 +69,7 @@ boot-armed l n i z m b =
       good = ticked-valid g (rest x) (a .good);
       size = ap (λ (y : Handler). y .n) (ticked-handler g (rest x) (a .good)) ∙ after-n g (rest x) ∙ a .size;
       ready = tick-arms g x i (a .good) (subst (λ (k : ℕ). i < k) (sym (a .size)) b);
-    }) l (newHandler n) (record { good = new-valid n z m; size = refl; ready = new-ready n i (omega arith) })
+    }) l (newHandler n) (record { good = new-valid n z m; size = refl; ready = new-armed n i (omega arith) })
 
 pub boot-arms : (l : Lifecycle) (n i : ℕ) → 0 < n → n ≤ most → i < n → armed (boot l (newHandler n) .handler) i ≡ true
 boot-arms l n i z m b = boot-armed l n i z m b .ready

@@ -15,11 +15,11 @@ use Rattle.class_rules.specs.declared.ClassState.the-variants.{Idle, Timeout}
 use Rattle.class_rules.specs.declared.Place.{Place}
 use Rattle.class_rules.specs.declared.Signals.{Signals}
 use Rattle.escalation.proofs.Going.{step-place}
-use Rattle.escalation.proofs.Ticks.{input, at-next}
-use Rattle.escalation.proofs.Ticks
+use Rattle.escalation.proofs.ListTicks.{input, at-next}
+use Rattle.escalation.proofs.ListTicks
 use Rattle.escalation.specs.Escalation.{stateIn, Starts, Escalated, Demand3}
 use Rattle.escalation.specs.List.{IsTick, before, inputAt, givenAt, classRead}
-use Rattle.laws.proofs.Content.{after-class, acted-place}
+use Rattle.laws.proofs.Tick.Content.{after-class, acted-place}
 use Rattle.rules.specs.Access.{clears}
 use Rattle.rules.specs.Run.{run}
 use Rattle.rules.specs.State.{most, newHandler}
@@ -72,14 +72,14 @@ module _ (l : Lifecycle) (n : ℕ) (c : locks l ≡ true) (a : alertCount ≤ n)
 
   -- class A starts in tick i, counted from 0
   abbrev startsIn : ℕ → Bool
-  startsIn i = starts (signalsIn (Ticks.at h xs i) (input xs i) 0) (classRead (Ticks.at h xs i) (input xs i) 0)
+  startsIn i = starts (signalsIn (ListTicks.at h xs i) (input xs i) 0) (classRead (ListTicks.at h xs i) (input xs i) 0)
 
-  idle-to : (i : ℕ) → i ≤ length xs → ((j : ℕ) → j < i → startsIn j ≡ false) → stateIn (Ticks.at h xs i) 0 ≡ Idle
+  idle-to : (i : ℕ) → i ≤ length xs → ((j : ℕ) → j < i → startsIn j ≡ false) → stateIn (ListTicks.at h xs i) 0 ≡ Idle
   unfolding run
   idle-to zero m e = from-boot l n xs c a b .idle
   idle-to (suc i) m e =
       ap (λ (g : Handler). stateIn g 0) (at-next h xs good i m)
-      ∙ tick-idles (Ticks.at h xs i) (input xs i) (idle-to i (omega arith) (λ j (k : j < i). e j (omega arith)))
+      ∙ tick-idles (ListTicks.at h xs i) (input xs i) (idle-to i (omega arith) (λ j (k : j < i). e j (omega arith)))
       (timeout-is l c h good (boot-stands l (newHandler n) ok) (take i xs) (input xs i)) (e i (omega arith))
 
   is-first : (first s i : ℕ) → IsTick first xs s → ((j : ℕ) → j < s - first → startsIn j ≡ false) → i < alertCount → isA (markAt l i) ≡ true

@@ -11,8 +11,8 @@ use lib.Dec.{eqb}
 use lib.IntN.{negsuc}
 use lib.ListN.{drop}
 use Rattle.bits.proofs.IndexLaws.{and-true, true-and}
-use Rattle.laws.proofs.Locks.{guard-in-map}
-use Rattle.laws.proofs.Written.{guard-still, locked-same, new-unlocked, new-valid}
+use Rattle.laws.proofs.Access.Locks.{guard-in-map}
+use Rattle.laws.proofs.Access.Written.{guard-still, locked-same, new-unlocked, new-valid}
 use Rattle.laws.specs.InMap.{inMap}
 use Rattle.rules.specs.Access.{value, locked}
 use Rattle.rules.specs.Map.{numberOf, isLock, isShadowed, guard}

@@ -8,9 +8,9 @@ use lib.Dec.{eqb}
 use lib.IntN.{negsuc}
 use Rattle.bits.proofs.IndexLaws.{and-true, true-and}
 use Rattle.bits.specs.Bits.{fits}
-use Rattle.laws.proofs.Cases.{pick}
-use Rattle.laws.proofs.Locks.{guard-in-map}
-use Rattle.laws.proofs.Written.{ticked-answer, write-locked, shadowed-wise, guard-still, locked-same}
+use Rattle.laws.proofs.Map.Cases.{pick}
+use Rattle.laws.proofs.Access.Locks.{guard-in-map}
+use Rattle.laws.proofs.Access.Written.{ticked-answer, write-locked, shadowed-wise, guard-still, locked-same}
 use Rattle.laws.specs.RegisterFile.{asWritten}
 use Rattle.rules.specs.Access.{locked, silly, bars}
 use Rattle.rules.specs.Answer.{number}

@@ -3,18 +3,18 @@
 use Prim.Native.Nat.{ℕ, _+_, _<_}
 use mathlib.Core.Path.{_≡_, refl, sym, ap, ap₂, _∙_, subst}
 use mathlib.Core.Logic.{_⊎_, inl, inr, ⊎-elim}
-use mathlib.Core.Bool.{Bool, true, false, false≢true, cond, not, _&&_}
+use mathlib.Core.Bool.{Bool, true, false, false≢true, cond, not, and-false, _&&_}
 use mathlib.Core.List.{List, [], _∷_}
 use native.Mathlib.Omega.{arith}
 use borrow.Author.Tests.{eqb-true, eqb-false, eq-eqb, ne-eqb, not-true, lt-ltb, ltb-true}
 use lib.Dec.{eqb, ltb}
 use Rattle.bits.proofs.IndexLaws.{and-true, true-and}
 use Rattle.class_rules.specs.Class.{en}
-use Rattle.laws.proofs.Cases.{by-kind, by-setting}
-use Rattle.laws.proofs.Locks.{guard-in-map}
-use Rattle.laws.proofs.MapLaws.{number-eq}
-use Rattle.laws.proofs.ValidLaws.{facts}
-use Rattle.laws.proofs.Written.{guard-still, locked-same}
+use Rattle.laws.proofs.Map.Cases.{by-kind, by-setting}
+use Rattle.laws.proofs.Access.Locks.{guard-in-map}
+use Rattle.laws.proofs.Map.MapLaws.{number-eq}
+use Rattle.laws.proofs.Valid.ValidLaws.{facts}
+use Rattle.laws.proofs.Access.Written.{guard-still, locked-same}
 use Rattle.laws.specs.Frame.{movesItself}
 use Rattle.laws.specs.InMap.{inMap}
 use Rattle.rules.specs.Access.{value, locked, unlike, silly}
@@ -33,7 +33,6 @@ use Rattle.policy.specs.declared.Progress.{Progress}
 use Rattle.boot_laws.proofs.AskLaws.{Kept}
 use Rattle.boot_laws.proofs.EntryLaws.{put-holds, Open, put-goes}
 use Rattle.boot_laws.proofs.InstallLaws.{first, differ, Same, same-start, put-same, put, then, put-kept}
-use Rattle.boot_laws.proofs.Bools.{and-no}
 
 -- ── refusal 14: the threshold of each class that is locked is not 65535 then ──
 
@@ -60,7 +59,7 @@ not-silly h q v =
     own : (k : ℕ) → (classAt h k .thresh ≡ 65535 → ⊥) → silly h (regwen k) v ≡ false
     own k f =
         ap (λ (b : Bool). eqb v 0 && (en (classAt h k) && (b && eqb (classAt h k .regwen) 1))) (ne-eqb (classAt h k .thresh) 65535 f)
-        ∙ ap (λ (b : Bool). eqb v 0 && b) (and-no (en (classAt h k))) ∙ and-no (eqb v 0)
+        ∙ ap (λ (b : Bool). eqb v 0 && b) (and-false (en (classAt h k))) ∙ and-false (eqb v 0)
 
 -- the lock of class k comes after its threshold
 lock-later : (k : ℕ) (e : Entry) (es : List Entry) → e .register ≡ regwen k → ahead k (e ∷ es) ≡ true → ⊥

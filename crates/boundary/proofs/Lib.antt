@@ -1,2 +1,2 @@
-pub mod KindLaws
-pub mod Examples
+pub mod CallKinds
+pub mod BoundaryExamples

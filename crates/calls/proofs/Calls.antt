@@ -12,9 +12,9 @@ use lib.Seq.{take-at, take-append-add}
 use Rattle.bits.specs.Bits.{bit}
 use Rattle.escalation.proofs.Demand3.{demand3}
 use Rattle.escalation.specs.List.{IsTick, givenAt, noInput, noTick}
-use Rattle.laws.proofs.KeepsValid.{run-valid}
-use Rattle.laws.proofs.Refusal7.{seven}
-use Rattle.laws.proofs.Runs.{run-append, ticks-append, ticks-at, length-ticks}
+use Rattle.laws.proofs.Valid.KeepsValid.{run-valid}
+use Rattle.laws.proofs.Valid.Refusal7.{seven}
+use Rattle.laws.proofs.Tick.Runs.{run-append, ticks-append, ticks-at, length-ticks}
 use Rattle.trace_rules.specs.Batch.{batch, batchOf, batchVerdict, batchInputs}
 use Rattle.rules.specs.Run.{run, ticks}
 use Rattle.rules.specs.Tick.{ticked}
@@ -25,7 +25,7 @@ use Rattle.rules.specs.declared.Handler.{Handler}
 use Rattle.rules.specs.declared.Input.{Input}
 use Rattle.rules.specs.declared.Refusal.the-variants.{BadState}
 use Rattle.rules.specs.declared.Ticked.{Ticked}
-use Rattle.trace.proofs.Words.{line-bit}
+use Rattle.trace.proofs.WordFields.{line-bit}
 use Rattle.batch.proofs.ReadValues.{read-fits}
 use Rattle.calls.specs.Calls.{Call, Tick, Batch, leaves, inputs, lineIn, seen, leavesAll, inputsAll, seenAll, AcrossCalls}
 

@@ -1,2 +1,2 @@
 pub mod Calls
-pub mod Examples
+pub mod CallExamples

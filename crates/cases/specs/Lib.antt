@@ -1,2 +1,2 @@
-pub mod Ticks
-pub mod List
+pub mod CaseTicks
+pub mod CaseList

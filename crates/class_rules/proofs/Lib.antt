@@ -1,2 +1,2 @@
 pub mod ClassLaws
-pub mod Examples
+pub mod ClassExamples

@@ -15,7 +15,7 @@ use Rattle.class_rules.specs.Step.{starts, moved}
 use Rattle.class_rules.specs.declared.Class.{Class}
 use Rattle.class_rules.specs.declared.ClassState.the-variants.{Phase0}
 use Rattle.class_rules.specs.declared.Place.{Place}
-use Rattle.laws.proofs.Content.{after-class, event-enabled, acted-place}
+use Rattle.laws.proofs.Tick.Content.{after-class, event-enabled, acted-place}
 use Rattle.rules.specs.State.{classCount}
 use Rattle.rules.specs.Tick.{after, signalsIn}
 use Rattle.rules.specs.Valid.{valid}
@@ -25,9 +25,9 @@ use Rattle.escalation.specs.Escalation.{stateIn, StartIs, Demand3}
 use Rattle.escalation.specs.List.{IsTick, before, inputAt, givenAt, classRead}
 use Rattle.escalation.proofs.Escalation.{escalates}
 use Rattle.escalation.proofs.Going.{step-place}
-use Rattle.escalation.proofs.Locks.{locks, stages, no-clear}
-use Rattle.escalation.proofs.Start.{Unstarted, unstarted, to-phase, is-start, reason, has-line}
-use Rattle.escalation.proofs.Ticks.{at-next, given-handler}
+use Rattle.escalation.proofs.LockLaws.{locks, stages, no-clear}
+use Rattle.escalation.proofs.StartLaws.{Unstarted, unstarted, to-phase, is-start, reason, has-line}
+use Rattle.escalation.proofs.ListTicks.{at-next, given-handler}
 
 -- a start in one tick: step 1 does not move the class, and its step is what it comes to
 module _ (g : Handler) (x : Input) (k : ℕ) (small : k < classCount) where

@@ -15,10 +15,10 @@ use Rattle.bits.specs.Bits.{bit}
 use Rattle.class_rules.specs.Class.{lineEnable, lineMap, stateOf, drives}
 use Rattle.class_rules.specs.Step.{at}
 use Rattle.class_rules.specs.declared.Class.{Class}
-use Rattle.laws.proofs.Clears.{no-clear}
-use Rattle.laws.proofs.Content.{after-class, signal-clear, acted-place, line-is}
-use Rattle.laws.proofs.Locks.{acted-locked}
-use Rattle.laws.proofs.ValidLaws.{facts}
+use Rattle.laws.proofs.Access.Clears.{no-clear}
+use Rattle.laws.proofs.Tick.Content.{after-class, signal-clear, acted-place, line-is}
+use Rattle.laws.proofs.Access.Locks.{acted-locked}
+use Rattle.laws.proofs.Valid.ValidLaws.{facts}
 use Rattle.laws.specs.InMap.{settingExists}
 use Rattle.rules.specs.Access.{value, locked, settingValue, acted}
 use Rattle.rules.specs.Map.{guard}
@@ -36,8 +36,8 @@ use Rattle.escalation.specs.Escalation.{OfPhase, Starts, DrivenByOther, 
 use Rattle.escalation.specs.List.{IsTick, before, inputAt, givenAt, classRead}
 use Rattle.escalation.proofs.Going.{Going, going-starts, going-steps, of-phase, going-drives}
 use Rattle.escalation.proofs.Phases.{placeOf, At, in-terminal, count-phase, count-terminal}
-use Rattle.escalation.proofs.Ticks
-use Rattle.escalation.proofs.Ticks.{input, at-valid, at-next, given-handler, given-lines}
+use Rattle.escalation.proofs.ListTicks
+use Rattle.escalation.proofs.ListTicks.{input, at-valid, at-next, given-handler, given-lines}
 
 -- ── one tick, of the valid state g ──
 
@@ -82,25 +82,25 @@ module _ (g : Handler) (v : valid g ≡ true) (k : ℕ) (small : k < classCount)
 -- ── the list: j ticks have run, and tick i is that of the start ──
 
 module _ (h : Handler) (xs : List Input) (v : valid h ≡ true) (k : ℕ) (small : k < classCount) where
-  going-next : (c : Class) (j d : ℕ) → j < length xs → Going c d (classAt (Ticks.at h xs j) k) → Going c (suc d) (classAt (Ticks.at h xs (suc j)) k)
+  going-next : (c : Class) (j d : ℕ) → j < length xs → Going c d (classAt (ListTicks.at h xs j) k) → Going c (suc d) (classAt (ListTicks.at h xs (suc j)) k)
   going-next c j d l g =
       subst (λ (f : Handler). Going c (suc d) (classAt f k)) (sym (at-next h xs v j l))
-      (going-tick (Ticks.at h xs j) (at-valid h xs v j) k small (input xs j) c d g)
+      (going-tick (ListTicks.at h xs j) (at-valid h xs v j) k small (input xs j) c d g)
 
   -- the class as tick i reads it
   abbrev read : ℕ → Class
-  read i = classRead (Ticks.at h xs i) (input xs i) k
+  read i = classRead (ListTicks.at h xs i) (input xs i) k
 
-  going-start : (i : ℕ) → i < length xs → Starts (Ticks.at h xs i) (input xs i) k → Going (read i) 0 (classAt (Ticks.at h xs (suc i)) k)
+  going-start : (i : ℕ) → i < length xs → Starts (ListTicks.at h xs i) (input xs i) k → Going (read i) 0 (classAt (ListTicks.at h xs (suc i)) k)
   going-start i l s =
       subst (λ (f : Handler). Going (read i) 0 (classAt f k)) (sym (at-next h xs v i l))
-      (going-first (Ticks.at h xs i) (at-valid h xs v i) k small (input xs i) s)
+      (going-first (ListTicks.at h xs i) (at-valid h xs v i) k small (input xs i) s)
 
   -- d ticks after the start
-  going : (c : Class) (j d : ℕ) → j + d ≤ length xs → Going c 0 (classAt (Ticks.at h xs j) k) → Going c d (classAt (Ticks.at h xs (j + d)) k)
-  going c j zero l g = subst (λ (n : ℕ). Going c 0 (classAt (Ticks.at h xs n) k)) (sym (add-zero j)) g
+  going : (c : Class) (j d : ℕ) → j + d ≤ length xs → Going c 0 (classAt (ListTicks.at h xs j) k) → Going c d (classAt (ListTicks.at h xs (j + d)) k)
+  going c j zero l g = subst (λ (n : ℕ). Going c 0 (classAt (ListTicks.at h xs n) k)) (sym (add-zero j)) g
   going c j (suc d) l g =
-      subst (λ (n : ℕ). Going c (suc d) (classAt (Ticks.at h xs n) k)) (sym (add-suc j d))
+      subst (λ (n : ℕ). Going c (suc d) (classAt (ListTicks.at h xs n) k)) (sym (add-suc j d))
       (going-next c (j + d) d (omega arith) (going c j d (omega arith) g))
 
 -- ── what it says in tick s + d, which gives o ──

@@ -15,10 +15,10 @@ use Rattle.class_rules.specs.declared.Class.{Class}
 use Rattle.class_rules.specs.declared.ClassState.{ClassState}
 use Rattle.class_rules.specs.declared.ClassState.the-variants.{Idle, Timeout, Phase0, Phase1, Phase2, Phase3, Terminal}
 use Rattle.class_rules.specs.declared.Signals.{Signals}
-use Rattle.laws.proofs.Cases.{cond-same}
+use Rattle.laws.proofs.Map.Cases.{cond-same}
 use Rattle.escalation.specs.Escalation.{OfPhase}
 use Rattle.escalation.proofs.Phases.{placeOf, At, entered-at, next-at, in-phase}
-use Rattle.escalation.proofs.Start.{to-phase}
+use Rattle.escalation.proofs.StartLaws.{to-phase}
 
 -- locked with CLR_REGWEN 0, the settings as they were read, and in the phase that the lengths say
 pub record Going (c : Class) (d : ℕ) (b : Class) : Type 0 where

@@ -19,18 +19,18 @@ use Rattle.rules.specs.declared.Ticked.{Ticked}
 use Rattle.escalation.specs.Escalation.{DrivenByOther, Line, Escalated}
 use Rattle.escalation.specs.List.{givenAt}
 use Rattle.escalation.proofs.Demand3.{demand3}
-use Rattle.escalation.proofs.PhaseExamples
+use Rattle.escalation.proofs.P7Examples
 use Rattle.escalation.proofs.StartExamples.{locked}
 
 -- ── every later list: class 2 starts in tick 100 with lengths 0, 10, 10, 5; line 1 is enabled and mapped to Phase 1, ticks 101 to 110 ──
 
 -- what tick t gives, whatever the inputs ys after tick 100
 abbrev after100 : List Input → ℕ → Ticked
-after100 ys t = givenAt 100 (PhaseExamples.station 5) (raise 1 none ∷ ys) t
+after100 ys t = givenAt 100 (P7Examples.station 5) (raise 1 none ∷ ys) t
 
 module _ (ys : List Input) (t : ℕ) (from : 101 ≤ t) (l : t ≤ 100 + length ys) where
-  line-1 : Line (PhaseExamples.class 5) 100 t (after100 ys t) 2 1
-  line-1 = PhaseExamples.escalated 5 PhaseExamples.valid-5 ys t (omega arith) l .line 1 (omega arith)
+  line-1 : Line (P7Examples.class 5) 100 t (after100 ys t) 2 1
+  line-1 = P7Examples.escalated 5 P7Examples.valid-5 ys t (omega arith) l .line 1 (omega arith)
 
   -- in these ticks it is on
   on : t < 111 → bit (after100 ys t .output .lines) 1 ≡ true

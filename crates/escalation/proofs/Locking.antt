@@ -1,6 +1,6 @@
 -- Request (vii): no tick locks a class with EN 1 and ACCUM_THRESH 65535.
 -- Assumes nothing.
-use Prim.Native.Nat.{ℕ, zero, suc, _^_, _+_, _≤_, _<_}
+use Prim.Native.Nat.{ℕ, zero, suc, _<_}
 use mathlib.Core.Path.{_≡_, refl, sym, ap, _∙_, subst}
 use mathlib.Core.Logic.{_≢_}
 use mathlib.Core.Bool.{Bool, true, false, false≢true, cond, _&&_}
@@ -14,14 +14,14 @@ use Rattle.class_rules.specs.Class.{en}
 use Rattle.class_rules.specs.Step.{classStep}
 use Rattle.class_rules.specs.declared.Class.{Class}
 use Rattle.class_rules.specs.declared.Signals.{Signals}
-use Rattle.laws.proofs.Cases.{by-kind}
-use Rattle.laws.proofs.Content.{after-class, acted-class-own}
-use Rattle.laws.proofs.KeepsValid.{after-valid}
-use Rattle.laws.proofs.MapLaws.{number-eq}
-use Rattle.laws.proofs.Refusal7.{ticked-handler}
-use Rattle.laws.proofs.Refusals.{unrefused}
-use Rattle.laws.proofs.RegisterFile.{acted-value, stores-accepted, accepted-in-map, target-in-map}
-use Rattle.laws.proofs.ValidLaws.{facts}
+use Rattle.laws.proofs.Map.Cases.{by-kind}
+use Rattle.laws.proofs.Tick.Content.{after-class, acted-class-own}
+use Rattle.laws.proofs.Valid.KeepsValid.{after-valid}
+use Rattle.laws.proofs.Map.MapLaws.{number-eq}
+use Rattle.laws.proofs.Valid.Refusal7.{ticked-handler}
+use Rattle.laws.proofs.Access.Refusals.{unrefused}
+use Rattle.laws.proofs.Access.RegisterFile.{acted-value, stores-accepted, accepted-in-map, target-in-map}
+use Rattle.laws.proofs.Valid.ValidLaws.{facts}
 use Rattle.laws.specs.Block.{blockWritten, blockAccepts}
 use Rattle.laws.specs.RegisterFile.{target, newValue, writes, stores, commits, committed}
 use Rattle.rules.specs.Access.{value, locked, accepted, acted, withSetting, silly, locksSilly}

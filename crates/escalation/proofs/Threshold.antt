@@ -1,7 +1,7 @@
 -- Request (vii), over every list of ticks from a new handler: no class is locked with a silly threshold, and a locked one starts in time.
 -- Assumes nothing.
 use Prim.Native.Nat.{ℕ, _^_, _<_}
-use mathlib.Core.Path.{_≡_, refl, ap, _∙_, sym, subst}
+use mathlib.Core.Path.{_≡_, refl, sym, subst}
 use mathlib.Core.Logic.{_≢_}
 use mathlib.Core.Bool.{Bool, true, false}
 use mathlib.Core.List.{List}
@@ -10,10 +10,9 @@ use borrow.Author.Tests.{ltb-true, ltb-false}
 use lib.Dec.{ltb}
 use lib.ListN.{take, getD-replicate}
 use Rattle.class_rules.specs.Class.{noClass}
-use Rattle.class_rules.specs.declared.Class.{Class}
-use Rattle.laws.proofs.Cases.{pick}
-use Rattle.laws.proofs.KeepsValid.{made-valid, run-valid}
-use Rattle.laws.proofs.ValidLaws.{facts}
+use Rattle.laws.proofs.Map.Cases.{pick}
+use Rattle.laws.proofs.Valid.KeepsValid.{made-valid, run-valid}
+use Rattle.laws.proofs.Valid.ValidLaws.{facts}
 use Rattle.rules.specs.Run.{run}
 use Rattle.rules.specs.State.{classCount, classAt, resetClass, newHandler, badCount, made}
 use Rattle.rules.specs.declared.Handler.{Handler}

@@ -20,7 +20,7 @@ use Rattle.class_rules.specs.declared.ClassState.{ClassState}
 use Rattle.class_rules.specs.declared.ClassState.the-variants.{Idle, Timeout}
 use Rattle.class_rules.specs.declared.Place.{Place}
 use Rattle.class_rules.specs.declared.Signals.{Signals}
-use Rattle.laws.proofs.Content.{after-class, signal-clear, event-enabled, acted-place}
+use Rattle.laws.proofs.Tick.Content.{after-class, signal-clear, event-enabled, acted-place}
 use Rattle.rules.specs.Access.{value, locked}
 use Rattle.rules.specs.Map.{guard}
 use Rattle.rules.specs.State.{classCount, classAt}
@@ -34,9 +34,9 @@ use Rattle.escalation.specs.List.{classRead}
 use Rattle.escalation.specs.Threshold.{eventsIn, StartsAt, Waiting, NoClear}
 use Rattle.escalation.proofs.Escalation.{keeps}
 use Rattle.escalation.proofs.Going.{step-place}
-use Rattle.escalation.proofs.Start.{Unstarted}
-use Rattle.escalation.proofs.Ticks
-use Rattle.escalation.proofs.Ticks.{input, at-valid, at-next}
+use Rattle.escalation.proofs.StartLaws.{Unstarted}
+use Rattle.escalation.proofs.ListTicks
+use Rattle.escalation.proofs.ListTicks.{input, at-valid, at-next}
 
 -- ── one class: c when the counting began, b now, with m events between and no start ──
 
@@ -144,24 +144,24 @@ Found h xs k i d = (j : ℕ) × (i ≤ j) × (j < i + d) × StartsAt h xs k j
 
 module _ (h : Handler) (xs : List Input) (v : valid h ≡ true) (k : ℕ) (small : k < classCount) where
   waits-next : (c : Class) (m j : ℕ) → (en c ≡ true → c .thresh < 65535) → j < length xs
-      → signalsIn (Ticks.at h xs j) (input xs j) k .clear ≡ false
-      → starts (signalsIn (Ticks.at h xs j) (input xs j) k) (classRead (Ticks.at h xs j) (input xs j) k) ≡ false
-      → Waits c m (classAt (Ticks.at h xs j) k)
-      → Waits c (cond (signalsIn (Ticks.at h xs j) (input xs j) k .event) (suc m) m) (classAt (Ticks.at h xs (suc j)) k)
+      → signalsIn (ListTicks.at h xs j) (input xs j) k .clear ≡ false
+      → starts (signalsIn (ListTicks.at h xs j) (input xs j) k) (classRead (ListTicks.at h xs j) (input xs j) k) ≡ false
+      → Waits c m (classAt (ListTicks.at h xs j) k)
+      → Waits c (cond (signalsIn (ListTicks.at h xs j) (input xs j) k .event) (suc m) m) (classAt (ListTicks.at h xs (suc j)) k)
   waits-next c m j safe l nc ns w =
-      subst (λ (f : Handler). Waits c (cond (signalsIn (Ticks.at h xs j) (input xs j) k .event) (suc m) m) (classAt f k)) (sym (at-next h xs v j l))
-      (waits-tick (Ticks.at h xs j) (at-valid h xs v j) k small (input xs j) c m safe nc ns w)
+      subst (λ (f : Handler). Waits c (cond (signalsIn (ListTicks.at h xs j) (input xs j) k .event) (suc m) m) (classAt f k)) (sym (at-next h xs v j l))
+      (waits-tick (ListTicks.at h xs j) (at-valid h xs v j) k small (input xs j) c m safe nc ns w)
 
   -- by d ticks after the first i it has started, or it still waits, every event counted
   waits : (c : Class) (i d : ℕ) → (en c ≡ true → c .thresh < 65535) → i + d ≤ length xs → NoClear h xs k i d
-      → Waits c 0 (classAt (Ticks.at h xs i) k) → Found h xs k i d ⊎ Waits c (eventsIn h xs k i d) (classAt (Ticks.at h xs (i + d)) k)
-  waits c i zero safe l nc w = inr (subst (λ (n : ℕ). Waits c 0 (classAt (Ticks.at h xs n) k)) (sym (add-zero i)) w)
+      → Waits c 0 (classAt (ListTicks.at h xs i) k) → Found h xs k i d ⊎ Waits c (eventsIn h xs k i d) (classAt (ListTicks.at h xs (i + d)) k)
+  waits c i zero safe l nc w = inr (subst (λ (n : ℕ). Waits c 0 (classAt (ListTicks.at h xs n) k)) (sym (add-zero i)) w)
   waits c i (suc d) safe l nc w =
       ⊎-elim (λ (f : Found h xs k i d). inl (f .0, f .1, (let z = f .2 in omega arith), f .3)) (λ y. now y (starts (signalsIn g x k) (classRead g x k)) refl)
       (waits c i d safe (omega arith) (λ j a b. nc j a (omega arith)) w)
     where
       g : Handler
-      g = Ticks.at h xs (i + d)
+      g = ListTicks.at h xs (i + d)
 
       x : Input
       x = input xs (i + d)
@@ -170,19 +170,19 @@ module _ (h : Handler) (xs : List Input) (v : valid h ≡ true) (k : ℕ) (small
       clear = signal-clear g x k ∙ nc (i + d) (omega arith) (omega arith)
 
       now : Waits c (eventsIn h xs k i d) (classAt g k) → (t : Bool) → starts (signalsIn g x k) (classRead g x k) ≡ t
-          → Found h xs k i (suc d) ⊎ Waits c (eventsIn h xs k i (suc d)) (classAt (Ticks.at h xs (i + suc d)) k)
+          → Found h xs k i (suc d) ⊎ Waits c (eventsIn h xs k i (suc d)) (classAt (ListTicks.at h xs (i + suc d)) k)
       now y true e = inl (i + d, omega arith, omega arith, e)
       now y false e =
-          inr (subst (λ (n : ℕ). Waits c (eventsIn h xs k i (suc d)) (classAt (Ticks.at h xs n) k)) (sym (add-suc i d))
+          inr (subst (λ (n : ℕ). Waits c (eventsIn h xs k i (suc d)) (classAt (ListTicks.at h xs n) k)) (sym (add-suc i d))
           (waits-next c (eventsIn h xs k i d) (i + d) safe (omega arith) clear e y))
 
   -- with 65,535 events it has started
-  pub in-time : (i d : ℕ) → (en (classAt (Ticks.at h xs i) k) ≡ true → classAt (Ticks.at h xs i) k .thresh < 65535) → Waiting h xs k i
+  pub in-time : (i d : ℕ) → (en (classAt (ListTicks.at h xs i) k) ≡ true → classAt (ListTicks.at h xs i) k .thresh < 65535) → Waiting h xs k i
       → i + d ≤ length xs → NoClear h xs k i d → 65535 ≤ eventsIn h xs k i d → Found h xs k i d
   in-time i d safe w l nc many =
-      let c : Class = classAt (Ticks.at h xs i) k in
+      let c : Class = classAt (ListTicks.at h xs i) k in
       ⊎-elim (λ f. f)
-      (λ (y : Waits c (eventsIn h xs k i d) (classAt (Ticks.at h xs (i + d)) k)).
+      (λ (y : Waits c (eventsIn h xs k i d) (classAt (ListTicks.at h xs (i + d)) k)).
       absurd (⊎-elim (λ z. omega arith) (λ (z : (eventsIn h xs k i d ≤ c .thresh) × (c .thresh < 65535)). let a = z .0 in let b = z .1 in omega arith) (y .below)))
       (waits c i d safe l nc
       (record { regwen = w .locked; ctrl = refl; thresh = refl; unstarted = w .unstarted; counts = omega arith; below = inl refl }))

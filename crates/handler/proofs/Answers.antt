@@ -16,7 +16,7 @@ use Rattle.rules.specs.declared.Handler.{Handler}
 use Rattle.rules.specs.declared.Input.{Input}
 use Rattle.rules.specs.declared.Refusal.the-variants.{BadState}
 use Rattle.rules.specs.declared.Ticked.{Ticked}
-use Rattle.laws.proofs.Refusal7.{ticked-good, ticked-bad}
+use Rattle.laws.proofs.Valid.Refusal7.{ticked-good, ticked-bad}
 use Rattle.answers.specs.Meaning.{Meaning}
 use Rattle.handler.specs.Answered.{answered}
 use Rattle.handler.specs.declared.tick.Answered.{Answered}

@@ -1,5 +1,5 @@
-pub mod Masks
-pub mod Steps
-pub mod Ticks
+pub mod ClassMasks
+pub mod ClassSteps
+pub mod WholeTick
 pub mod Answers
-pub mod Quiets
+pub mod QuietTicks

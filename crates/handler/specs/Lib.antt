@@ -1,4 +1,4 @@
 pub mod Classes
-pub mod Outputs
+pub mod OutputMasks
 pub mod Answered
-pub mod Quiet
+pub mod QuietTick

@@ -3,7 +3,7 @@ use class::lines::lines;
 use class_rules::Class;
 use rules::Output;
 ghost use mathlib.Core.Path.{_≡_};
-ghost use Rattle.handler.specs.Outputs.{interruptsOn, linesOn};
+ghost use Rattle.handler.specs.OutputMasks.{interruptsOn, linesOn};
 
 // Interrupts are INTR_STATE and INTR_ENABLE, bit by bit.
 pub fn interrupts_on(state: u8, enable: u8) -> u8

@@ -17,7 +17,7 @@ ghost use mathlib.Core.Bool.{true};
 ghost use Prim.Native.Nat.{_≤_};
 ghost use Rattle.rules.specs.State.{most};
 ghost use Rattle.rules.specs.Tick.{tick};
-ghost use Rattle.handler.specs.Quiet.{movedBy, ended};
+ghost use Rattle.handler.specs.QuietTick.{movedBy, ended};
 
 // Whether a tick is known to be such a one, and then the links after it and its answer.
 pub struct Quiet {

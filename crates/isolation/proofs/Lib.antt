@@ -1,6 +1,6 @@
 pub mod OwnExamples
 pub mod Own
-pub mod Tick
+pub mod TickEqual
 pub mod Isolated
 pub mod Shared
 pub mod Tenant
@@ -8,7 +8,7 @@ pub mod Undisturbed
 pub mod Traces
 pub mod TwoStations
 pub mod Needed
-pub mod Whole
+pub mod WholeIsolation
 pub mod WholeOwner
 pub mod TenantBits
 pub mod OwnerExamples

@@ -4,9 +4,9 @@ use Prim.Native.Nat.{ℕ, _≤_, _<_}
 use mathlib.Core.Path.{_≡_, refl, sym, ap, ap₂, _∙_, subst}
 use mathlib.Core.Bool.{Bool, true, false, false≢true, cond}
 use Rattle.class_rules.specs.declared.Class.{Class}
-use Rattle.laws.proofs.BlockAnswers.{block-of, block-any-n, readVerdict, writeVerdict, read-own, write-own}
-use Rattle.laws.proofs.Content.{acted-class-own, acted-class-other, clears-own, clears-other}
-use Rattle.laws.proofs.StageContent.{stages-written, stages-read, stages-other}
+use Rattle.laws.proofs.Access.BlockAnswers.{block-of, block-any-n, readVerdict, writeVerdict, read-own, write-own}
+use Rattle.laws.proofs.Tick.Content.{acted-class-own, acted-class-other, clears-own, clears-other}
+use Rattle.laws.proofs.Stages.StageContent.{stages-written, stages-read, stages-other}
 use Rattle.laws.specs.Block.{blockWritten, blockDropped, blockStaged, blockClears, writesBlock, namesBlock}
 use Rattle.laws.specs.Refusals.{answerBy}
 use Rattle.rules.specs.Access.{settingValue, acted, answerTo, clears}

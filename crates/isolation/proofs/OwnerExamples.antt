@@ -6,14 +6,13 @@ use mathlib.Core.Logic.{_⊎_, inl, inr}
 use mathlib.Core.Bool.{Bool, true, false, true≢false, _&&_, xor}
 use mathlib.Core.List.{List, [], _∷_, _++_, map}
 use native.Mathlib.Omega.{arith}
-use lib.Dec.{eqb}
 use lib.ListN.{getD, length, set, replicate, getD-replicate}
 use Rattle.bits.specs.Bits.{bit}
 use Rattle.bits.specs.Index.{anyTo}
 use Rattle.bits.proofs.IndexLaws.{none-at}
 use Rattle.class_rules.specs.Class.{drives}
-use Rattle.escalation.proofs.Ticks
-use Rattle.escalation.proofs.Ticks.{input}
+use Rattle.escalation.proofs.ListTicks
+use Rattle.escalation.proofs.ListTicks.{input}
 use Rattle.escalation.specs.List.{IsTick, before, inputAt, givenAt}
 use Rattle.rules.proofs.Scenes.{rules, settings, station, zeros}
 use Rattle.rules.specs.Access.{value, acted}
@@ -121,7 +120,7 @@ module _ (k : ℕ) (his : ℕ → Bool) (g : Handler) (x : Input) (b : Bool) (s 
 
 -- of tick i of a run
 seen-at : (k : ℕ) (his : ℕ → Bool) (xs : List Input) (course : List Seen) → along (seen k his) home xs ≡ course → (i : ℕ) → i < length xs
-    → seen k his (Ticks.at home xs i) (input xs i) ≡ getD course i (fine true)
+    → seen k his (ListTicks.at home xs i) (input xs i) ≡ getD course i (fine true)
 seen-at k his xs course e i l = sym (along-at (seen k his) home xs i (fine true) l) ∙ ap (λ (o : List Seen). getD o i (fine true)) e
 
 -- class A: in ticks 2 and 6 the access is the owner's
@@ -137,38 +136,38 @@ unfolding rules xor along
 busy-seen = refl
 
 module _ (i : ℕ) (l : i < 8) (b : Bool) (e : getD course i (fine true) ≡ fine b) where
-  quiet-at : seen 0 his (Ticks.at home quiet i) (input quiet i) ≡ fine b
+  quiet-at : seen 0 his (ListTicks.at home quiet i) (input quiet i) ≡ fine b
   quiet-at = seen-at 0 his quiet course quiet-seen i l ∙ e
 
-  busy-at : seen 0 his (Ticks.at home busy i) (input busy i) ≡ fine b
+  busy-at : seen 0 his (ListTicks.at home busy i) (input busy i) ≡ fine b
   busy-at = seen-at 0 his busy course busy-seen i l ∙ e
 
   -- two ticks in which alert 0's wires are the same
   but : (input quiet i .access ≡ input busy i .access) ⊎ (b ≡ true) → positive (input quiet i .sample .alerts) 0 ≡ positive (input busy i .sample .alerts) 0
       → negative (input quiet i .sample .alerts) 0 ≡ negative (input busy i .sample .alerts) 0
-      → ButTenant 0 his (Ticks.at home quiet i) (input quiet i) (Ticks.at home busy i) (input busy i)
+      → ButTenant 0 his (ListTicks.at home quiet i) (input quiet i) (ListTicks.at home busy i) (input busy i)
   but a p q =
       record {
         access = way a;
         pos = pos;
         neg = neg;
-        apart = (apart 0 his (Ticks.at home quiet i) (input quiet i) b quiet-at, apart 0 his (Ticks.at home busy i) (input busy i) b busy-at);
+        apart = (apart 0 his (ListTicks.at home quiet i) (input quiet i) b quiet-at, apart 0 his (ListTicks.at home busy i) (input busy i) b busy-at);
       }
     where
       way : (input quiet i .access ≡ input busy i .access) ⊎ (b ≡ true)
           → (input quiet i .access ≡ input busy i .access)
-          ⊎ ((byTenant 0 his (Ticks.at home quiet i) (input quiet i .access) ≡ true) × (byTenant 0 his (Ticks.at home busy i) (input busy i .access) ≡ true))
+          ⊎ ((byTenant 0 his (ListTicks.at home quiet i) (input quiet i .access) ≡ true) × (byTenant 0 his (ListTicks.at home busy i) (input busy i .access) ≡ true))
       way (inl c) = inl c
       way (inr c) = inr (
-        is-tenant 0 his (Ticks.at home quiet i) (input quiet i) b quiet-at ∙ c,
-        is-tenant 0 his (Ticks.at home busy i) (input busy i) b busy-at ∙ c,
+        is-tenant 0 his (ListTicks.at home quiet i) (input quiet i) b quiet-at ∙ c,
+        is-tenant 0 his (ListTicks.at home busy i) (input busy i) b busy-at ∙ c,
       )
 
-      pos : (j : ℕ) → j < Ticks.at home quiet i .n → his j ≡ false → positive (input quiet i .sample .alerts) j ≡ positive (input busy i .sample .alerts) j
+      pos : (j : ℕ) → j < ListTicks.at home quiet i .n → his j ≡ false → positive (input quiet i .sample .alerts) j ≡ positive (input busy i .sample .alerts) j
       pos zero l e = p
       pos (suc j) l e = absurd (true≢false e)
 
-      neg : (j : ℕ) → j < Ticks.at home quiet i .n → his j ≡ false → negative (input quiet i .sample .alerts) j ≡ negative (input busy i .sample .alerts) j
+      neg : (j : ℕ) → j < ListTicks.at home quiet i .n → his j ≡ false → negative (input quiet i .sample .alerts) j ≡ negative (input busy i .sample .alerts) j
       neg zero l e = q
       neg (suc j) l e = absurd (true≢false e)
 
@@ -223,10 +222,10 @@ only-tenant-3 t m =
     let q = seen-at 3 all quiet (replicate 8 (fine true)) quiet-seen-3 i l ∙ getD-replicate 8 i (fine true) (fine true) l in
     let b = seen-at 3 all busy (replicate 8 (fine true)) busy-seen-3 i l ∙ getD-replicate 8 i (fine true) (fine true) l in
     record {
-      access = inr (is-tenant 3 all (Ticks.at home quiet i) (input quiet i) true q, is-tenant 3 all (Ticks.at home busy i) (input busy i) true b);
+      access = inr (is-tenant 3 all (ListTicks.at home quiet i) (input quiet i) true q, is-tenant 3 all (ListTicks.at home busy i) (input busy i) true b);
       pos = λ j n e. absurd (true≢false e);
       neg = λ j n e. absurd (true≢false e);
-      apart = (apart 3 all (Ticks.at home quiet i) (input quiet i) true q, apart 3 all (Ticks.at home busy i) (input busy i) true b);
+      apart = (apart 3 all (ListTicks.at home quiet i) (input quiet i) true q, apart 3 all (ListTicks.at home busy i) (input busy i) true b);
     }
 
 same-3 : Undisturbed 3 100 home quiet busy

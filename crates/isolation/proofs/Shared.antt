@@ -2,17 +2,17 @@
 -- Assumes nothing.
 use Prim.Native.Nat.{ℕ, _+_, _≤_, _<_}
 use mathlib.Core.Path.{_≡_, refl, sym, ap, ap₂, _∙_}
-use mathlib.Core.Bool.{Bool, true, false, false≢true, cond, not, _&&_, _||_}
+use mathlib.Core.Bool.{Bool, true, false, cond, not, _&&_, _||_}
 use native.Mathlib.Omega.{arith}
 use borrow.Author.Tests.{ltb-true, lt-ltb, not-true}
 use lib.Dec.{eqb}
 use Rattle.bits.specs.Bits.{bit, bitsOf, fits}
 use Rattle.bits.proofs.BitLaws.{bit-bitsOf}
 use Rattle.bits.proofs.IndexLaws.{and-true}
-use Rattle.laws.proofs.Cases.{by-kind, by-single, by-field}
-use Rattle.laws.proofs.Named.{named-is, committed-target}
-use Rattle.laws.proofs.RegisterFile.{accepted-in-map, stores-accepted, acted-other, acted-value}
-use Rattle.laws.proofs.StageFile.{in-most, acted-stage}
+use Rattle.laws.proofs.Map.Cases.{by-kind, by-single, by-field, never}
+use Rattle.laws.proofs.Map.Named.{named-is, committed-target}
+use Rattle.laws.proofs.Access.RegisterFile.{accepted-in-map, stores-accepted, acted-other, acted-value}
+use Rattle.laws.proofs.Stages.StageFile.{in-most, acted-stage}
 use Rattle.laws.specs.InMap.{inMap}
 use Rattle.laws.specs.RegisterFile.{singleTarget, singleStored, target, newValue, writes, stores, commits}
 use Rattle.laws.specs.StageFile.{names, stageBy}
@@ -29,9 +29,6 @@ use Rattle.rules.specs.declared.Register.{Register}
 use Rattle.rules.specs.declared.Register.the-variants.{Only, Local, Alert, Block, Unassigned}
 use Rattle.rules.specs.declared.Single.the-variants.{IntrState, IntrEnable}
 use Rattle.rules.specs.declared.Verdict.{Verdict}
-
-never : {A : Type 0} → false ≡ true → A
-never e = absurd (false≢true e)
 
 -- ── what the owner's class depends on beside its block ──
 

@@ -8,10 +8,10 @@ use native.Mathlib.Omega.{arith}
 use borrow.Author.Tests.{lt-ltb, not-true}
 use Rattle.bits.specs.Bits.{bit}
 use Rattle.bits.proofs.IndexLaws.{and-true}
-use Rattle.laws.proofs.Arming.{acted-armed}
-use Rattle.laws.proofs.Named.{named-is, committed-target, alert-target}
-use Rattle.laws.proofs.RegisterFile.{acted-n}
-use Rattle.laws.proofs.StageFile.{in-most, stage-other}
+use Rattle.laws.proofs.Samples.Arming.{acted-armed}
+use Rattle.laws.proofs.Map.Named.{named-is, committed-target, alert-target}
+use Rattle.laws.proofs.Access.RegisterFile.{acted-n}
+use Rattle.laws.proofs.Stages.StageFile.{in-most, stage-other}
 use Rattle.laws.specs.RegisterFile.{target, newValue, commits}
 use Rattle.laws.specs.StageFile.{names}
 use Rattle.rules.specs.Access.{value, named, acted}
@@ -28,7 +28,7 @@ use Rattle.rules.specs.declared.Single.the-variants.{IntrState, IntrEnable}
 use Rattle.isolation.specs.Owner.{mayName, leavesBits, byTenant}
 use Rattle.isolation.specs.OwnAccess.{changesState, changesEnable}
 use Rattle.isolation.proofs.Shared.{Shared, f-small, still, same-view, new-bit, new-enable, same-staged}
-use Rattle.isolation.proofs.Tick.{changed}
+use Rattle.isolation.proofs.TickEqual.{changed}
 
 -- ── the tenant's access ──
 

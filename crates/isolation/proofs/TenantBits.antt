@@ -6,8 +6,8 @@ use mathlib.Core.Path.{_≡_, refl, sym, ap, ap₂, _∙_}
 use mathlib.Core.Bool.{Bool, true, false, cond, not, _&&_, _||_, and-false, and-true, or-false}
 use Rattle.bits.specs.Bits.{bit}
 use Rattle.bits.proofs.BitLaws.{bit-bitsOf}
-use Rattle.laws.proofs.RegisterFile.{acted-other, acted-value}
-use Rattle.laws.proofs.ValidLaws.{facts}
+use Rattle.laws.proofs.Access.RegisterFile.{acted-other, acted-value}
+use Rattle.laws.proofs.Valid.ValidLaws.{facts}
 use Rattle.laws.specs.RegisterFile.{newValue, stores, commits}
 use Rattle.rules.specs.Access.{value, acted}
 use Rattle.rules.specs.Map.{decode, numberOf}

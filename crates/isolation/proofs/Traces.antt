@@ -8,8 +8,8 @@ use native.Mathlib.Nat.{le-of-suc-le-suc, not-suc-le-zero}
 use native.Mathlib.Omega.{arith}
 use lib.ListN.{getD, length}
 use Rattle.bits.specs.Bits.{bit}
-use Rattle.escalation.proofs.Ticks
-use Rattle.escalation.proofs.Ticks.{input}
+use Rattle.escalation.proofs.ListTicks
+use Rattle.escalation.proofs.ListTicks.{input}
 use Rattle.escalation.specs.List.{noInput}
 use Rattle.rules.specs.Run.{run}
 use Rattle.rules.specs.Stages.{classStages}
@@ -48,7 +48,7 @@ module _ {A : Type 0} (view : Handler → Input → A) where
   length-along h [] = refl
   length-along h (x ∷ xs) = ap suc (length-along (ticked h x .handler) xs)
 
-  pub along-at : (h : Handler) (xs : List Input) (i : ℕ) (d : A) → i < length xs → getD (along view h xs) i d ≡ view (Ticks.at h xs i) (input xs i)
+  pub along-at : (h : Handler) (xs : List Input) (i : ℕ) (d : A) → i < length xs → getD (along view h xs) i d ≡ view (ListTicks.at h xs i) (input xs i)
   unfolding along run
   along-at h [] i d l = absurd (not-suc-le-zero l)
   along-at h (x ∷ xs) zero d l = refl
@@ -59,7 +59,7 @@ module _ {A : Type 0} (view : Handler → Input → A) where
     one-length = sym (length-along h xs) ∙ ap length e ∙ length-along f ys
 
     -- equal lists are equal in each tick
-    same-at : (i : ℕ) → i < length xs → view (Ticks.at h xs i) (input xs i) ≡ view (Ticks.at f ys i) (input ys i)
+    same-at : (i : ℕ) → i < length xs → view (ListTicks.at h xs i) (input xs i) ≡ view (ListTicks.at f ys i) (input ys i)
     same-at i l =
         let d : A = view h noInput in
         sym (along-at h xs i d l) ∙ ap (λ (vs : List A). getD vs i d) e ∙ along-at f ys i d (let n = one-length in omega arith)

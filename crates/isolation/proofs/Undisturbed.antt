@@ -1,6 +1,6 @@
 -- Request (x), for the owner: from one state, and with all else equal, the tenant does not move the owner's class.
 -- Assumes nothing.
-use Prim.Native.Nat.{ℕ, _*_, zero, suc, _-_, _≤_, _<_}
+use Prim.Native.Nat.{ℕ, zero, suc, _-_, _≤_, _<_}
 use mathlib.Core.Path.{_≡_, refl, sym, ap, ap₂, _∙_}
 use mathlib.Core.Logic.{_⊎_, inl, inr}
 use mathlib.Core.Bool.{Bool, true, false, cond, _&&_, _||_, xor}
@@ -13,16 +13,16 @@ use Rattle.bits.specs.Bits.{bit}
 use Rattle.bits.specs.Index.{anyTo, placeIn}
 use Rattle.bits.proofs.IndexLaws.{any-ext}
 use Rattle.class_rules.specs.Step.{classEvent, starts}
-use Rattle.escalation.proofs.Ticks
-use Rattle.escalation.proofs.Ticks.{input, at-next}
+use Rattle.escalation.proofs.ListTicks
+use Rattle.escalation.proofs.ListTicks.{input, at-next}
 use Rattle.escalation.specs.List.{IsTick, before, inputAt}
-use Rattle.laws.proofs.Arming.{happens-in, after-armed}
-use Rattle.laws.proofs.Cases.{by-kind}
-use Rattle.laws.proofs.Frame.{after-still, after-stage, after-n}
-use Rattle.laws.proofs.InterruptBits.{after-enable}
-use Rattle.laws.proofs.Raises.{no-local}
-use Rattle.laws.proofs.RegisterFile.{acted-n}
-use Rattle.laws.proofs.ValidLaws.{facts}
+use Rattle.laws.proofs.Samples.Arming.{happens-in, after-armed}
+use Rattle.laws.proofs.Map.Cases.{by-kind}
+use Rattle.laws.proofs.Tick.Frame.{after-still, after-stage, after-n}
+use Rattle.laws.proofs.Tick.InterruptBits.{after-enable}
+use Rattle.laws.proofs.Samples.Raises.{no-local}
+use Rattle.laws.proofs.Access.RegisterFile.{acted-n}
+use Rattle.laws.proofs.Valid.ValidLaws.{facts}
 use Rattle.laws.specs.Block.{ofBlock}
 use Rattle.rules.specs.Access.{value, named, acted}
 use Rattle.rules.specs.Map.{decode, fieldRow}
@@ -47,7 +47,7 @@ use Rattle.isolation.proofs.Isolated.{isolation, by-index}
 use Rattle.isolation.proofs.Own.{both, same-acted}
 use Rattle.isolation.proofs.Shared.{Shared, f-small}
 use Rattle.isolation.proofs.Tenant.{may-name, shared-acted}
-use Rattle.isolation.proofs.Tick.{Equal, equal-read, equal-met, equal-after}
+use Rattle.isolation.proofs.TickEqual.{Equal, equal-read, equal-met, equal-after}
 
 -- ── step 1: the tenant's access names no register of class k's block ──
 
@@ -196,17 +196,17 @@ module _ (k : ℕ) (his : ℕ → Bool) (g : Handler) (x : Input) (f : Handler) 
 module _ (k : ℕ) (his : ℕ → Bool) (first : ℕ) (h : Handler) (xs ys : List Input) (l : k < classCount) (v : valid h ≡ true) (n : length xs ≡ length ys)
     (t : OnlyTenant k his first h xs ys) where
   abbrev Both : ℕ → Type 0
-  Both i = Shared k his (Ticks.at h xs i) (Ticks.at h ys i) × Equal k (Ticks.at h xs i) (Ticks.at h ys i)
+  Both i = Shared k his (ListTicks.at h xs i) (ListTicks.at h ys i) × Equal k (ListTicks.at h xs i) (ListTicks.at h ys i)
 
-  but-at : (i : ℕ) → i < length xs → ButTenant k his (Ticks.at h xs i) (input xs i) (Ticks.at h ys i) (input ys i)
-  but-at = by-index first xs (λ i. ButTenant k his (Ticks.at h xs i) (input xs i) (Ticks.at h ys i) (input ys i)) t
+  but-at : (i : ℕ) → i < length xs → ButTenant k his (ListTicks.at h xs i) (input xs i) (ListTicks.at h ys i) (input ys i)
+  but-at = by-index first xs (λ i. ButTenant k his (ListTicks.at h xs i) (input xs i) (ListTicks.at h ys i) (input ys i)) t
 
   step : (i : ℕ) → i < length xs → Both i
-      → Shared k his (after (Ticks.at h xs i) (input xs i)) (after (Ticks.at h ys i) (input ys i))
-      × Equal k (after (Ticks.at h xs i) (input xs i)) (after (Ticks.at h ys i) (input ys i))
+      → Shared k his (after (ListTicks.at h xs i) (input xs i)) (after (ListTicks.at h ys i) (input ys i))
+      × Equal k (after (ListTicks.at h xs i) (input xs i)) (after (ListTicks.at h ys i) (input ys i))
   step i m p = (
-    shared-after k his (Ticks.at h xs i) (input xs i) (Ticks.at h ys i) (input ys i) l (p .0) (p .1) (but-at i m),
-    tick-equal k his (Ticks.at h xs i) (input xs i) (Ticks.at h ys i) (input ys i) l (p .0) (p .1) (but-at i m),
+    shared-after k his (ListTicks.at h xs i) (input xs i) (ListTicks.at h ys i) (input ys i) l (p .0) (p .1) (but-at i m),
+    tick-equal k his (ListTicks.at h xs i) (input xs i) (ListTicks.at h ys i) (input ys i) l (p .0) (p .1) (but-at i m),
   )
 
   both-at : (i : ℕ) → i ≤ length xs → Both i
@@ -224,7 +224,7 @@ module _ (k : ℕ) (his : ℕ → Bool) (first : ℕ) (h : Handler) (xs ys : Lis
         same-stages = refl;
         same-bit = refl;
         same-tick = λ j m. let i : ℕ = j - first in let p = both-at i (omega (arith, m .from, m .to)) in
-            tick-alike k his (Ticks.at h xs i) (input xs i) (Ticks.at h ys i) (input ys i) l (p .0) (p .1) (t j m);
+            tick-alike k his (ListTicks.at h xs i) (input xs i) (ListTicks.at h ys i) (input ys i) l (p .0) (p .1) (t j m);
       }
 
   alike-enable : AlikeEnable k first h xs h ys
@@ -232,13 +232,13 @@ module _ (k : ℕ) (his : ℕ → Bool) (first : ℕ) (h : Handler) (xs ys : Lis
       record {
         same-enable = refl;
         same-change = λ j m. let i : ℕ = j - first in let p = both-at i (omega (arith, m .from, m .to)) in
-            change-enable k his (Ticks.at h xs i) (input xs i) (Ticks.at h ys i) (input ys i) l (p .0) (p .1) (t j m);
+            change-enable k his (ListTicks.at h xs i) (input xs i) (ListTicks.at h ys i) (input ys i) l (p .0) (p .1) (t j m);
       }
 
   start : (j : ℕ) → IsTick first xs j → startsIn k (before first h xs j) (inputAt first xs j) ≡ startsIn k (before first h ys j) (inputAt first ys j)
   start j m =
       let i : ℕ = j - first in let p = both-at i (omega (arith, m .from, m .to)) in
-      tick-starts k his (Ticks.at h xs i) (input xs i) (Ticks.at h ys i) (input ys i) l (p .0) (p .1) (t j m)
+      tick-starts k his (ListTicks.at h xs i) (input xs i) (ListTicks.at h ys i) (input ys i) l (p .0) (p .1) (t j m)
 
 -- the claim of specs/Owner.antt, of every accepted state and every two lists of one length
 pub undisturbed : (k : ℕ) (his : ℕ → Bool) (first : ℕ) (h : Handler) (xs ys : List Input)

@@ -2,7 +2,7 @@
 -- bits, and what is then equal. A corollary that says less, or asks the tenant or the station for more, does not give it.
 -- Assumes nothing.
 use Prim.Native.Nat.{ℕ, _<_}
-use mathlib.Core.Path.{_≡_, refl, sym, ap, ap₂, _∙_}
+use mathlib.Core.Path.{_≡_, refl, sym, ap, ap₂}
 use mathlib.Core.Logic.{_⊎_, inl, inr}
 use mathlib.Core.Bool.{Bool, true, false, not, _&&_, xor}
 use mathlib.Core.List.{List}
@@ -12,7 +12,7 @@ use lib.ListN.{length}
 use Rattle.bits.specs.Bits.{bit}
 use Rattle.class_rules.specs.Step.{starts}
 use Rattle.escalation.specs.List.{IsTick, before, inputAt, givenAt, classRead}
-use Rattle.laws.proofs.Cases.{by-kind, by-single}
+use Rattle.laws.proofs.Map.Cases.{by-kind, by-single}
 use Rattle.laws.specs.Block.{ofBlock}
 use Rattle.rules.specs.Access.{named, acted}
 use Rattle.rules.specs.Samples.{positive, negative}
@@ -28,7 +28,7 @@ use Rattle.rules.specs.declared.Register.the-variants.{Only, Alert, Block}
 use Rattle.rules.specs.declared.Setting.{Setting}
 use Rattle.isolation.specs.Owner.{mayName, byTenant, Apart, ButTenant, OnlyTenant, Undisturbed}
 use Rattle.isolation.proofs.Undisturbed.{undisturbed}
-use Rattle.isolation.proofs.Whole.{shown, shown-same}
+use Rattle.isolation.proofs.WholeIsolation.{shown, shown-same}
 
 -- ── the tenant's access a to the state g: it names no register of block k, of alerts only his own, and leaves class k's interrupt bits ──
 

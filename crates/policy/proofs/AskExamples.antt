@@ -1,6 +1,6 @@
 -- One access of a boot, and a boot that does not begin, by computation: what goes on, what stops, and the state that is given.
 -- Assumes nothing.
-use Prim.Native.Nat.{ℕ, _-_}
+use Prim.Native.Nat.{ℕ}
 use mathlib.Core.Path.{_≡_, refl}
 use mathlib.Core.Bool.{Bool, true, false}
 use mathlib.Core.List.{[], _∷_}

@@ -8,7 +8,7 @@ use lib.Dec.{eqb}
 use lib.ListN.{getD, length, List·getD-eq-default}
 use Rattle.class_rules.specs.Class.{noClass}
 use Rattle.class_rules.specs.declared.Class.{Class}
-use Rattle.laws.proofs.Cases.{by-setting}
+use Rattle.laws.proofs.Map.Cases.{by-setting}
 use Rattle.bits.specs.Bits.{bit}
 use Rattle.rules.specs.Access.{settingValue, locksSilly}
 use Rattle.rules.specs.Map.{offset}

@@ -5,13 +5,12 @@ use mathlib.Core.Path.{_≡_, refl, sym, ap, _∙_}
 use mathlib.Core.Bool.{Bool, true, false, cond, not}
 use mathlib.Core.List.{List}
 use native.Mathlib.Omega.{arith}
-use native.Mathlib.Decide.{ℕ-discrete}
 use lib.Dec.{eqb}
 use lib.ListN.{getD, length, List·getD-eq-default}
 use borrow.Author.Tests.{eq-eqb, ne-eqb}
 use Rattle.bits.proofs.IndexLaws.{is-each, each-ext}
-use Rattle.laws.proofs.Cases.{by-field, by-setting}
-use Rattle.laws.proofs.StageLaws.{store-stages}
+use Rattle.laws.proofs.Map.Cases.{by-field, by-setting}
+use Rattle.laws.proofs.Stages.StageLaws.{store-stages}
 use Rattle.rules.specs.Access.{store, isFirst, written}
 use Rattle.rules.specs.Map.{fieldBits, offset}
 use Rattle.rules.specs.Stages.{settingStage, noClassStages, stage, withSettingStage, withStage, staged, dropped}
@@ -23,6 +22,7 @@ use Rattle.rules.specs.declared.Register.{Register}
 use Rattle.rules.specs.declared.Setting.{Setting}
 use Rattle.rules.specs.declared.Setting.the-variants.{PhaseCyc}
 use Rattle.rules.specs.declared.Stages.{Stages}
+use Rattle.register_file.proofs.Stores.{phase-other, phase-shifted}
 
 -- ── a class's block ──
 
@@ -49,18 +49,8 @@ module _ (v : ℕ) (c : ClassStages) where
   pub put-phase : (p : ℕ) → withLengths c (put 4 (c .lengths) 0 p v) ≡ withSettingStage (PhaseCyc p) v c
   unfolding put
   put-phase p =
-      simp (other 6 (omega arith), other 1 (omega arith), other 5 (omega arith))
-      (ap (withLengths c) (each-ext 4 _ _ 0 (λ j h. ap (λ (t : Bool). cond t v (getD (c .lengths) j 0)) (shifted j))))
-    where
-      other : (m : ℕ) → m < 7 → eqb (7 + p) m ≡ false
-      other m h = ne-eqb (7 + p) m (λ e. omega arith)
-
-      shifted : (j : ℕ) → eqb j p ≡ eqb (7 + p) (7 + j)
-      shifted j = go (ℕ-discrete j p)
-        where
-          go : Dec (j ≡ p) → eqb j p ≡ eqb (7 + p) (7 + j)
-          go (yes e) = eq-eqb j p e ∙ sym (eq-eqb (7 + p) (7 + j) (omega arith))
-          go (no e) = ne-eqb j p e ∙ sym (ne-eqb (7 + p) (7 + j) (λ (d : 7 + p ≡ 7 + j). e (omega arith)))
+      simp (phase-other p 6 (omega arith), phase-other p 1 (omega arith), phase-other p 5 (omega arith))
+      (ap (withLengths c) (each-ext 4 _ _ 0 (λ j h. ap (λ (t : Bool). cond t v (getD (c .lengths) j 0)) (phase-shifted p j))))
 
 -- no code of a register of an alert or a local alert is over 4
 pub code-small : (f : Field) (c : ℕ) → c ≤ 2 ^ fieldBits f → c < 5

@@ -17,7 +17,7 @@ use Rattle.bits.proofs.BitLaws.{bit-and, bit-or, bit-not, bit-mod, is-bitsOf}
 use Rattle.bits.proofs.IndexLaws.{set-each, is-each, each-ext}
 use Rattle.class_rules.specs.Class.{phaseCyc}
 use Rattle.class_rules.specs.declared.Class.{Class}
-use Rattle.laws.proofs.Cases.{by-field}
+use Rattle.laws.proofs.Map.Cases.{by-field}
 use Rattle.rules.specs.Access.{withSetting}
 use Rattle.rules.specs.Map.{fieldBits, offset}
 use Rattle.rules.specs.State.{put}
@@ -69,6 +69,17 @@ withLengths c ls =
       state = c .state;
     }
 
+-- the offset of a length is no other register's, and moves with the phase
+pub phase-other : (p m : ℕ) → m < 7 → eqb (7 + p) m ≡ false
+phase-other p m h = ne-eqb (7 + p) m (λ e. omega arith)
+
+pub phase-shifted : (p j : ℕ) → eqb j p ≡ eqb (7 + p) (7 + j)
+phase-shifted p j = go (ℕ-discrete j p)
+  where
+    go : Dec (j ≡ p) → eqb j p ≡ eqb (7 + p) (7 + j)
+    go (yes e) = eq-eqb j p e ∙ sym (eq-eqb (7 + p) (7 + j) (omega arith))
+    go (no e) = ne-eqb j p e ∙ sym (ne-eqb (7 + p) (7 + j) (λ (d : 7 + p ≡ 7 + j). e (omega arith)))
+
 module _ (v : ℕ) (c : Class) where
   -- a store at a register that is no length keeps the lengths
   pub set-register : (s : Setting) → length (c .lengths) ≡ 4 → ((p : ℕ) → p < 4 → offset s ≡ 7 + p → ⊥)
@@ -81,18 +92,8 @@ module _ (v : ℕ) (c : Class) where
   pub set-phase : (p : ℕ) → withLengths c (put 4 (c .lengths) 0 p v) ≡ withSetting (PhaseCyc p) v c
   unfolding put
   set-phase p =
-      simp (other 6 (omega arith), other 1 (omega arith), other 5 (omega arith), other 0 (omega arith), other 2 (omega arith))
-      (ap (withLengths c) (each-ext 4 _ _ 0 (λ j h. ap (λ (t : Bool). cond t v (phaseCyc c j)) (shifted j))))
-    where
-      other : (m : ℕ) → m < 7 → eqb (7 + p) m ≡ false
-      other m h = ne-eqb (7 + p) m (λ e. omega arith)
-
-      shifted : (j : ℕ) → eqb j p ≡ eqb (7 + p) (7 + j)
-      shifted j = go (ℕ-discrete j p)
-        where
-          go : Dec (j ≡ p) → eqb j p ≡ eqb (7 + p) (7 + j)
-          go (yes e) = eq-eqb j p e ∙ sym (eq-eqb (7 + p) (7 + j) (omega arith))
-          go (no e) = ne-eqb j p e ∙ sym (ne-eqb (7 + p) (7 + j) (λ (d : 7 + p ≡ 7 + j). e (omega arith)))
+      simp (phase-other p 6 (omega arith), phase-other p 1 (omega arith), phase-other p 5 (omega arith), phase-other p 0 (omega arith), phase-other p 2 (omega arith))
+      (ap (withLengths c) (each-ext 4 _ _ 0 (λ j h. ap (λ (t : Bool). cond t v (phaseCyc c j)) (phase-shifted p j))))
 
 -- no register of an alert or a local alert has more than 2 bits
 pub field-small : (f : Field) (v : ℕ) → v < 2 ^ fieldBits f → v < 4

@@ -9,8 +9,6 @@ use Rattle.rules.specs.Access.{malformed, noRegister, wrongWay, tooWide, verdic
 use Rattle.rules.specs.Stages.{dropped}
 use Rattle.rules.specs.State.{withStages}
 use Rattle.rules.specs.declared.Access.{Access}
-use Rattle.rules.specs.declared.Accessed.{Accessed}
-use Rattle.rules.specs.declared.Answer.{Answer}
 use Rattle.rules.specs.declared.Handler.{Handler}
 use Rattle.rules.specs.declared.Refusal.{Refusal}
 use Rattle.rules.specs.declared.Register.{Register}

@@ -13,7 +13,7 @@ use Rattle.trace_rules.specs.Record.{inputsOf, recordCount}
 use Rattle.trace_laws.proofs.BatchLaws.{count-append, inputs-append}
 use Rattle.trace_laws.proofs.PartLaws.{some-bytes, place-add}
 use Rattle.replay.specs.Rest.{Kept, restOf}
-use Rattle.replay.proofs.Whole.{inputs-whole, part-take, whole-length, wholeOf}
+use Rattle.replay.proofs.WholeRecords.{inputs-whole, part-take, whole-length, wholeOf}
 
 -- ── moved to the start ──
 

@@ -14,7 +14,7 @@ use Rattle.rules.specs.declared.Answer.{Answer}
 use Rattle.trace_rules.specs.declared.Edition.{Edition}
 use Rattle.rules.specs.declared.Made.{Made}
 use Rattle.rules.specs.declared.Refusal.the-variants.{BadCount}
-use Rattle.laws.proofs.KeepsValid.{made-valid}
+use Rattle.laws.proofs.Valid.KeepsValid.{made-valid}
 
 pub made-admits : (e : Edition) (n : ℕ) → n ≤ alerts e → admits e (made n .handler) ≡ true
 unfolding admits made newHandler

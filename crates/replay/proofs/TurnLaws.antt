@@ -17,7 +17,7 @@ use Rattle.trace_rules.specs.declared.Edition.{Edition}
 use Rattle.rules.specs.declared.Handler.{Handler}
 use Rattle.trace_laws.proofs.BatchLaws.{run-admits}
 use Rattle.trace_laws.proofs.PartLaws.{some-bytes}
-use Rattle.laws.proofs.Runs.{run-append}
+use Rattle.laws.proofs.Tick.Runs.{run-append}
 use Rattle.replay.specs.Rest.{Ran, Turned, restOf}
 use Rattle.replay.proofs.RestLaws.{inputs-behind, rest-behind}
 

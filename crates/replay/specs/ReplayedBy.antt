@@ -9,7 +9,7 @@ use Rattle.trace_rules.specs.declared.Edition.{Edition}
 use Rattle.rules.specs.declared.Handler.{Handler}
 use Rattle.trace_rules.specs.Word.{wordOf}
 use Rattle.trace_rules.specs.Record.{inputsOf, recordCount}
-use Rattle.text.specs.Lines.{linesOf}
+use Rattle.text.specs.HexLines.{linesOf}
 use Rattle.replay.specs.declared.records.Replayed.{Replayed}
 
 -- the state after the records' ticks, the count of the text's bytes, and the buffer, which has the lines of the ticks' words and then

@@ -1,6 +1,6 @@
 pub mod Pairs
-pub mod Words
+pub mod FilledWords
 pub mod Hearing
-pub mod Steps
-pub mod Quiets
-pub mod Masks
+pub mod SampleSteps
+pub mod QuietSamples
+pub mod LocalMasks

@@ -7,7 +7,7 @@ use native.Mathlib.Omega.{arith}
 use lib.Bits.{bitAnd, bitOr, bitXor, and-le-r, xor-lt}
 use Rattle.bits.specs.Bits.{place}
 use Rattle.bits.proofs.BitLaws.{bit-and, bit-or, bit-xor, not64}
-use Rattle.bits.proofs.Table.{by4}
+use Rattle.bits.proofs.TruthTables.{by4}
 use Rattle.rules.specs.Samples.{armedAfter, happens, equal}
 
 -- the same of one alert: a is re-armed, (p, q) its wires, l whether it counts

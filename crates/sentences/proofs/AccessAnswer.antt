@@ -5,7 +5,7 @@ use mathlib.Core.Path.{_≡_, refl, sym, ap, _∙_}
 use mathlib.Core.Logic.{_↔_, Iff·trans}
 use native.Mathlib.Omega.{arith}
 use lib.IntN.{pos, negℤ, negℤ-negℤ}
-use Rattle.laws.proofs.Step1.{answer-accepted}
+use Rattle.laws.proofs.Access.Step1.{answer-accepted}
 use Rattle.rules.specs.Access.{value, verdict, given, accessedBy, accessed, answerTo}
 use Rattle.rules.specs.Answer.{refusalNumber, number}
 use Rattle.rules.specs.Map.{decode}

@@ -11,12 +11,12 @@ use Rattle.class_rules.specs.Class.{noClass}
 use Rattle.class_rules.specs.declared.Class.{Class}
 use Rattle.laws.specs.Block.{classStored}
 use Rattle.laws.specs.RegisterFile.{storedBy}
-use Rattle.laws.proofs.Cases.{pick, by-kind, by-field}
-use Rattle.laws.proofs.ColumnLaws.{local-column, alert-column}
-use Rattle.laws.proofs.RegisterFile.{class-stored}
-use Rattle.laws.proofs.StageFile.{stages-either}
-use Rattle.laws.proofs.StageLaws.{class-put}
-use Rattle.laws.proofs.Step1.{acted-but-stages}
+use Rattle.laws.proofs.Map.Cases.{pick, by-kind, by-field}
+use Rattle.laws.proofs.State.ColumnLaws.{local-column, alert-column}
+use Rattle.laws.proofs.Access.RegisterFile.{class-stored}
+use Rattle.laws.proofs.Stages.StageFile.{stages-either}
+use Rattle.laws.proofs.Stages.StageLaws.{class-put}
+use Rattle.laws.proofs.Access.Step1.{acted-but-stages}
 use Rattle.rules.specs.Access.{fieldStored, store, withSetting, acted, named}
 use Rattle.rules.specs.Stages.{localStages, alertStages, noClassStages, isOpen, classStages, withSettingStage, withStage, dropped}
 use Rattle.rules.specs.State.{put, fieldIndex, local, alert, classAt, localColumn, alertColumn, withStages, resetClass, newHandler}

@@ -1,6 +1,6 @@
 -- What step 1 of the rules hands to the later steps satisfies the sentences.
 -- Assumes nothing.
-use Prim.Native.Nat.{ℕ, zero, suc, _+_, _^_, _≤_, _<_}
+use Prim.Native.Nat.{ℕ, zero, suc, _^_, _≤_, _<_}
 use mathlib.Core.Path.{_≡_, refl, sym, ap, _∙_, subst}
 use mathlib.Core.Logic.{_↔_}
 use mathlib.Core.Bool.{Bool, true, false, cond, _&&_}
@@ -10,17 +10,18 @@ use lib.Dec.{eqb, ltb}
 use Rattle.bits.proofs.BitLaws.{bit-none, bitsOf-lt}
 use Rattle.bits.proofs.IndexLaws.{and-true, true-and}
 use Rattle.bits.specs.Bits.{bit}
-use Rattle.laws.proofs.Step1.{clears-if, cleared-lt}
-use Rattle.rules.specs.Access.{verdict, accepted, settingIsClr, isClrOf, writesClr, accessedBy, accessed, effects, clears}
+use Rattle.laws.proofs.Map.Cases.{never}
+use Rattle.laws.proofs.Access.Clears.{is-clr}
+use Rattle.laws.proofs.Access.Step1.{clears-if, cleared-lt}
+use Rattle.rules.specs.Access.{verdict, accepted, isClrOf, writesClr, accessedBy, accessed, effects, clears}
 use Rattle.rules.specs.Answer.{refusalNumber}
 use Rattle.rules.specs.Map.{decode, isRegister, bits}
 use Rattle.rules.specs.declared.Access.{Access}
 use Rattle.rules.specs.declared.Access.the-variants.{Nothing, Read, Write}
 use Rattle.rules.specs.declared.Handler.{Handler}
 use Rattle.rules.specs.declared.Register.{Register}
-use Rattle.rules.specs.declared.Register.the-variants.{Only, Local, Alert, Block, Unassigned}
-use Rattle.rules.specs.declared.Setting.{Setting}
-use Rattle.rules.specs.declared.Setting.the-variants.{Ctrl, ClrRegwen, Clr, AccumCnt, AccumThresh, TimeoutCyc, PhaseCyc, EscCnt}
+use Rattle.rules.specs.declared.Register.the-variants.{Block}
+use Rattle.rules.specs.declared.Setting.the-variants.{Clr}
 use Rattle.rules.specs.declared.Verdict.{Verdict}
 use Rattle.sentences.specs.Access.{Handed}
 use Rattle.sentences.specs.AccessMap.{Row}
@@ -28,30 +29,9 @@ use Rattle.sentences.specs.AccessRefusals.{Writes, Accepted}
 use Rattle.sentences.proofs.AccessMap.{found, decode-row}
 use Rattle.sentences.proofs.AccessRefusals.{written-is}
 use Rattle.sentences.proofs.AccessVerdict.{refusalOf, is-12, accepted-is}
-use Rattle.sentences.proofs.AccessWays.{never}
-use Rattle.sentences.proofs.Cases.{and-is}
+use Rattle.sentences.proofs.SentenceCases.{and-is}
 
 -- ── accepted clears ──
-
--- the CLR of class k
-clr-is : (k : ℕ) (q : Register) → isClrOf k q ≡ true → q ≡ Block Clr k
-clr-is k (Only o) = never
-clr-is k (Local f j) = never
-clr-is k (Alert f i) = never
-clr-is k (Block s j) = λ e. let a = and-true (settingIsClr s) (eqb j k) e in ap (Block s) (eqb-true j k (a .1)) ∙ go s (a .0)
-  where
-    go : (s : Setting) → settingIsClr s ≡ true → Block s k ≡ Block Clr k
-    go Setting.Regwen = never
-    go Ctrl = never
-    go ClrRegwen = never
-    go Clr = λ e. refl
-    go AccumCnt = never
-    go AccumThresh = never
-    go TimeoutCyc = never
-    go (PhaseCyc p) = λ e. absurd (let z : 7 + p ≡ 3 = eqb-true (7 + p) 3 e in omega arith)
-    go EscCnt = never
-    go Setting.State = never
-clr-is k Unassigned = never
 
 module _ (h : Handler) (x : Access) (m : h .n ≤ 248) where
   writes-clr : (k : ℕ) → (writesClr h x k ≡ true) ↔ Writes h x (Block Clr k) 1
@@ -62,7 +42,7 @@ module _ (h : Handler) (x : Access) (m : h .n ≤ 248) where
       to (Read r) = never
       to (Write r v) = λ e.
           let a = and-true (isClrOf k (decode (h .n) r)) (eqb v 1) e in
-          let d : decode (h .n) r ≡ Block Clr k = clr-is k (decode (h .n) r) (a .0) in
+          let d : decode (h .n) r ≡ Block Clr k = is-clr k (decode (h .n) r) (a .0) in
           let t : Row (h .n) r (decode (h .n) r) (bits (decode (h .n) r)) = decode-row (h .n) r (ap isRegister d) in
           record { number = r; access = ap (Write r) (eqb-true v 1 (a .1)); names = (bits (decode (h .n) r), subst (λ (q : Register). Row (h .n) r q (bits (decode (h .n) r))) d t) }
       to Access.Malformed = never

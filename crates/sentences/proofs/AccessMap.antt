@@ -7,8 +7,8 @@ use borrow.Author.Tests.{ltb-true, lt-ltb}
 use lib.Dec.{ltb}
 use Rattle.bits.proofs.IndexLaws.{and-true, true-and}
 use Rattle.laws.specs.InMap.{inMap, settingExists}
-use Rattle.laws.proofs.Cases.{by-kind, by-single, by-field, by-setting}
-use Rattle.laws.proofs.MapLaws.{decode-number, number-decode, decode-in-map}
+use Rattle.laws.proofs.Map.Cases.{by-kind, by-single, by-field, by-setting}
+use Rattle.laws.proofs.Map.MapLaws.{decode-number, number-decode, decode-in-map}
 use Rattle.rules.specs.Access.{value}
 use Rattle.rules.specs.Map.{decode, numberOf, isRegister, bits}
 use Rattle.rules.specs.Stages.{stage, stageIn}

@@ -13,7 +13,7 @@ use Rattle.sentences.specs.Access.{AccessStep, AccessVerdict, AcceptedCl
 use Rattle.sentences.specs.AccessArrays.{Sized}
 use Rattle.sentences.proofs.AccessOnlyAnswer.{same-answer, same-effects, same-verdict}
 use Rattle.sentences.proofs.AccessOnlyState.{same-state}
-use Rattle.sentences.proofs.Cases.{same-test}
+use Rattle.sentences.proofs.SentenceCases.{same-test}
 
 pub only-access : (s t : Handler → Access → Handler) (y z : Handler → Access → ℤ) (d e : Handler → Access → Effects)
     → AccessStep s y d → AccessStep t z e → (h : Handler) (x : Access) → h .n ≤ 248 → Sized h

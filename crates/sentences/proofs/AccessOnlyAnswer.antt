@@ -17,7 +17,7 @@ use Rattle.sentences.specs.Access.{Answered, Handed, Judged}
 use Rattle.sentences.specs.AccessMap.{Names}
 use Rattle.sentences.specs.AccessRefusals.{Reads, Malformed, NoRegister, WrongWay, TooWide, SillyThreshold, Locked, Differs, Accepted}
 use Rattle.sentences.proofs.AccessCases.{both-give, both-are, no-read}
-use Rattle.sentences.proofs.Cases.{either, same-test}
+use Rattle.sentences.proofs.SentenceCases.{either, same-test}
 
 module _ (h : Handler) (x : Access) (y z : ℤ) (a : Answered h x y) (b : Answered h x z) where
   -- accepted: a read gives what its register holds, anything else 0

@@ -23,7 +23,7 @@ use Rattle.sentences.specs.AccessRefusals.{Reads, Writes, Malformed, NoR
 use Rattle.sentences.specs.AccessWrites.{Commits, Changes, Written}
 use Rattle.sentences.specs.StageWrites.{Staged}
 use Rattle.sentences.proofs.AccessCases.{same-list, no-read}
-use Rattle.sentences.proofs.Cases.{either, same-test}
+use Rattle.sentences.proofs.SentenceCases.{either, same-test}
 
 module _ (h : Handler) (x : Access) (f g : Handler) (a : Written h x f) (b : Written h x g) where
   -- ── what each register holds ──

@@ -10,6 +10,7 @@ use lib.Dec.{eqb}
 use Rattle.bits.proofs.IndexLaws.{and-true, true-and}
 use Rattle.bits.specs.Bits.{fits}
 use Rattle.class_rules.specs.Class.{en}
+use Rattle.laws.proofs.Map.Cases.{never}
 use Rattle.rules.specs.Access.{malformed, noRegister, wrongWay, tooWide, silly, sillyThreshold, locked, bars, barred, unlike, differs}
 use Rattle.rules.specs.Map.{decode, isRegister, bits, readOnly, writeOnly, isLock, offset}
 use Rattle.rules.specs.Stages.{stage, isOpen}
@@ -24,7 +25,7 @@ use Rattle.rules.specs.declared.Setting.the-variants.{Ctrl, ClrRegwen, Clr, Acc
 use Rattle.sentences.specs.AccessMap.{Row, Names, Regwen}
 use Rattle.sentences.specs.AccessRefusals.{Reads, Writes, Malformed, NoRegister, WrongWay, TooWide, SillyThreshold, Locked, Differs}
 use Rattle.sentences.proofs.AccessMap.{found, row-decodes, decode-row, row-is, code-is}
-use Rattle.sentences.proofs.AccessWays.{never, write-only-is, read-only-is, regwen-is, shut-is}
+use Rattle.sentences.proofs.AccessWays.{write-only-is, read-only-is, regwen-is, shut-is}
 
 -- 5
 pub malformed-is : (x : Access) → (malformed x ≡ true) ↔ Malformed x

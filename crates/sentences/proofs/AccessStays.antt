@@ -11,12 +11,12 @@ use Rattle.bits.proofs.IndexLaws.{and-true}
 use Rattle.laws.specs.Columns.{sameField}
 use Rattle.laws.specs.InMap.{inMap}
 use Rattle.laws.specs.RegisterFile.{stores, storedBy}
-use Rattle.laws.proofs.Arming.{acted-links}
-use Rattle.laws.proofs.Cases.{pick, by-kind, by-field}
-use Rattle.laws.proofs.Refusals.{refused-keeps}
-use Rattle.laws.proofs.RegisterFile.{accepted-in-map, stores-accepted, acted-n}
-use Rattle.laws.proofs.Step1.{acted-but-stages}
-use Rattle.laws.proofs.StateLaws.{alert-store}
+use Rattle.laws.proofs.Samples.Arming.{acted-links}
+use Rattle.laws.proofs.Map.Cases.{pick, by-kind, by-field}
+use Rattle.laws.proofs.Access.Refusals.{refused-keeps}
+use Rattle.laws.proofs.Access.RegisterFile.{accepted-in-map, stores-accepted, acted-n}
+use Rattle.laws.proofs.Access.Step1.{acted-but-stages}
+use Rattle.laws.proofs.State.StateLaws.{alert-store}
 use Rattle.rules.specs.Access.{fieldStored, store, verdict, drops, acted}
 use Rattle.rules.specs.Map.{decode}
 use Rattle.rules.specs.State.{alert}

@@ -2,8 +2,9 @@
 -- Assumes nothing.
 use mathlib.Core.Path.{_≡_, refl}
 use mathlib.Core.Logic.{_↔_}
-use mathlib.Core.Bool.{true, false, false≢true}
+use mathlib.Core.Bool.{true}
 use borrow.Author.Tests.{eqb-true, eq-eqb}
+use Rattle.laws.proofs.Map.Cases.{never}
 use Rattle.rules.specs.Access.{value, locked}
 use Rattle.rules.specs.Map.{readOnly, writeOnly, guard, isLock, isShadowed}
 use Rattle.rules.specs.declared.Field.{Field}
@@ -14,10 +15,6 @@ use Rattle.rules.specs.declared.Setting.{Setting}
 use Rattle.rules.specs.declared.Setting.the-variants.{Ctrl, ClrRegwen, Clr, AccumCnt, AccumThresh, TimeoutCyc, PhaseCyc, EscCnt}
 use Rattle.rules.specs.declared.Single.the-variants.{IntrState, IntrEnable, IntrTest}
 use Rattle.sentences.specs.AccessMap.{WriteOnly, ReadOnly, Regwen, Shut, Shadowed}
-
--- a test that is false
-pub never : {A : Type 0} → false ≡ true → A
-never e = absurd (false≢true e)
 
 pub write-only-is : (q : Register) → (writeOnly q ≡ true) ↔ WriteOnly q
 unfolding writeOnly

@@ -13,10 +13,10 @@ use Rattle.bits.specs.Bits.{bit, bitsOf}
 use Rattle.laws.specs.InMap.{inMap}
 use Rattle.laws.specs.Refusals.{Unrefused}
 use Rattle.laws.specs.RegisterFile.{target, newValue, writes, stores, commits, committed}
-use Rattle.laws.proofs.Cases.{by-kind, by-single, by-field, by-setting}
-use Rattle.laws.proofs.MapLaws.{number-eq}
-use Rattle.laws.proofs.Refusals.{unrefused}
-use Rattle.laws.proofs.RegisterFile.{accepted-in-map, stores-accepted, acted-value, acted-target, target-in-map}
+use Rattle.laws.proofs.Map.Cases.{by-kind, by-single, by-field, by-setting}
+use Rattle.laws.proofs.Map.MapLaws.{number-eq}
+use Rattle.laws.proofs.Access.Refusals.{unrefused}
+use Rattle.laws.proofs.Access.RegisterFile.{accepted-in-map, stores-accepted, acted-value, acted-target, target-in-map}
 use Rattle.rules.specs.Access.{value, accepted, isFirst, acted}
 use Rattle.rules.specs.Map.{decode, numberOf, isShadowed}
 use Rattle.rules.specs.Stages.{stage, isOpen}
@@ -35,7 +35,7 @@ use Rattle.sentences.proofs.AccessMap.{found, held-is, code-is}
 use Rattle.sentences.proofs.AccessRefusals.{written-is, write-names}
 use Rattle.sentences.proofs.AccessVerdict.{accepted-is}
 use Rattle.sentences.proofs.AccessWays.{shadowed-is}
-use Rattle.sentences.proofs.Cases.{not-is, and-is}
+use Rattle.sentences.proofs.SentenceCases.{not-is, and-is}
 
 -- a plain register is written itself and takes what is written
 plain-takes : (q : Register) → Plain q → (target q ≡ q) × ((old v : ℕ) → newValue q old v ≡ v)

@@ -15,8 +15,8 @@ use Rattle.class_rules.specs.declared.ClassState.the-variants.{Idle, Timeout, P
 use Rattle.class_rules.specs.declared.Signals.{Signals}
 use Rattle.sentences.specs.Fits.{Fits}
 use Rattle.sentences.specs.ClassStep.{Trigger, Due, Enters, Stepped, ClassStep}
-use Rattle.sentences.proofs.Cases.{by-state, by-phase, off, and-is}
-use Rattle.sentences.proofs.Words.{trigger-is, due-is}
+use Rattle.sentences.proofs.SentenceCases.{by-state, by-phase, off, and-is}
+use Rattle.sentences.proofs.SentenceWords.{trigger-is, due-is}
 
 -- the number of phase p, and what follows it
 phase-number : (p : ℕ) → p < 4 → stateNumber (phase p) ≡ 4 + p

@@ -11,7 +11,7 @@ use lib.Dec.{eqb}
 use lib.ListN.{getD}
 use Rattle.class_rules.specs.Class.{stateOf, countFits, stateFits, lengthsFit, classFits}
 use Rattle.sentences.specs.Fits.{CountFits, ClassFits}
-use Rattle.sentences.proofs.Cases.{by-state, by-phase, eq-is, most, and-then, and-is}
+use Rattle.sentences.proofs.SentenceCases.{by-state, by-phase, eq-is, most, and-then, and-is}
 
 differs : (n m : ℕ) → (not (eqb n m) ≡ true) ↔ (n ≢ m)
 differs n m = (λ t. eqb-false n m (not-true (eqb n m) t), λ e. ap not (ne-eqb n m e))

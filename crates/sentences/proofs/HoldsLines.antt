@@ -12,7 +12,7 @@ use Rattle.class_rules.specs.Class.{lineEnable, lineMap, isPhase, stateOf, driv
 use Rattle.class_rules.specs.declared.Class.{Class}
 use Rattle.class_rules.specs.declared.ClassState.the-variants.{Idle}
 use Rattle.sentences.specs.Lines.{DrivesLine, Drives}
-use Rattle.sentences.proofs.Cases.{and-is}
+use Rattle.sentences.proofs.SentenceCases.{and-is}
 
 -- a number over 7 is read as Idle, and never stands in a state that refusal 7 does not meet
 over : (m : ℕ) → 7 < m → stateOf m ≡ Idle

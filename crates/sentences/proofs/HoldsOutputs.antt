@@ -22,11 +22,11 @@ use Rattle.sentences.specs.Outputs.{ClassHasEvent, Meets, ClassesStepped
 use Rattle.sentences.specs.Samples.{RaisesFiveOrNone}
 use Rattle.sentences.specs.Raw.{classOf}
 use Rattle.sentences.specs.Valid.{Valid}
-use Rattle.sentences.proofs.Cases.{and-is, or-is, any-is, then}
+use Rattle.sentences.proofs.SentenceCases.{and-is, or-is, any-is, then}
 use Rattle.sentences.proofs.HoldsClass.{holds-class}
 use Rattle.sentences.proofs.HoldsLines.{drives-is}
 use Rattle.sentences.proofs.HoldsSamples.{hear, after2, holds-assigned}
-use Rattle.sentences.proofs.Words.{holds-event}
+use Rattle.sentences.proofs.SentenceWords.{holds-event}
 
 -- a test that is another says what the other says
 same-word : {P : Type 0} {a b : Bool} → a ≡ b → (b ≡ true) ↔ P → (a ≡ true) ↔ P

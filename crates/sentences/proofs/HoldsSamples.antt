@@ -3,7 +3,7 @@
 use Prim.Native.Nat.{ℕ, zero, suc, _+_, _*_, _≤_, _<_}
 use mathlib.Core.Path.{_≡_, refl, sym, ap, subst, _∙_}
 use mathlib.Core.Logic.{_↔_, _⊎_, ⊎-elim, Iff·rfl}
-use mathlib.Core.Bool.{Bool, true, false, false≢true, cond, not, _&&_, _||_}
+use mathlib.Core.Bool.{Bool, true, false, false≢true, cond, not, _&&_}
 use native.Mathlib.Decide.{decLt}
 use native.Mathlib.Omega.{arith}
 use borrow.Author.Tests.{lt-ltb, le-ltb}
@@ -21,12 +21,12 @@ use Rattle.rules.specs.declared.Field.{Field}
 use Rattle.rules.specs.declared.Handler.{Handler}
 use Rattle.rules.specs.declared.Heard.{Heard}
 use Rattle.rules.specs.declared.Wires.{Wires}
-use Rattle.laws.proofs.StateLaws.{alert-sampled, local-sampled}
-use Rattle.laws.proofs.Heard.{heard-armed, heard-event, heard-raise}
+use Rattle.laws.proofs.State.StateLaws.{alert-sampled, local-sampled}
+use Rattle.laws.proofs.Samples.Heard.{heard-armed, heard-event, heard-raise}
 use Rattle.sentences.specs.Valid.{Valid}
 use Rattle.sentences.specs.Raw.{positive, negative, arming}
 use Rattle.sentences.specs.Samples.{Event, AlertEnabled, EqualWires, DifferingWrite, RaisesFiveOrNone, Occurs, Sampled, SampleStep, AlertEventIs, OccursIs, AssignedIs}
-use Rattle.sentences.proofs.Cases.{off, eq-is, lt-is, not-is, and-is, or-is, any-is, then}
+use Rattle.sentences.proofs.SentenceCases.{off, eq-is, lt-is, not-is, and-is, or-is, any-is, then}
 
 -- ── the pair of wires ──
 

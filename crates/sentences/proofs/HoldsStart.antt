@@ -12,10 +12,10 @@ use Rattle.class_rules.specs.declared.Signals.{Signals}
 use Rattle.sentences.specs.Fits.{Fits}
 use Rattle.sentences.specs.ClassStep.{Trigger, Due, Enters, Stepped}
 use Rattle.sentences.specs.Start.{TriggerIs, DueIs, Reason, StartsIs, StateIs, SettingsAre}
-use Rattle.sentences.proofs.Cases.{by-state, by-phase, and-is, or-is, le-is}
+use Rattle.sentences.proofs.SentenceCases.{by-state, by-phase, and-is, or-is, le-is}
 use Rattle.sentences.proofs.HoldsClass.{stepped, starts-is, unstarted-phase}
 use Rattle.sentences.proofs.OnlyClass.{same-class}
-use Rattle.sentences.proofs.Words.{trigger-is, due-is}
+use Rattle.sentences.proofs.SentenceWords.{trigger-is, due-is}
 
 pub holds-trigger : TriggerIs trigger
 holds-trigger = trigger-is

@@ -14,15 +14,15 @@ use Rattle.rules.specs.declared.Handler.{Handler}
 use Rattle.rules.specs.declared.Input.{Input}
 use Rattle.rules.specs.declared.Ticked.{Ticked}
 use Rattle.rules.specs.declared.Verdict.{Verdict}
-use Rattle.laws.proofs.Cases.{pick}
-use Rattle.laws.proofs.KeepsAccess.{acted-valid}
-use Rattle.laws.proofs.KeepsValid.{ticked-valid}
-use Rattle.laws.proofs.Refusal7.{ticked-good, ticked-bad}
+use Rattle.laws.proofs.Map.Cases.{pick}
+use Rattle.laws.proofs.Valid.KeepsAccess.{acted-valid}
+use Rattle.laws.proofs.Valid.KeepsValid.{ticked-valid}
+use Rattle.laws.proofs.Valid.Refusal7.{ticked-good, ticked-bad}
 use Rattle.sentences.specs.Numbers.{Numbers}
 use Rattle.sentences.specs.Samples.{RaisesFiveOrNone}
 use Rattle.sentences.specs.Tick.{Runs, Refused7, Tick, Step1}
 use Rattle.sentences.specs.Valid.{Valid}
-use Rattle.sentences.proofs.Cases.{off}
+use Rattle.sentences.proofs.SentenceCases.{off}
 use Rattle.sentences.proofs.HoldsOutputs.{holds-outputs, holds-classes}
 use Rattle.sentences.proofs.HoldsSamples.{after2, holds-samples}
 use Rattle.sentences.proofs.HoldsValid.{holds-valid}

@@ -19,7 +19,7 @@ use Rattle.rules.specs.declared.Field.{Field}
 use Rattle.rules.specs.declared.Handler.{Handler}
 use Rattle.sentences.specs.Fits.{Fits}
 use Rattle.sentences.specs.Valid.{StagedUpTo, ValidIs}
-use Rattle.sentences.proofs.Cases.{le-is, most, and-is, same-test}
+use Rattle.sentences.proofs.SentenceCases.{le-is, most, and-is, same-test}
 use Rattle.sentences.proofs.HoldsFits.{holds-fits}
 
 -- every i below n

@@ -14,7 +14,7 @@ use Rattle.sentences.specs.Fits.{Fits, ClassFits}
 use Rattle.sentences.specs.ClassStep.{Lock, Trigger, Due, At, Enters, Stepped, ClassStep, ClassEvent}
 use Rattle.sentences.specs.Lines.{Drives}
 use Rattle.sentences.specs.Start.{TriggerIs, DueIs, StartsIs, StateIs, SettingsAre}
-use Rattle.sentences.proofs.Cases.{by-state, by-phase, either, same-test}
+use Rattle.sentences.proofs.SentenceCases.{by-state, by-phase, either, same-test}
 
 abbrev Same : Class → Class → Type 0
 Same d e = (d .state ≡ e .state) × (d .count ≡ e .count)

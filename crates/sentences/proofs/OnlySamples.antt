@@ -18,7 +18,7 @@ use Rattle.rules.specs.declared.Wires.{Wires}
 use Rattle.sentences.specs.Raw.{positive, negative, arming}
 use Rattle.sentences.specs.Samples.{Event, AlertEnabled, Occurs, RaisesFiveOrNone, Sampled, SampleStep, AlertEventIs, OccursIs, AssignedIs}
 use Rattle.sentences.specs.Valid.{Valid}
-use Rattle.sentences.proofs.Cases.{either, same-test}
+use Rattle.sentences.proofs.SentenceCases.{either, same-test}
 
 -- two lists of as many entries
 pub same-list : {A : Type 0} (n : ℕ) (d : A) (xs ys : List A) → length xs ≡ n → length ys ≡ n → ((i : ℕ) → i < n → getD xs i d ≡ getD ys i d) → xs ≡ ys

@@ -30,7 +30,7 @@ use Rattle.sentences.specs.Outputs.{ClassesStepped, OutputOf, Outputs}
 use Rattle.sentences.specs.Tick.{Runs, Refused7, Tick, Step1}
 use Rattle.sentences.specs.Raw.{noClass, classOf}
 use Rattle.sentences.specs.Valid.{Valid}
-use Rattle.sentences.proofs.Cases.{same-test}
+use Rattle.sentences.proofs.SentenceCases.{same-test}
 use Rattle.sentences.proofs.HoldsValid.{holds-valid}
 use Rattle.sentences.proofs.OnlyClass.{same-class}
 use Rattle.sentences.proofs.OnlySamples.{same-list, same-sampled}

@@ -8,9 +8,10 @@ use borrow.Author.Tests.{eq-eqb, ne-eqb, ltb-true, lt-ltb}
 use Rattle.bits.proofs.IndexLaws.{true-and}
 use Rattle.laws.specs.InMap.{inMap}
 use Rattle.laws.specs.StageFile.{names, stageBy}
-use Rattle.laws.proofs.MapLaws.{decode-in-map, number-eq}
-use Rattle.laws.proofs.StageFile.{in-most, acted-stage, stage-other}
-use Rattle.laws.proofs.StageLaws.{number-none}
+use Rattle.laws.proofs.Map.Named.{named-in-map}
+use Rattle.laws.proofs.Map.MapLaws.{number-eq}
+use Rattle.laws.proofs.Stages.StageFile.{in-most, acted-stage, stage-other}
+use Rattle.laws.proofs.Stages.StageLaws.{number-none}
 use Rattle.rules.specs.Access.{verdict, isFirst, named, acted}
 use Rattle.rules.specs.Map.{decode, numberOf, isRegister, bits}
 use Rattle.rules.specs.Stages.{stage}
@@ -77,13 +78,6 @@ module _ (h : Handler) (x : Access) (m : h .n ≤ 248) where
 
   -- ── every other stage ──
 
-  -- the access names a register of the map, or none
-  named-in-map : (y : Access) → isRegister (named h y) ≡ true → inMap (h .n) (named h y) ≡ true
-  named-in-map Nothing = λ e. e
-  named-in-map (Read r) = decode-in-map (h .n) r
-  named-in-map (Write r v) = decode-in-map (h .n) r
-  named-in-map Access.Malformed = λ e. e
-
   not-named : (p : Register) → inMap 248 p ≡ true → (isRegister (named h x) ≡ true → named h x ≡ p → ⊥) → code (acted h x) p ≡ code h p
   not-named p a f =
       sym (code-is (acted h x) p)
@@ -91,7 +85,7 @@ module _ (h : Handler) (x : Access) (m : h .n ≤ 248) where
       ∙ code-is h p
     where
       go : (b : Bool) → isRegister (named h x) ≡ b → numberOf (named h x) ≡ numberOf p → ⊥
-      go true d e = f d (number-eq 248 (named h x) p (omega arith) (in-most (h .n) (named h x) m (named-in-map x d)) a e)
+      go true d e = f d (number-eq 248 (named h x) p (omega arith) (in-most (h .n) (named h x) m (named-in-map h x d)) a e)
       go false d e = number-none (named h x) p d a e
 
   stage-stays : (r : ℕ) (q : Register) → Names (h .n) r q → ¬ Reads h x q → ¬ ((v : ℕ) × Writes h x q v) → code (acted h x) q ≡ code h q
@@ -110,7 +104,7 @@ module _ (h : Handler) (x : Access) (m : h .n ≤ 248) where
   stage-above : (f : Field) (i : ℕ) → h .n ≤ i → i < 248 → code (acted h x) (Alert f i) ≡ code h (Alert f i)
   stage-above f i l b =
       not-named (Alert f i) (lt-ltb i 248 b)
-      (λ d e. let o : i < h .n = ltb-true i (h .n) (ap (inMap (h .n)) (sym e) ∙ named-in-map x d) in omega arith)
+      (λ d e. let o : i < h .n = ltb-true i (h .n) (ap (inMap (h .n)) (sym e) ∙ named-in-map h x d) in omega arith)
 
   pub holds-staged : Staged h x (acted h x)
   holds-staged =

@@ -8,7 +8,7 @@ use native.Mathlib.Omega.{arith}
 use lib.ListN.{length, getD, set, take, drop, replicate, length-append, List·getD-append, List·getD-map}
 use lib.Seq.{paste, paste-suc, take-suc, take-all, take-at, drop-at, drop-drop, length-take-le}
 use Rattle.bits.specs.Fields.{total, unpack}
-use Rattle.text.specs.Lines.{digitOf, lineOf, linesOf}
+use Rattle.text.specs.HexLines.{digitOf, lineOf, linesOf}
 
 -- ── a line ──
 

@@ -3,7 +3,7 @@ ghost use mathlib.Core.Path.{_≡_};
 ghost use Prim.Native.Nat.{_+_, _*_, _<_, _≤_, min};
 ghost use lib.ListN.{length};
 ghost use lib.Seq.{paste};
-ghost use Rattle.text.specs.Lines.{digitOf, lineOf, Written};
+ghost use Rattle.text.specs.HexLines.{digitOf, lineOf, Written};
 
 // The hex digit of a number below 16, in ASCII.
 fn digit(d: u64) -> u8

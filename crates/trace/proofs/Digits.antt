@@ -1,8 +1,7 @@
--- A bit as a number, and back.
+-- A bit as a number.
 -- Assumes nothing.
 use Prim.Native.Nat.{ℕ, zero, suc, _/_, _%_, _^_, _<_}
 use mathlib.Core.Path.{_≡_, refl}
-use mathlib.Core.Bool.{Bool, true, false}
 use native.Mathlib.Nat.{mod-lt}
 use native.Mathlib.Omega.{arith}
 use lib.Dec.{eqb}
@@ -16,7 +15,3 @@ digit-num (suc (suc d)) h = absurd (omega arith)
 pub num-bit : (x k : ℕ) → num (bit x k) ≡ x / 2 ^ k % 2
 unfolding bit
 num-bit x k = digit-num (x / 2 ^ k % 2) (mod-lt (x / 2 ^ k) (omega arith))
-
-pub num-one : (b : Bool) → eqb (num b) 1 ≡ b
-num-one true = refl
-num-one false = refl

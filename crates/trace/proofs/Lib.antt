@@ -1,4 +1,4 @@
 pub mod Digits
 pub mod Records
-pub mod Words
-pub mod Wires
+pub mod WordFields
+pub mod WireBytes

@@ -20,7 +20,7 @@ use Rattle.rules.specs.declared.Access.{Access}
 use Rattle.trace_rules.specs.declared.Edition.{Edition}
 use Rattle.trace_rules.specs.declared.Edition.the-variants.{Alerts64, Alerts248}
 use Rattle.rules.specs.declared.Input.{Input}
-use Rattle.trace.specs.Parts.{wireBytes, tailBytes, headOf, fieldsOf}
+use Rattle.trace.specs.RecordParts.{wireBytes, tailBytes, headOf, fieldsOf}
 use Rattle.trace.specs.declared.record.Head.{Head}
 
 -- the n entries of a list that begin at a place

@@ -22,7 +22,7 @@ ghost use Rattle.rules.specs.Access.{malformed};
 ghost use Rattle.trace_rules.specs.Edition.{newest, recordBytes, alerts};
 ghost use Rattle.trace_rules.specs.Record as rules;
 ghost use Rattle.trace_rules.specs.Record.{accessOf, clear, accessIn, wireWords, inputOf, recordOf};
-ghost use Rattle.trace.specs.Parts.{wireBytes, headOf, fieldsOf};
+ghost use Rattle.trace.specs.RecordParts.{wireBytes, headOf, fieldsOf};
 
 // Four bytes as one number.
 fn half_at(bytes: &[u8], at: usize) -> u32

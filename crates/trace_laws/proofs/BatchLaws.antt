@@ -28,11 +28,11 @@ use Rattle.rules.specs.declared.Verdict.{Verdict}
 use Rattle.trace_rules.specs.Word.{wordOf}
 use Rattle.trace_laws.specs.Batches.{ofTicks, behind, followed}
 use Rattle.laws.specs.Above.{SameAbove}
-use Rattle.laws.proofs.Above.{run-above}
-use Rattle.laws.proofs.KeepsValid.{run-valid}
+use Rattle.laws.proofs.State.Above.{run-above}
+use Rattle.laws.proofs.Valid.KeepsValid.{run-valid}
 use Rattle.trace_laws.proofs.PartLaws.{some-bytes, part-within, count-add, place-add, rest-add}
-use Rattle.laws.proofs.Runs.{run-append, ticks-append, length-ticks}
-use Rattle.laws.proofs.ValidLaws.{facts}
+use Rattle.laws.proofs.Tick.Runs.{run-append, ticks-append, length-ticks}
+use Rattle.laws.proofs.Valid.ValidLaws.{facts}
 
 -- ── the states that an edition admits ──
 

@@ -12,13 +12,11 @@ use Rattle.trace_rules.specs.Edition.{carried64, carry}
 use Rattle.rules.specs.Map.{decode, numberOf, isRegister, singleNumber, offset, stride, classBase}
 use Rattle.rules.specs.State.{localCount, classCount, fieldIndex}
 use Rattle.trace_rules.specs.declared.Edition.the-variants.{Alerts64}
-use Rattle.rules.specs.declared.Field.{Field}
 use Rattle.rules.specs.declared.Register.{Register}
 use Rattle.rules.specs.declared.Register.the-variants.{Only, Local, Alert, Block, Unassigned}
 use Rattle.trace_laws.specs.Carry.{number64}
 use Rattle.laws.specs.InMap.{inMap, settingExists}
-use Rattle.laws.proofs.Cases.{by-field}
-use Rattle.laws.proofs.MapLaws.{single-lt, single-number, offset-lt, decode-number, number-decode, decode-in-map}
+use Rattle.laws.proofs.Map.MapLaws.{field-lt, single-lt, single-number, offset-lt, decode-number, number-decode, decode-in-map}
 
 -- ── a carried number, range by range ──
 
@@ -40,20 +38,17 @@ rest r h = rw (le-ltb r 64 (omega arith), le-ltb r 320 (omega arith), le-ltb r 3
 
 -- ── from a register to its old number, carried, and to the register ──
 
-field-small : (f : Field) → fieldIndex f < 4
-field-small f = by-field (λ f. fieldIndex f < 4) (omega arith) (omega arith) (omega arith) (omega arith) f
-
 -- an old number is carried to the register's number
 carried-number : (n : ℕ) (q : Register) → n ≤ 64 → inMap n q ≡ true → carried64 (number64 q) ≡ numberOf q
 unfolding numberOf
 carried-number n (Only o) h e = low (singleNumber o) (omega (arith, single-lt o))
 carried-number n (Local f j) h e =
     let l : j < localCount = ltb-true j localCount e in
-    let m : fieldIndex f < 4 = field-small f in
+    let m : fieldIndex f < 4 = field-lt f in
     low (16 + 8 * fieldIndex f + j) (omega arith)
 carried-number n (Alert f i) h e =
     let l : i < n = ltb-true i n e in
-    let m : fieldIndex f < 4 = field-small f in
+    let m : fieldIndex f < 4 = field-lt f in
     let r : ℕ = 64 + 64 * fieldIndex f + i in
     alerts r (omega arith) (omega arith) ∙ (let q : r / 64 ≡ 1 + fieldIndex f = omega arith in let s : r % 64 ≡ i = omega arith in omega arith)
 carried-number n (Block s k) h e =
@@ -86,10 +81,10 @@ module _ (n r : ℕ) (h : n ≤ 64) where
       alert-register (Only o) a b i e m = absurd (omega (arith, single-lt o))
       alert-register (Local f j) a b i e m =
           let l : j < localCount = ltb-true j localCount e in
-          let s : fieldIndex f < 4 = field-small f in absurd (omega arith)
+          let s : fieldIndex f < 4 = field-lt f in absurd (omega arith)
       alert-register (Alert f k) a b i e m =
           let l : k < n = ltb-true k n e in
-          let s : fieldIndex f < 4 = field-small f in omega arith
+          let s : fieldIndex f < 4 = field-lt f in omega arith
       alert-register (Block s k) a b i e m = absurd (omega arith)
       alert-register Unassigned a b i e m = absurd (false≢true i)
 
@@ -97,10 +92,10 @@ module _ (n r : ℕ) (h : n ≤ 64) where
       class-register (Only o) a b i e m = absurd (omega (arith, single-lt o))
       class-register (Local f j) a b i e m =
           let l : j < localCount = ltb-true j localCount e in
-          let s : fieldIndex f < 4 = field-small f in absurd (omega arith)
+          let s : fieldIndex f < 4 = field-lt f in absurd (omega arith)
       class-register (Alert f k) a b i e m =
           let l : k < n = ltb-true k n e in
-          let s : fieldIndex f < 4 = field-small f in absurd (omega arith)
+          let s : fieldIndex f < 4 = field-lt f in absurd (omega arith)
       class-register (Block s k) a b i e m = omega arith
       class-register Unassigned a b i e m = absurd (false≢true i)
 

@@ -1,7 +1,7 @@
 pub mod CarryLaws
 pub mod PartLaws
 pub mod BatchLaws
-pub mod AboveExamples
+pub mod BatchAboveExamples
 pub mod WireLaws
 pub mod RecordLaws
 pub mod WellFormedLaws

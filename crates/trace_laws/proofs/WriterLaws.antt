@@ -28,7 +28,7 @@ use Rattle.rules.specs.declared.Refusal.the-variants.{NoRecord, ShortBuffer}
 use Rattle.rules.specs.declared.Verdict.{Verdict}
 use Rattle.trace_laws.proofs.RecordLaws.{record-length, input-record, record-input}
 use Rattle.trace_laws.proofs.Recordable.{read-recordable, record-formed}
-use Rattle.laws.proofs.Refusals.{first-accepts}
+use Rattle.laws.proofs.Access.Refusals.{first-accepts}
 use Rattle.trace_laws.proofs.WellFormedLaws.{formed-one, none-formed, well-formed-append, inputs-none, inputs-cons, by-records}
 use Rattle.trace_laws.proofs.WireLaws.{same-shown}
 use Rattle.trace_laws.specs.Wires.{shown}

@@ -1,3 +1,3 @@
-pub mod Scenes
+pub mod TraceScenes
 pub mod TraceExamples
 pub mod WriterExamples

@@ -18,7 +18,7 @@ use Rattle.rules.specs.declared.Refusal.the-variants.{NoRegister, BadRecord}
 use Rattle.rules.specs.Scenes.{refused}
 use Rattle.trace_rules.specs.Word.{wordOf}
 use Rattle.rules.proofs.Scenes.{rules}
-use Rattle.trace_rules.proofs.Scenes.{traces}
+use Rattle.trace_rules.proofs.TraceScenes.{traces}
 
 -- ── records ──
 

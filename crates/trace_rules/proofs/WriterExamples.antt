@@ -15,7 +15,7 @@ use Rattle.trace_rules.specs.declared.Edition.the-variants.{Alerts248}
 use Rattle.rules.specs.declared.Input.{Input}
 use Rattle.rules.specs.Scenes.{refused, ones, wire, wired}
 use Rattle.rules.proofs.Scenes.{rules}
-use Rattle.trace_rules.proofs.Scenes.{traces}
+use Rattle.trace_rules.proofs.TraceScenes.{traces}
 
 -- ── one record, its bytes written out ──
 

@@ -44,7 +44,7 @@ carried64 r =
     cond (ltb r 64) r
     (cond (ltb r 320) (r / 64 * stride + r % 64) (cond (ltb r 384) (classBase + (r - 320)) (numberOf Unassigned)))
 
--- the map's own numbers. Registers 4, 5 and 6 of request (ix) are none of this edition's: once the map has them, they must not be reached from here
+-- the map's own numbers. Registers 4, 5 and 6 of request (ix) are in neither edition: once the map has them, neither must reach them
 unfoldable pub carried248 : ℕ → ℕ
 carried248 r = r
 

@@ -17,9 +17,9 @@ use Rattle.rules.specs.declared.Verdict.{Verdict}
 use Rattle.trace_rules.specs.Record.{inputsOf}
 use Rattle.trace_laws.proofs.WriterLaws.{each-wired, records-length, accepted-recordable, write-accepted, read-written, written-read, well-formed-accepted}
 use Rattle.writer.specs.Lent.{Lent, wordAt, inputAt, listOf, even, writeLent, Wrote, Numbers, ReadBack, WrittenBack}
-use Rattle.writer.specs.Parts.{unrecordableAt}
-use Rattle.writer.proofs.EntryLaws.{any-in-list, length-list}
-use Rattle.writer.proofs.KindLaws.{held}
+use Rattle.writer.specs.EntryParts.{unrecordableAt}
+use Rattle.writer.proofs.EntryLists.{any-in-list, length-list}
+use Rattle.writer.proofs.EntryKinds.{held}
 use Rattle.writer.proofs.StoreLaws.{words-fit}
 
 module _ (l : Lent) where

@@ -1,7 +1,7 @@
-pub mod KindLaws
+pub mod EntryKinds
 pub mod StoreLaws
-pub mod EntryLaws
-pub mod Outcomes
+pub mod EntryLists
+pub mod WriteOutcomes
 pub mod Back
-pub mod Examples
-pub mod PartExamples
+pub mod WriteCallExamples
+pub mod WriterPartExamples

@@ -19,7 +19,7 @@ use Rattle.trace_rules.specs.Record.{head, wires, wiresOf, accessOf, headFields
 use Rattle.rules.specs.State.{words}
 use Rattle.rules.specs.declared.Input.{Input}
 use Rattle.trace_laws.proofs.WireLaws.{wires-lt}
-use Rattle.writer.specs.Parts.{inputIn, accessWord, wordBytes, setBytes}
+use Rattle.writer.specs.EntryParts.{inputIn, accessWord, wordBytes, setBytes}
 
 -- one run of stores behind another
 pub sets-append : (l : List ℕ) (i : ℕ) (xs ys : List ℕ) → sets (sets l i xs) (i + length xs) ys ≡ sets l i (xs ++ ys)

@@ -14,7 +14,7 @@ use rules::Verdict;
 use trace::edition::ALERTS_248_BYTES;
 ghost use mathlib.Core.Path.{_≡_};
 ghost use Rattle.writer.specs.Lent.{lent, Wrote, ReadBack, WrittenBack};
-ghost use Rattle.writer.specs.Parts.{inOrder};
+ghost use Rattle.writer.specs.EntryParts.{inOrder};
 
 // 10 comes before 11.
 fn verdict_of(unrecordable: bool, short: bool) -> Verdict

@@ -11,7 +11,7 @@ ghost use Rattle.trace_rules.specs.Edition.{newest};
 ghost use Rattle.trace_rules.specs.Record.{accessOf, recordable};
 ghost use Rattle.rules.specs.State.{words};
 ghost use Rattle.writer.specs.Lent.{lent, even};
-ghost use Rattle.writer.specs.Parts.{unrecordableAt};
+ghost use Rattle.writer.specs.EntryParts.{unrecordableAt};
 
 // Whether a list has the words of as many entries: by a division, since a product may overflow.
 fn has_words(list: &[u64], count: usize) -> bool

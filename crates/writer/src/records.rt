@@ -15,7 +15,7 @@ ghost use Rattle.trace_rules.specs.Record.{accessOf, recordOf, recordable};
 ghost use Rattle.rules.specs.State.{words};
 ghost use Rattle.trace_rules.specs.Writer.{recordsOf};
 ghost use Rattle.writer.specs.Lent.{lent, wordAt, wordsAt, listOf};
-ghost use Rattle.writer.specs.Parts.{inputIn, accessWord, wordBytes, setBytes, Ready};
+ghost use Rattle.writer.specs.EntryParts.{inputIn, accessWord, wordBytes, setBytes, Ready};
 
 // 2 bits kind, 11 bits register, 19 zero bits, 32 bits value.
 fn first_word(kind: u8, register: u16, value: u32) -> u64

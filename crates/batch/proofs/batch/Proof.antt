@@ -21,7 +21,7 @@ use Rattle.rules.specs.declared.Handler.{Handler}
 use Rattle.rules.specs.declared.Refusal.the-variants.{BadState, BadLength, ShortList}
 use Rattle.trace_rules.specs.Word.{wordOf}
 use Rattle.trace_rules.specs.Record.{inputsOf, recordCount}
-use Rattle.batch.proofs.Outcomes.{seven, eight, nine, given-refusal, given-ticks}
+use Rattle.batch.proofs.BatchOutcomes.{seven, eight, nine, given-refusal, given-ticks}
 use Rattle.batch.proofs.batch.Statement.{statement}
 use Rattle.batch.proofs.batch.Tie as tie
 

@@ -8,7 +8,7 @@ use borrow.Author.Needs.{needs}
 use lib.ListN.{take, drop}
 use Rattle.trace_rules.specs.Edition.{recordBytes}
 use Rattle.trace_rules.specs.Record.{inputOf, inputsOf}
-use Rattle.handler.specs.Quiet.{ended}
+use Rattle.handler.specs.QuietTick.{ended}
 use Rattle.batch.specs.Running.{Running}
 use Rattle.batch.proofs.Running.{start, end, length-inputs, record-within, few-alerts, next-record}
 use Rattle.batch.proofs.run_records.Statement.{statement}

@@ -1,6 +1,6 @@
 -- `bar` meets its contract.
 -- Assumes nothing.
-use Rattle.installer.proofs.Parts.{bar-is}
+use Rattle.installer.proofs.AskParts.{bar-is}
 use borrow.Author.Needs.{needs}
 use Rattle.installer.proofs.bar.Statement.{statement}
 use Rattle.installer.proofs.bar.Tie as tie

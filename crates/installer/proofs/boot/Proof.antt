@@ -3,7 +3,7 @@
 use mathlib.Core.Path.{refl, sym, _∙_}
 use mathlib.Core.Bool.{true, false}
 use borrow.Author.Tests.{lt-ltb, le-ltb}
-use Rattle.installer.proofs.Parts.{boot-is}
+use Rattle.installer.proofs.AskParts.{boot-is}
 use borrow.Author.Needs.{needs}
 use Rattle.installer.proofs.boot.Statement.{statement}
 use Rattle.installer.proofs.boot.Tie as tie

@@ -1,7 +1,7 @@
 -- `install` meets its contract.
 -- Assumes nothing.
 use mathlib.Core.Path.{ap, _∙_}
-use Rattle.installer.proofs.Parts.{plan-done}
+use Rattle.installer.proofs.AskParts.{plan-done}
 use Rattle.policy.specs.Install.{install, asks}
 use Rattle.policy.specs.Plan.{planOf}
 use Rattle.policy.specs.declared.Progress.{Progress}

@@ -9,7 +9,7 @@ use lib.ListN.{length, take, length-take}
 use Rattle.trace_rules.specs.Edition.{recordBytes}
 use Rattle.trace_rules.specs.declared.Edition.{Edition}
 use Rattle.trace_rules.specs.Record.{recordCount}
-use Rattle.replay.proofs.Whole.{few-records}
+use Rattle.replay.proofs.WholeRecords.{few-records}
 use Rattle.replay.proofs.run_whole.Statement.{statement}
 use Rattle.replay.proofs.run_whole.Tie as tie
 

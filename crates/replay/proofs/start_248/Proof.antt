@@ -2,7 +2,7 @@
 -- Assumes nothing.
 use mathlib.Core.Path.{ap, _∙_}
 use Rattle.trace_laws.proofs.BatchLaws.{admits-all}
-use Rattle.laws.proofs.KeepsValid.{made-valid}
+use Rattle.laws.proofs.Valid.KeepsValid.{made-valid}
 use Rattle.rules.specs.Valid.{valid}
 use Rattle.rules.specs.declared.Made.{Made}
 use borrow.Author.Needs.{needs}

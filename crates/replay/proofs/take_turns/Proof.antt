@@ -2,7 +2,7 @@
 -- The measure is the number of turns that are left. Assumes nothing.
 use Prim.Native.Nat.{_*_}
 use mathlib.Core.List.{[]}
-use mathlib.Core.Path.{_≡_, ap, _∙_}
+use mathlib.Core.Path.{_≡_}
 use borrow.Author.Needs.{needs}
 use lib.ListN.{length}
 use Rattle.trace_rules.specs.Edition.{recordBytes}

@@ -1,7 +1,7 @@
 -- `sample` meets its contract: the facts that its calls ensure, put together.
 -- Assumes nothing.
 use borrow.Author.Needs.{needs}
-use Rattle.samples.proofs.Steps.{sampled-by}
+use Rattle.samples.proofs.SampleSteps.{sampled-by}
 use Rattle.samples.proofs.sample.Statement.{statement}
 use Rattle.samples.proofs.sample.Tie as tie
 

@@ -7,7 +7,7 @@ use Prim.Native.Nat.{ℕ, _+_, _*_, _-_, _≤_, _<_}
 use mathlib.Core.Path.{_≡_, ap}
 use mathlib.Core.List.{_++_}
 use lib.ListN.{length, take, drop}
-use Rattle.text.specs.Lines.{linesOf}
+use Rattle.text.specs.HexLines.{linesOf}
 use Rattle.text.proofs.hex_lines.Statement.{statement}
 use Rattle.text.proofs.hex_lines.Tie as tie
 

@@ -14,9 +14,9 @@ use mir.Val.{toZ, ofZ}
 use Rattle.trace_rules.specs.Edition.{newest, recordBytes}
 use Rattle.trace_rules.specs.Writer.{writeVerdict}
 use Rattle.writer.specs.Lent.{Lent, listOf, even, Wrote, ReadBack, WrittenBack}
-use Rattle.writer.specs.Parts.{Ready}
+use Rattle.writer.specs.EntryParts.{Ready}
 use Rattle.writer.proofs.Back.{contract}
-use Rattle.writer.proofs.Outcomes.{lengths, wrote-uneven, judged, wrote-refusal, ready, wrote-records}
+use Rattle.writer.proofs.WriteOutcomes.{lengths, wrote-uneven, judged, wrote-refusal, ready, wrote-records}
 use Rattle.writer.proofs.write.Statement.{statement}
 use Rattle.writer.proofs.write.Tie as tie
 

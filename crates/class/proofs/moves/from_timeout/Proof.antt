@@ -5,7 +5,7 @@ use mathlib.Core.Path.{sym, _∙_}
 use native.Mathlib.Omega.{arith}
 use borrow.Author.Needs.{needs}
 use Rattle.class_rules.specs.Step.{movedFrom}
-use Rattle.class.proofs.Waiting.{waiting}
+use Rattle.class.proofs.TimeoutRoom.{waiting}
 use Rattle.class.proofs.moves.from_timeout.Statement.{statement}
 use Rattle.class.proofs.moves.from_timeout.Tie as tie
 

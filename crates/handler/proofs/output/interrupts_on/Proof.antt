@@ -1,7 +1,7 @@
 -- `interrupts_on` is INTR_STATE and INTR_ENABLE, bit by bit.
 -- Assumes nothing.
-use Rattle.handler.specs.Outputs.{interruptsOn}
-use Rattle.handler.proofs.Masks.{and-four}
+use Rattle.handler.specs.OutputMasks.{interruptsOn}
+use Rattle.handler.proofs.ClassMasks.{and-four}
 use Rattle.handler.proofs.output.interrupts_on.Statement.{statement}
 use Rattle.handler.proofs.output.interrupts_on.Tie as tie
 

@@ -2,8 +2,8 @@
 -- Assumes nothing.
 use lib.ListN.{getD}
 use Rattle.class_rules.specs.Class.{drives, noClass}
-use Rattle.handler.specs.Outputs.{linesOn}
-use Rattle.handler.proofs.Masks.{or-four}
+use Rattle.handler.specs.OutputMasks.{linesOn}
+use Rattle.handler.proofs.ClassMasks.{or-four}
 use borrow.Author.Needs.{needs}
 use Rattle.handler.proofs.output.lines_on.Statement.{statement}
 use Rattle.handler.proofs.output.lines_on.Tie as tie

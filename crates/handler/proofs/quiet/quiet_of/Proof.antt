@@ -4,7 +4,7 @@ use mathlib.Core.Path.{_≡_}
 use borrow.Author.Needs.{needs}
 use lib.ListN.{length}
 use Rattle.rules.specs.State.{most, localCount}
-use Rattle.handler.proofs.Quiets.{quiet-tick}
+use Rattle.handler.proofs.QuietTicks.{quiet-tick}
 use Rattle.handler.proofs.quiet.quiet_of.Statement.{statement}
 use Rattle.handler.proofs.quiet.quiet_of.Tie as tie
 

@@ -1,6 +1,6 @@
 -- `step` is steps 1 to 5: the facts that its calls ensure, put together.
 -- Assumes nothing.
-use Rattle.handler.proofs.Ticks.{accessed-most, tick-by}
+use Rattle.handler.proofs.WholeTick.{accessed-most, tick-by}
 use borrow.Author.Needs.{needs}
 use Rattle.handler.proofs.tick.step.Statement.{statement}
 use Rattle.handler.proofs.tick.step.Tie as tie

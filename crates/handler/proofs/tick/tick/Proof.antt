@@ -1,7 +1,7 @@
 -- `tick` runs the tick of a valid state and refuses any other.
 -- Assumes nothing.
 use mathlib.Core.Path.{sym, _∙_}
-use Rattle.laws.proofs.ValidLaws.{facts}
+use Rattle.laws.proofs.Valid.ValidLaws.{facts}
 use Rattle.handler.proofs.Answers.{answered-good, answered-bad}
 use borrow.Author.Needs.{needs}
 use Rattle.handler.proofs.tick.tick.Statement.{statement}

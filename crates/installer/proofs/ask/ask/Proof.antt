@@ -1,7 +1,7 @@
 -- `ask` meets its contract.
 -- Assumes nothing.
 use mathlib.Core.Path.{_∙_}
-use Rattle.installer.proofs.Steps.{ask-going, ask-halted}
+use Rattle.installer.proofs.AskSteps.{ask-going, ask-halted}
 use borrow.Author.Needs.{needs}
 use Rattle.installer.proofs.ask.ask.Statement.{statement}
 use Rattle.installer.proofs.ask.ask.Tie as tie

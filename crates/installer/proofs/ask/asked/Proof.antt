@@ -2,7 +2,7 @@
 -- Assumes nothing.
 use mathlib.Core.Path.{sym, _∙_}
 use borrow.Author.Needs.{sfits-of}
-use Rattle.installer.proofs.Steps.{asked-same, asked-other}
+use Rattle.installer.proofs.AskSteps.{asked-same, asked-other}
 use borrow.Author.Needs.{needs}
 use Rattle.installer.proofs.ask.asked.Statement.{statement}
 use Rattle.installer.proofs.ask.asked.Tie as tie

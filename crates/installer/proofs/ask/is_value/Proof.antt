@@ -1,7 +1,7 @@
 -- `is_value` meets its contract.
 -- Assumes nothing.
 use borrow.Author.Needs.{needs}
-use Rattle.installer.proofs.Numbers.{same-value}
+use Rattle.installer.proofs.WantedAnswers.{same-value}
 use Rattle.installer.proofs.ask.is_value.Statement.{statement}
 use Rattle.installer.proofs.ask.is_value.Tie as tie
 

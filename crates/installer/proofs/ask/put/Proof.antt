@@ -1,6 +1,6 @@
 -- `put` meets its contract.
 -- Assumes nothing.
-use Rattle.installer.proofs.Parts.{next-ask, last-ask}
+use Rattle.installer.proofs.AskParts.{next-ask, last-ask}
 use borrow.Author.Needs.{needs}
 use Rattle.installer.proofs.ask.put.Statement.{statement}
 use Rattle.installer.proofs.ask.put.Tie as tie

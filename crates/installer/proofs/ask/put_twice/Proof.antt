@@ -1,6 +1,6 @@
 -- `put_twice` meets its contract.
 -- Assumes nothing.
-use Rattle.installer.proofs.Parts.{next-ask}
+use Rattle.installer.proofs.AskParts.{next-ask}
 use borrow.Author.Needs.{needs}
 use Rattle.installer.proofs.ask.put_twice.Statement.{statement}
 use Rattle.installer.proofs.ask.put_twice.Tie as tie

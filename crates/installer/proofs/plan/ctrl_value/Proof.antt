@@ -2,7 +2,7 @@
 -- Assumes nothing.
 use mathlib.Core.Path.{refl}
 use mathlib.Core.Bool.{true, false}
-use Rattle.installer.proofs.Parts.{ctrl-is}
+use Rattle.installer.proofs.AskParts.{ctrl-is}
 use borrow.Author.Needs.{needs}
 use Rattle.installer.proofs.plan.ctrl_value.Statement.{statement}
 use Rattle.installer.proofs.plan.ctrl_value.Tie as tie

@@ -2,7 +2,7 @@
 -- Assumes nothing.
 use mathlib.Core.Path.{refl, sym, ap₂, _∙_}
 use mathlib.Core.Bool.{_&&_}
-use Rattle.installer.proofs.Parts.{maybe, maybe-not}
+use Rattle.installer.proofs.AskParts.{maybe, maybe-not}
 use Rattle.policy.specs.Plan.{lockEntries}
 use Rattle.rules.specs.Map.{numberOf, isShadowed}
 use borrow.Author.Needs.{needs}

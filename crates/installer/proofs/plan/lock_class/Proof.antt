@@ -1,7 +1,7 @@
 -- `lock_class` meets its contract.
 -- Assumes nothing.
 use mathlib.Core.Path.{refl, sym, _∙_}
-use Rattle.installer.proofs.Parts.{maybe, maybe-not}
+use Rattle.installer.proofs.AskParts.{maybe, maybe-not}
 use Rattle.policy.specs.Plan.{classLock}
 use Rattle.rules.specs.Map.{numberOf, isShadowed}
 use borrow.Author.Needs.{needs}

@@ -3,7 +3,7 @@
 use mathlib.Core.Path.{ap, _∙_}
 use mathlib.Core.Bool.{not}
 use lib.Dec.{eqb}
-use Rattle.laws.proofs.RowLaws.{has-bits}
+use Rattle.laws.proofs.Map.RowLaws.{has-bits}
 use Rattle.rules.specs.declared.Row.{Row}
 use borrow.Author.Needs.{needs}
 use Rattle.map.proofs.column.is_register.Statement.{statement}

@@ -5,7 +5,7 @@ use mathlib.Core.Path.{sym, ap, _∙_, subst}
 use native.Mathlib.Omega.{arith}
 use native.Mathlib.Nat.{one-mul}
 use lib.Pow.{shl-exact}
-use Rattle.laws.proofs.RowLaws.{most-bits}
+use Rattle.laws.proofs.Map.RowLaws.{most-bits}
 use Rattle.rules.specs.Map.{bits}
 use Rattle.rules.specs.declared.Row.{Row}
 use borrow.Author.Needs.{needs}

@@ -5,7 +5,7 @@ use Prim.Native.Nat.{_-_}
 use mathlib.Core.Path.{ap, _∙_}
 use native.Mathlib.Omega.{arith}
 use borrow.Author.Tests.{lt-ltb}
-use Rattle.laws.proofs.MapLaws.{block-at, block-none}
+use Rattle.laws.proofs.Map.MapLaws.{block-at, block-none}
 use Rattle.rules.specs.declared.Setting.the-variants.{PhaseCyc}
 use Rattle.map.proofs.Ranges.{past, past-six}
 use Rattle.rules.specs.Map.{blockAt}

@@ -4,7 +4,7 @@ use mathlib.Core.Path.{sym, _∙_}
 use native.Mathlib.Omega.{arith}
 use Rattle.rules.specs.Map.{decode}
 use Rattle.rules.specs.declared.Field.{Field}
-use Rattle.laws.proofs.MapLaws.{decode-none, decode-local, decode-alert, decode-block}
+use Rattle.laws.proofs.Map.MapLaws.{decode-none, decode-local, decode-alert, decode-block}
 use borrow.Author.Needs.{needs}
 use Rattle.map.proofs.number.select.Statement.{statement}
 use Rattle.map.proofs.number.select.Tie as tie

@@ -1,7 +1,7 @@
 -- `links::links_after` meets its contract.
 -- Assumes nothing.
 use borrow.Author.Needs.{needs}
-use Rattle.samples.proofs.Quiets.{linked-by}
+use Rattle.samples.proofs.QuietSamples.{linked-by}
 use Rattle.samples.proofs.links.links_after.Statement.{statement}
 use Rattle.samples.proofs.links.links_after.Tie as tie
 

@@ -8,7 +8,7 @@ use borrow.Author.Needs.{needs}
 use Rattle.bits.specs.Bits.{bit}
 use Rattle.bits.proofs.WordLaws.{or-bitsOf}
 use Rattle.rules.specs.State.{localCount}
-use Rattle.samples.proofs.Masks.{low-bits, bit-2}
+use Rattle.samples.proofs.LocalMasks.{low-bits, bit-2}
 use Rattle.samples.proofs.locals.raise.Statement.{statement}
 use Rattle.samples.proofs.locals.raise.Tie as tie
 

@@ -7,7 +7,7 @@ use native.Mathlib.Omega.{arith}
 use borrow.Author.Needs.{needs}
 use Rattle.rules.specs.State.{words}
 use Rattle.samples.specs.Received.{armsAt, happensAt, equalAt}
-use Rattle.samples.proofs.Words.{Filled, filled-start, filled-step, filled-end, arms-at, happens-at, equal-at}
+use Rattle.samples.proofs.FilledWords.{Filled, filled-start, filled-step, filled-end, arms-at, happens-at, equal-at}
 use Rattle.samples.proofs.receive.receive_all.Statement.{statement}
 use Rattle.samples.proofs.receive.receive_all.Tie as tie
 

@@ -2,7 +2,7 @@
 -- Assumes nothing.
 use Prim.Native.Nat.{_+_}
 use native.Mathlib.Omega.{arith}
-use Rattle.trace.proofs.Wires.{seven-bytes}
+use Rattle.trace.proofs.WireBytes.{seven-bytes}
 use borrow.Author.Needs.{needs}
 use Rattle.trace.proofs.record.seven_at.Statement.{statement}
 use Rattle.trace.proofs.record.seven_at.Tie as tie

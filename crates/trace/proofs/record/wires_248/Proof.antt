@@ -1,6 +1,6 @@
 -- `record::wires_248` meets its contract: three words, and seven bytes.
 -- Assumes nothing.
-use Rattle.trace.proofs.Wires.{wires-248}
+use Rattle.trace.proofs.WireBytes.{wires-248}
 use borrow.Author.Needs.{needs}
 use Rattle.trace.proofs.record.wires_248.Statement.{statement}
 use Rattle.trace.proofs.record.wires_248.Tie as tie

@@ -1,6 +1,6 @@
 -- `record::wires_64` meets its contract: one word, and none for alerts from 64 up.
 -- Assumes nothing.
-use Rattle.trace.proofs.Wires.{wires-64}
+use Rattle.trace.proofs.WireBytes.{wires-64}
 use borrow.Author.Needs.{needs}
 use Rattle.trace.proofs.record.wires_64.Statement.{statement}
 use Rattle.trace.proofs.record.wires_64.Tie as tie

@@ -2,7 +2,7 @@
 -- Assumes nothing.
 use mathlib.Core.Path.{ap}
 use native.Mathlib.Omega.{arith}
-use Rattle.trace.specs.Parts.{wireBytes}
+use Rattle.trace.specs.RecordParts.{wireBytes}
 use borrow.Author.Needs.{needs}
 use Rattle.trace.proofs.record.wires_at.Statement.{statement}
 use Rattle.trace.proofs.record.wires_at.Tie as tie

@@ -1,6 +1,5 @@
 -- `bytes::put_seven` meets its contract: four bytes, and three stores.
 -- Assumes nothing.
-use native.Mathlib.Omega.{arith}
 use lib.ListN.{length-set}
 use Rattle.writer.proofs.StoreLaws.{put-seven}
 use borrow.Author.Needs.{needs}

@@ -7,7 +7,7 @@ use native.Mathlib.Numerals.{add-one}
 use borrow.Author.Needs.{needs}
 use lib.ListN.{length}
 use Rattle.bits.specs.Index.{anyTo}
-use Rattle.writer.specs.Parts.{unrecordableAt}
+use Rattle.writer.specs.EntryParts.{unrecordableAt}
 use Rattle.writer.proofs.recordable.any_unrecordable.Statement.{statement}
 use Rattle.writer.proofs.recordable.any_unrecordable.Tie as tie
 

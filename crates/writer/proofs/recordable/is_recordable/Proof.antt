@@ -2,7 +2,7 @@
 -- Assumes nothing.
 use mathlib.Core.Path.{sym}
 use native.Mathlib.Omega.{arith}
-use Rattle.writer.proofs.KindLaws.{none-recordable, read-recordable, write-recordable, other-recordable}
+use Rattle.writer.proofs.EntryKinds.{none-recordable, read-recordable, write-recordable, other-recordable}
 use Rattle.writer.proofs.recordable.is_recordable.Statement.{statement}
 use Rattle.writer.proofs.recordable.is_recordable.Tie as tie
 

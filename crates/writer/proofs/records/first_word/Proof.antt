@@ -2,7 +2,7 @@
 -- Assumes nothing.
 use native.Mathlib.Omega.{arith}
 use borrow.Author.Needs.{needs}
-use Rattle.writer.proofs.KindLaws.{held}
+use Rattle.writer.proofs.EntryKinds.{held}
 use Rattle.writer.proofs.records.first_word.Statement.{statement}
 use Rattle.writer.proofs.records.first_word.Tie as tie
 

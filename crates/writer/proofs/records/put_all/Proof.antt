@@ -10,7 +10,7 @@ use lib.Seq.{sets}
 use Rattle.trace_rules.specs.Edition.{newest}
 use Rattle.trace_rules.specs.Writer.{recordsOf}
 use Rattle.writer.specs.Lent.{listOf}
-use Rattle.writer.proofs.EntryLaws.{put-next, put-end}
+use Rattle.writer.proofs.EntryLists.{put-next, put-end}
 use Rattle.bits.proofs.IndexLaws.{none-at}
 use Rattle.writer.proofs.records.put_all.Statement.{statement}
 use Rattle.writer.proofs.records.put_all.Tie as tie

@@ -9,7 +9,7 @@ use lib.ListN.{length}
 use lib.Seq.{sets}
 use Rattle.rules.specs.State.{words}
 use Rattle.writer.specs.Lent.{wordAt}
-use Rattle.writer.specs.Parts.{wordBytes}
+use Rattle.writer.specs.EntryParts.{wordBytes}
 use Rattle.writer.proofs.StoreLaws.{put-word-next}
 use Rattle.writer.proofs.records.put_words.Statement.{statement}
 use Rattle.writer.proofs.records.put_words.Tie as tie

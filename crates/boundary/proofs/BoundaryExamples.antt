@@ -1,0 +1,150 @@
+-- Calls from outside by their numbers: kinds, wires, refusal 7 and each part of what a call gives back.
+-- Assumes nothing.
+use Prim.Native.Nat.{ℕ, _-_, _^_}
+use mathlib.Core.Path.{_≡_, refl, ap}
+use mathlib.Core.List.{List, [], _∷_, _++_, map}
+use lib.IntN.{pos, negsuc}
+use lib.ListN.{replicate}
+use Rattle.bits.specs.Fields.{unpack}
+use Rattle.batch.specs.BatchedBy.{BatchedBy}
+use Rattle.batch.specs.declared.Batched.{Batched}
+use Rattle.boundary.specs.Input.{accessBy, inputBy}
+use Rattle.class_rules.specs.declared.Class.{Class}
+use Rattle.handler.specs.Answered.{answered}
+use Rattle.handler.specs.declared.tick.Answered.{Answered}
+use Rattle.policy.specs.Plan.{boot, lifecycleOf}
+use Rattle.policy.specs.declared.Installed.{Installed}
+use Rattle.policy.specs.declared.Lifecycle.{Lifecycle}
+use Rattle.rules.proofs.Scenes.{rules, settings, zeros, station}
+use Rattle.rules.specs.Samples.{atRest}
+use Rattle.rules.specs.State.{newHandler, made, alert, classAt, resetClass, withInterrupts, withClasses}
+use Rattle.rules.specs.Tick.{ticked}
+use Rattle.rules.specs.declared.Access.{Access}
+use Rattle.trace_rules.specs.declared.Edition.{Edition}
+use Rattle.rules.specs.declared.Field.{Field}
+use Rattle.rules.specs.declared.Handler.{Handler}
+use Rattle.rules.specs.declared.Made.{Made}
+use Rattle.rules.specs.declared.Sample.{Sample}
+use Rattle.trace_rules.proofs.TraceScenes.{traces}
+
+-- ── kinds: 0 none, 1 read, 2 write, any other a malformed record; what the kind does not use is not looked at ──
+
+kinds : (map (λ (k : ℕ). accessBy k 1281 7) (0 ∷ 1 ∷ 2 ∷ 3 ∷ 4 ∷ 255 ∷ [])
+    ≡ Access.Nothing ∷ Access.Read 1281 ∷ Access.Write 1281 7 ∷ Access.Malformed ∷ Access.Malformed ∷ Access.Malformed ∷ [])
+unfolding rules traces
+kinds = refl
+
+-- ── making: r is what the call gives back ──
+
+makes : (r : Made) → r ≡ made 248 → (r .answer ≡ pos 0) × (r .handler .n ≡ 248)
+unfolding rules traces
+makes r e = (ap (λ (x : Made). x .answer) e, ap (λ (x : Made). x .handler .n) e)
+
+-- refusal 6 leaves a handler of no alerts
+too-many : (r : Made) → r ≡ made 249 → (r .answer ≡ negsuc 5) × (r .handler ≡ newHandler 0)
+unfolding rules traces
+too-many r e = (ap (λ (x : Made). x .answer) e, ap (λ (x : Made). x .handler) e)
+
+-- ── a tick: r is what the call gives back ──
+
+abbrev tick : Handler → ℕ → ℕ → ℕ → Sample → Answered
+tick h kind register value sample = answered (ticked h (inputBy kind register value sample))
+
+-- the wire of alert i in words of 64, alert 0 the highest bit of the first
+abbrev wire : ℕ → List ℕ
+wire i = unpack (replicate 4 64) (2 ^ (255 - i))
+
+-- alert i at (1,0), the others at (0,1)
+abbrev high : ℕ → Sample
+high i = record { alerts = record { pos = wire i; neg = unpack (replicate 4 64) (2 ^ 256 - 1 - 2 ^ (255 - i)) } }
+
+-- alerts 0 and 247 enabled in class 2, which has EN, all lines and threshold 0
+abbrev watching : Handler
+watching = station 248 (1 ∷ replicate 246 0 ++ 1 ∷ []) (replicate 248 2) 2 (settings 0x393D 0 0 zeros)
+
+module _ (r : Answered) where
+  -- a read of 1281, a write of 9 to INTR_ENABLE, and kind 3 with alert 0 high: refused, and the tick runs with its samples
+  reads : r ≡ tick (newHandler 1) 1 1281 0 atRest → r .answer ≡ pos 0x393C
+  unfolding rules traces answered
+  reads e = ap (λ (x : Answered). x .answer) e
+
+  writes : r ≡ tick (newHandler 1) 2 1 9 atRest → (r .answer ≡ pos 0) × (r .handler .interrupts .enable ≡ 9)
+  unfolding rules traces answered
+  writes e = (ap (λ (x : Answered). x .answer) e, ap (λ (x : Answered). x .handler .interrupts .enable) e)
+
+  malformed : r ≡ tick watching 3 0 0 (high 0) → (r .answer ≡ negsuc 4) × (alert (r .handler) Field.Cause 0 ≡ 1)
+  unfolding rules traces answered
+  malformed e = (ap (λ (x : Answered). x .answer) e, ap (λ (x : Answered). alert (x .handler) Field.Cause 0) e)
+
+  -- alert 247 has the last wire, and its event starts class 2: line 0; the sets swapped are no event of it
+  last-wire : r ≡ tick watching 0 0 0 (high 247) → (alert (r .handler) Field.Cause 247 ≡ 1) × (classAt (r .handler) 2 .state ≡ 4) × (r .output .lines ≡ 1)
+  unfolding rules traces answered
+  last-wire e = (
+    ap (λ (x : Answered). alert (x .handler) Field.Cause 247) e,
+    ap (λ (x : Answered). classAt (x .handler) 2 .state) e,
+    ap (λ (x : Answered). x .output .lines) e,
+  )
+
+  swapped : r ≡ tick watching 0 0 0 (record { alerts = record { pos = high 247 .alerts .neg; neg = high 247 .alerts .pos } }) → alert (r .handler) Field.Cause 247 ≡ 0
+  unfolding rules traces answered
+  swapped e = ap (λ (x : Answered). alert (x .handler) Field.Cause 247) e
+
+-- ── refusal 7: N is 249, every interrupt is pending and enabled, and class 0 is in Phase 0 with all lines ──
+
+abbrev driving : Class
+driving =
+    record { lengths = 9 ∷ 9 ∷ 9 ∷ 9 ∷ []; timeout = 0; count = 1; ctrl = 0x3D; accum = 0; thresh = 0; regwen = 1; clrwen = 1; state = 4 }
+
+abbrev broken : ℕ → Handler
+broken n =
+    withInterrupts (record { state = 15; enable = 15 }) (withClasses (driving ∷ replicate 3 resetClass) (newHandler n))
+
+-- the state is unchanged and the tick is not run: interrupts and lines 0, where at N = 248 they are 15 and 15
+bad-state : (r : Answered) → r ≡ tick (broken 249) 2 1 0 atRest
+    → (r .answer ≡ negsuc 6) × (r .handler ≡ broken 249) × (r .output .interrupts ≡ 0) × (r .output .lines ≡ 0)
+unfolding rules traces answered
+bad-state r e = (
+  ap (λ (x : Answered). x .answer) e,
+  ap (λ (x : Answered). x .handler) e,
+  ap (λ (x : Answered). x .output .interrupts) e,
+  ap (λ (x : Answered). x .output .lines) e,
+)
+
+good-state : (r : Answered) → r ≡ tick (broken 248) 0 0 0 atRest → (r .answer ≡ pos 0) × (r .output .interrupts ≡ 15) × (r .output .lines ≡ 15)
+unfolding rules traces answered
+good-state r e = (
+  ap (λ (x : Answered). x .answer) e,
+  ap (λ (x : Answered). x .output .interrupts) e,
+  ap (λ (x : Answered). x .output .lines) e,
+)
+
+-- ── a batch: what the call gives back, and the list that it leaves ──
+
+-- document 01's two records of N = 1, and one that writes 9 to INTR_ENABLE
+abbrev records : List ℕ
+records =
+    0x54 ∷ 0x10 ∷ replicate 14 0 ++ 0x80 ∷ replicate 7 0
+    ++ 0xbf ∷ 0xf0 ∷ replicate 14 0 ++ 0x80 ∷ replicate 7 0
+    ++ 0x80 ∷ 0x10 ∷ replicate 5 0 ++ 9 ∷ replicate 8 0 ++ 0x80 ∷ replicate 7 0
+
+module _ (r : Batched) (left : List ℕ) where
+  batched : BatchedBy Edition.Alerts64 (newHandler 1) records (7 ∷ 7 ∷ 7 ∷ 7 ∷ []) r left
+      → (r .answer ≡ pos 0) × (r .handler .interrupts .enable ≡ 9) × (left ≡ 0x393c ∷ 0x0010000000000000 ∷ 0 ∷ 7 ∷ [])
+  unfolding rules traces
+  batched b = (b .answer, ap (λ (h : Handler). h .interrupts .enable) (b .handler), b .words)
+
+  -- a list shorter than the records: 9, state and list unchanged
+  too-short : BatchedBy Edition.Alerts64 (newHandler 1) records (7 ∷ 7 ∷ []) r left → (r .answer ≡ negsuc 8) × (r .handler ≡ newHandler 1) × (left ≡ 7 ∷ 7 ∷ [])
+  unfolding rules traces
+  too-short b = (b .answer, b .handler, b .words)
+
+-- ── a boot: r is what the call gives back ──
+
+-- a number that is no lifecycle's boots PROD_END, and under 58 alerts any is refused with 13: register 0, state unchanged
+no-lifecycle : (r : Installed) → r ≡ boot (lifecycleOf 6) (newHandler 248) → r ≡ boot Lifecycle.ProdEnd (newHandler 248)
+unfolding lifecycleOf
+no-lifecycle r e = e
+
+few-alerts : (r : Installed) → r ≡ boot (lifecycleOf 1) (newHandler 57) → (r .answer ≡ negsuc 12) × (r .register ≡ 0) × (r .handler ≡ newHandler 57)
+unfolding rules traces boot
+few-alerts r e = (ap (λ (x : Installed). x .answer) e, ap (λ (x : Installed). x .register) e, ap (λ (x : Installed). x .handler) e)

@@ -1,0 +1,33 @@
+-- A tick whose access leaves the state as it is and in which no alert has an event or equal wires.
+-- Assumes nothing.
+use mathlib.Core.List.{List}
+use Rattle.class_rules.specs.declared.Class.{Class}
+use Rattle.rules.specs.State.{withInterrupts, withClasses, withLinks}
+use Rattle.rules.specs.declared.Answer.{Answer}
+use Rattle.rules.specs.declared.Handler.{Handler}
+use Rattle.rules.specs.declared.Interrupts.{Interrupts}
+use Rattle.rules.specs.declared.Links.{Links}
+use Rattle.rules.specs.declared.Ticked.{Ticked}
+use Rattle.handler.specs.Classes.{classesBy, interruptsBy}
+use Rattle.handler.specs.OutputMasks.{interruptsOn, linesOn}
+use Rattle.handler.specs.declared.quiet.Moved.{Moved}
+
+-- what such a tick moves, put into the state h
+abbrev pub withMoved : Links → Moved → Handler → Handler
+withMoved links m h = withLinks links (withClasses (m .classes) (withInterrupts (record { state = m .state; enable = h .interrupts .enable }) h))
+
+-- steps 3 to 5 of these classes and interrupts with nothing assigned and no clear
+abbrev pub movedBy : List Class → Interrupts → Moved
+movedBy before x =
+    let cs = classesBy before (x .state) 0 0 in
+    let i = interruptsBy before (x .state) 0 in
+    record {
+      classes = cs;
+      state = i;
+      interrupts = interruptsOn i (x .enable);
+      lines = linesOn cs;
+    }
+
+-- the tick of h that gives the answer a, and moves and puts out what these links and m say
+abbrev pub ended : Handler → Answer → Links → Moved → Ticked
+ended h a links m = record { handler = withMoved links m h; answer = a; output = record { interrupts = m .interrupts; lines = m .lines } }

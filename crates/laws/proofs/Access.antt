@@ -1,0 +1,7 @@
+pub mod Step1
+pub mod Refusals
+pub mod RegisterFile
+pub mod Written
+pub mod Clears
+pub mod Locks
+pub mod BlockAnswers

@@ -1,0 +1,4 @@
+pub mod Cases
+pub mod RowLaws
+pub mod MapLaws
+pub mod Named

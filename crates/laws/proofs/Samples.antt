@@ -1,0 +1,4 @@
+pub mod Heard
+pub mod Arming
+pub mod AtRest
+pub mod Raises

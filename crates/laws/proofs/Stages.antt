@@ -1,0 +1,4 @@
+pub mod StageFile
+pub mod StageLaws
+pub mod StageContent
+pub mod Inert

@@ -1,0 +1,5 @@
+pub mod ColumnLaws
+pub mod StateLaws
+pub mod StateNumber
+pub mod Above
+pub mod AboveExamples

@@ -1,0 +1,6 @@
+pub mod ValidLaws
+pub mod StageFits
+pub mod KeepsAccess
+pub mod KeepsClass
+pub mod KeepsValid
+pub mod Refusal7
