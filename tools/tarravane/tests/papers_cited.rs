@@ -10,10 +10,16 @@ fn text(name: &str) -> String {
     fs::read_to_string(repository(name)).unwrap_or_default()
 }
 
-/// A module of a crate, from its definitions or its proofs.
+/// A module of a crate, from its definitions or its proofs, whose folders are subjects.
 fn module(krate: &str, name: &str) -> String {
     let of = |folder: &str| text(&format!("crates/{krate}/{folder}/{name}.antt"));
-    of("specs") + &of("proofs")
+    let proofs = fs::read_dir(repository(&format!("crates/{krate}/proofs")));
+    let subjects = proofs.into_iter().flatten().flatten();
+    let subjects = subjects.filter_map(|entry| entry.file_name().into_string().ok());
+    let inside: String = subjects
+        .map(|folder| of(&format!("proofs/{folder}")))
+        .collect();
+    of("specs") + &of("proofs") + &inside
 }
 
 /// All definitions of a crate.
@@ -78,7 +84,9 @@ fn exists(cited: &str) -> bool {
             .iter()
             .any(|krate| declares(&module(krate, examples), name)),
         [krate, name] => is_in(krate, name),
-        [krate, "Examples", name] => declares(&module(krate, "Examples"), name),
+        [krate, examples, name] if examples.ends_with("Examples") => {
+            declares(&module(krate, examples), name)
+        }
         _ => false,
     }
 }
