@@ -2,7 +2,6 @@
 use crate::edition;
 use crate::edition::ALERTS_64_REGISTER_AT;
 use crate::edition::ALERTS_64_REGISTERS;
-use crate::edition::ALERTS_248_BYTES;
 use crate::edition::ALERTS_248_REGISTER_AT;
 use crate::edition::ALERTS_248_REGISTERS;
 use crate::edition::carry;
@@ -17,11 +16,9 @@ ghost use mathlib.Core.List.{[]};
 ghost use Prim.Native.Nat.{_+_, _*_, _^_, _≤_};
 ghost use lib.ListN.{length, take, drop};
 ghost use Rattle.bits.specs.Fields.{ofBytes};
-ghost use mathlib.Core.Bool.{false};
-ghost use Rattle.rules.specs.Access.{malformed};
-ghost use Rattle.trace_rules.specs.Edition.{newest, recordBytes, alerts};
+ghost use Rattle.trace_rules.specs.Edition.{recordBytes, alerts};
 ghost use Rattle.trace_rules.specs.Record as rules;
-ghost use Rattle.trace_rules.specs.Record.{accessOf, clear, accessIn, wireWords, inputOf, recordOf};
+ghost use Rattle.trace_rules.specs.Record.{accessOf, clear, accessIn, wireWords, inputOf};
 ghost use Rattle.trace.specs.RecordParts.{wireBytes, headOf, fieldsOf};
 
 // Four bytes as one number.
@@ -209,12 +206,4 @@ pub fn input_at(edition: Edition, bytes: &[u8], at: usize) -> Input
             alerts: Wires { pos, neg },
         },
     }
-}
-
-// The newest record. Writing what was read gives the same bytes, if it is well-formed.
-pub fn input_of(bytes: [u8; ALERTS_248_BYTES]) -> Input
-    ensures { λ r. ⌜ r ≡ inputOf newest bytes ⌝ }
-    ensures written { λ r. ⌜ (malformed (r .access) ≡ false → recordOf newest r ≡ bytes) ⌝ }
-{
-    input_at(Edition::Alerts248, &bytes, 0)
 }
