@@ -1,4 +1,3 @@
 pub mod Running
 pub mod BatchOutcomes
-pub mod ReadValues
 pub mod WordLines

@@ -21,8 +21,8 @@ use Rattle.trace_rules.specs.Record.{inputsOf, recordCount}
 use Rattle.trace_laws.proofs.BatchLaws.{admits-valid, batch-good}
 use Rattle.laws.proofs.Valid.KeepsValid.{run-valid}
 use Rattle.laws.proofs.Tick.Runs.{ticks-at, length-ticks}
-use Rattle.trace.proofs.WordFields.{line-bit}
-use Rattle.batch.proofs.ReadValues.{read-fits}
+use Rattle.trace_laws.proofs.WordFields.{line-bit}
+use Rattle.trace_laws.proofs.ReadValues.{read-fits}
 use Rattle.batch.proofs.Running.{length-inputs}
 
 -- the word past the last tick

@@ -25,8 +25,8 @@ use Rattle.rules.specs.declared.Handler.{Handler}
 use Rattle.rules.specs.declared.Input.{Input}
 use Rattle.rules.specs.declared.Refusal.the-variants.{BadState}
 use Rattle.rules.specs.declared.Ticked.{Ticked}
-use Rattle.trace.proofs.WordFields.{line-bit}
-use Rattle.batch.proofs.ReadValues.{read-fits}
+use Rattle.trace_laws.proofs.WordFields.{line-bit}
+use Rattle.trace_laws.proofs.ReadValues.{read-fits}
 use Rattle.calls.specs.Calls.{Call, Tick, Batch, leaves, inputs, lineIn, seen, leavesAll, inputsAll, seenAll, AcrossCalls}
 
 -- ── what is seen of a list of ticks ──

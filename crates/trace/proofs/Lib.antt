@@ -1,4 +1,3 @@
 pub mod Digits
 pub mod Records
-pub mod WordFields
 pub mod WireBytes

@@ -7,3 +7,5 @@ pub mod RecordLaws
 pub mod WellFormedLaws
 pub mod Recordable
 pub mod WriterLaws
+pub mod ReadValues
+pub mod WordFields

@@ -1,16 +1,16 @@
 -- The wires of a record as words of 64, and back.
 -- Assumes nothing.
 use Prim.Native.Nat.{ℕ, zero, suc, _+_, _-_, _*_, _/_, _%_, _^_, _≤_, _<_}
-use mathlib.Core.Path.{_≡_, refl, sym, ap, ap₂, _∙_, subst}
-use mathlib.Core.List.{List, _∷_}
+use mathlib.Core.Path.{_≡_, refl, sym, ap, _∙_, subst}
+use mathlib.Core.Bool.{false}
+use mathlib.Core.List.{List}
 use native.Mathlib.Omega.{arith}
-use native.Mathlib.Decide.{decLt}
 use lib.ListN.{getD, replicate}
-use lib.Pow.{shl-lt, shr-lt, shl-shr}
-use Rattle.bits.specs.Bits.{bit, place}
+use lib.Pow.{pow-pos, shl-lt, shr-lt, shl-shr, low}
+use Rattle.bits.specs.Bits.{bit}
 use Rattle.bits.specs.Fields.{total, pack, unpack, Fit}
 use Rattle.bits.specs.Index.{placeIn}
-use Rattle.bits.proofs.BitLaws.{bit-mod, bit-shr}
+use Rattle.bits.proofs.BitLaws.{bit-mod, bit-shr, bit-none}
 use Rattle.bits.proofs.FieldLaws.{pack-lt, unpack-pack, pack-unpack}
 use Rattle.trace_rules.specs.Edition.{alerts}
 use Rattle.trace_rules.specs.Record.{wireWords, wiresOf}
@@ -50,39 +50,36 @@ module _ (e : Edition) where
   pub wires-back : (wires : ℕ) → wires < 2 ^ alerts e → wiresOf (alerts e) (wireWords (alerts e) wires) ≡ wires
   wires-back wires h = ap (λ (n : ℕ). n / 2 ^ behind) (at-top wires h) ∙ shl-shr wires behind
 
--- ── the places of the words ──
+-- ── the places of equal parts: words of 64, bytes ──
 
--- place i of w words of 64 is a bit of the number that they make
-place-unpack : (w n i : ℕ) → i < 64 * w → placeIn (unpack (replicate w 64) n) i ≡ bit n (64 * w - suc i)
+-- of w parts of c bits, place r of part q from the top is a bit of the number that they make
+pub place-part : (c w n q r : ℕ) → q < w → r < c → bit (getD (unpack (replicate w c) n) q 0) (c - 1 - r) ≡ bit n (total (replicate (w - suc q) c) + (c - 1 - r))
 unfolding unpack
-place-unpack zero n i h = absurd (omega arith)
-place-unpack (suc w) n i h = go (decLt i 64) (place-unpack w n (i - 64))
-  where
-    T : ℕ
-    T = total (replicate w 64)
+place-part c zero n q r h l = absurd (omega arith)
+place-part c (suc w) n zero r h l =
+    let e : w ≡ suc w - 1 = omega arith in
+    bit-mod c (n / 2 ^ total (replicate w c)) (c - 1 - r) (omega arith) ∙ bit-shr n (total (replicate w c)) (c - 1 - r)
+    ∙ ap (λ (m : ℕ). bit n (total (replicate m c) + (c - 1 - r))) e
+place-part c (suc w) n (suc q) r h l =
+    let e : w - suc q ≡ suc w - suc (suc q) = omega arith in
+    place-part c w n q r (omega arith) l ∙ ap (λ (m : ℕ). bit n (total (replicate m c) + (c - 1 - r))) e
 
-    xs : List ℕ
-    xs = n / 2 ^ T % 2 ^ 64 ∷ unpack (replicate w 64) n
-
-    go : Dec (i < 64) → (i - 64 < 64 * w → placeIn (unpack (replicate w 64) n) (i - 64) ≡ bit n (64 * w - suc (i - 64)))
-        → placeIn xs i ≡ bit n (64 * suc w - suc i)
-    go (yes l) later =
-        let q : i / 64 ≡ 0 = omega arith in
-        let r : i % 64 ≡ i = omega arith in
-        let k : T + (63 - i) ≡ 64 * suc w - suc i = omega (arith, total-words w) in
-        ap₂ (λ (v b : ℕ). place (getD xs v 0) b) q r ∙ bit-mod 64 (n / 2 ^ T) (63 - i) (omega arith) ∙ bit-shr n T (63 - i) ∙ ap (bit n) k
-    go (no l) later =
-        let j : ℕ = i - 64 in
-        let q : i / 64 ≡ suc (j / 64) = omega arith in
-        let r : i % 64 ≡ j % 64 = omega arith in
-        let k : 64 * w - suc j ≡ 64 * suc w - suc i = omega arith in
-        ap₂ (λ (v b : ℕ). place (getD xs v 0) b) q r ∙ later (omega arith) ∙ ap (bit n) k
+pub place-unpack : (w n i : ℕ) → i < 64 * w → placeIn (unpack (replicate w 64) n) i ≡ bit n (64 * w - suc i)
+place-unpack w n i h =
+    let k : total (replicate (w - suc (i / 64)) 64) + (63 - i % 64) ≡ 64 * w - suc i = omega (arith, total-words (w - suc (i / 64))) in
+    place-part 64 w n (i / 64) (i % 64) (omega arith) (omega arith) ∙ ap (bit n) k
 
 -- a number shifted up, bit by bit
-bit-up : (a j k : ℕ) → j ≤ k → bit (a * 2 ^ j) k ≡ bit a (k - j)
+pub bit-up : (a j k : ℕ) → j ≤ k → bit (a * 2 ^ j) k ≡ bit a (k - j)
 bit-up a j k h =
     let e : j + (k - j) ≡ k = omega arith in
     ap (bit (a * 2 ^ j)) (sym e) ∙ sym (bit-shr (a * 2 ^ j) j (k - j)) ∙ ap (λ (n : ℕ). bit n (k - j)) (shl-shr a j)
+
+-- and below it there is nothing
+pub bit-below : (a j k : ℕ) → k < j → bit (a * 2 ^ j) k ≡ false
+bit-below a j k h =
+    let e : a * 2 ^ j + 0 ≡ a * 2 ^ j = omega arith in
+    sym (bit-mod j (a * 2 ^ j) k h) ∙ ap (λ (n : ℕ). bit (n % 2 ^ j) k) (sym e) ∙ ap (λ (n : ℕ). bit n k) (low a j (pow-pos j)) ∙ bit-none k
 
 -- the wires of an edition stay where they are
 pub place-kept : (e : Edition) (ws : List ℕ) (i : ℕ) → Fit (replicate words 64) ws → i < alerts e

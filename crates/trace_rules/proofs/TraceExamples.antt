@@ -14,7 +14,8 @@ use Rattle.rules.specs.declared.Access.{Access}
 use Rattle.rules.specs.declared.Answer.{Answer}
 use Rattle.trace_rules.specs.declared.Edition.{Edition}
 use Rattle.trace_rules.specs.declared.Edition.the-variants.{Alerts64, Alerts248}
-use Rattle.rules.specs.declared.Refusal.the-variants.{NoRegister, BadRecord}
+use Rattle.rules.specs.declared.Refusal.{Refusal}
+use Rattle.rules.specs.declared.Refusal.the-variants.{NoRegister, WrongWay, Locked, TooWide, BadRecord, BadState, Differs, SillyThreshold}
 use Rattle.rules.specs.Scenes.{refused}
 use Rattle.trace_rules.specs.Word.{wordOf}
 use Rattle.rules.proofs.Scenes.{rules}
@@ -114,6 +115,12 @@ words : (wordOfParts 1 0 Answer.Done ≡ 0x8000000000000000)
     × (wordOfParts 5 10 (Answer.Value 1) ≡ 0xA500000000000001)
 unfolding rules traces
 words = (refl, refl, refl, refl, refl, refl, refl, refl, refl)
+
+-- "refusal number (4)", of each refusal that a tick can give: 1 to 5, 7, and 12 and 14 of the requests
+refusal-words : map (λ (m : Refusal). wordOfParts 0 0 (Answer.Refused m)) (NoRegister ∷ WrongWay ∷ Locked ∷ TooWide ∷ BadRecord ∷ BadState ∷ Differs ∷ SillyThreshold ∷ [])
+    ≡ 0x0010000000000000 ∷ 0x0020000000000000 ∷ 0x0030000000000000 ∷ 0x0040000000000000 ∷ 0x0050000000000000 ∷ 0x0070000000000000 ∷ 0x00C0000000000000 ∷ 0x00E0000000000000 ∷ []
+unfolding rules traces
+refusal-words = refl
 
 -- ── batches ──
 

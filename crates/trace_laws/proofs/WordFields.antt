@@ -11,7 +11,7 @@ use lib.Pow.{pow-pos}
 use Rattle.bits.specs.Bits.{bit, field, num}
 use Rattle.bits.specs.Fields.{unpack, Fit, none, one}
 use Rattle.bits.proofs.BitLaws.{eqb-digit, num-lt}
-use Rattle.bits.proofs.FieldLaws.{unpack-pack}
+use Rattle.bits.proofs.FieldLaws.{unpack-pack, pack-lt}
 use Rattle.bits.proofs.PackLaws.{fit-append}
 use Rattle.rules.proofs.AnswerLaws.{number-range}
 use Rattle.rules.specs.Answer.{refusalNumber}
@@ -58,6 +58,11 @@ module _ (t : Ticked) (h : readOf (t .answer) < 2 ^ 32) where
   pub word-fields : unpack wordLayout (wordOf t) ≡ fields
   unfolding wordOf wordBy
   word-fields = unpack-pack (fields-fit (t .output .interrupts) (t .output .lines) (t .answer) h)
+
+  -- it has 64 bits
+  pub word-lt : wordOf t < 2 ^ 64
+  unfolding wordOf wordBy
+  word-lt = pack-lt (fields-fit (t .output .interrupts) (t .output .lines) (t .answer) h)
 
   word-at : (i : ℕ) → getD (unpack wordLayout (wordOf t)) i 0 ≡ getD fields i 0
   word-at i = ap (λ (xs : List ℕ). getD xs i 0) word-fields

@@ -1,0 +1,3 @@
+pub mod HoldsArguments
+pub mod OnlyArguments
+pub mod Station

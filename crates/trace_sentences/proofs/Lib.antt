@@ -1,0 +1,15 @@
+pub mod BytePlaces
+pub mod HoldsWords
+pub mod OnlyWords
+pub mod Tiled
+pub mod HoldsRecords
+pub mod OnlyRecords
+pub mod HoldsBatches
+pub mod OnlyBatches
+pub mod Replays
+pub mod HoldsWriters
+pub mod OnlyWriters
+pub mod RoundTrips
+pub mod Library
+pub mod RefutedRecords
+pub mod RefutedBatches

@@ -1,0 +1,110 @@
+-- No sentence of a record is missing: whatever satisfies them is one access and sample. Nothing here knows the rules' definitions.
+-- Assumes nothing.
+use Prim.Native.Nat.{ℕ, _+_, _-_, _≤_, _<_}
+use mathlib.Core.Path.{_≡_, sym, ap, ap₂, _∙_, subst}
+use mathlib.Core.Logic.{inl}
+use mathlib.Core.List.{List}
+use native.Mathlib.Omega.{arith}
+use native.Mathlib.Decide.{decLt}
+use lib.ListN.{getD, length}
+use Rattle.bits.specs.Bits.{field}
+use Rattle.bits.specs.Fields.{ofBytes}
+use Rattle.bits.specs.Index.{placeIn}
+use Rattle.rules.specs.declared.Access.{Access}
+use Rattle.trace_rules.specs.declared.Edition.{Edition}
+use Rattle.trace_rules.specs.declared.Edition.the-variants.{Alerts64, Alerts248}
+use Rattle.rules.specs.declared.Input.{Input}
+use Rattle.sentences.proofs.SentenceCases.{by-phase}
+use Rattle.sentences.proofs.OnlySamples.{same-words}
+use Rattle.trace_sentences.specs.RecordBits.{form, Kind, Bad, Carried, Means, Names, WiresAre, Holds, Reader}
+use Rattle.trace_sentences.proofs.BytePlaces.{field-stands, one-stands, dec-some, dec-stands, dec-or, dec-and}
+
+-- ── register numbers ──
+
+same-carried : (r p q : ℕ) → Carried r p → Carried r q → p ≡ q
+same-carried r p q x y = go (decLt r 64) (decLt r 128) (decLt r 192) (decLt r 256) (decLt r 320) (decLt r 384)
+  where
+    go : Dec (r < 64) → Dec (r < 128) → Dec (r < 192) → Dec (r < 256) → Dec (r < 320) → Dec (r < 384) → p ≡ q
+    go (yes a) b c d e f = x .low a ∙ sym (y .low a)
+    go (no a) (yes b) c d e f =
+        let i : r - 64 < 64 = omega arith in let j : r ≡ 64 + (r - 64) = omega arith in x .regwen (r - 64) i j ∙ sym (y .regwen (r - 64) i j)
+    go (no a) (no b) (yes c) d e f =
+        let i : r - 128 < 64 = omega arith in let j : r ≡ 128 + (r - 128) = omega arith in x .en (r - 128) i j ∙ sym (y .en (r - 128) i j)
+    go (no a) (no b) (no c) (yes d) e f =
+        let i : r - 192 < 64 = omega arith in let j : r ≡ 192 + (r - 192) = omega arith in x .class (r - 192) i j ∙ sym (y .class (r - 192) i j)
+    go (no a) (no b) (no c) (no d) (yes e) f =
+        let i : r - 256 < 64 = omega arith in let j : r ≡ 256 + (r - 256) = omega arith in x .cause (r - 256) i j ∙ sym (y .cause (r - 256) i j)
+    go (no a) (no b) (no c) (no d) (no e) (yes f) =
+        let i : r - 320 < 64 = omega arith in let j : r ≡ 320 + (r - 320) = omega arith in x .classes (r - 320) i j ∙ sym (y .classes (r - 320) i j)
+    go (no a) (no b) (no c) (no d) (no e) (no f) = let i : 384 ≤ r = omega arith in x .none i ∙ sym (y .none i)
+
+same-means : (e : Edition) (r p q : ℕ) → Means e r p → Means e r q → p ≡ q
+same-means Alerts64 r p q x y = same-carried r p q x y
+same-means Alerts248 r p q x y = x ∙ sym y
+
+same-names : (e : Edition) (bytes : List ℕ) (p q : ℕ) → Names e bytes p → Names e bytes q → p ≡ q
+same-names e bytes p q (r, s, m) (u, t, n) =
+    let d : u ≡ r = one-stands bytes (form e .register-at) (form e .register-bits) u r t s in
+    same-means e r p q m (subst (λ (x : ℕ). Means e x q) d n)
+
+-- ── wires ──
+
+same-wires : (bytes : List ℕ) (s n : ℕ) (ws vs : List ℕ) → WiresAre bytes s n ws → WiresAre bytes s n vs → ws ≡ vs
+same-wires bytes s n ws vs x y = same-words ws vs (x .words) (y .words) (x .word) (y .word) (λ i l. go i l (decLt i n))
+  where
+    go : (i : ℕ) → i < 256 → Dec (i < n) → placeIn ws i ≡ placeIn vs i
+    go i l (yes a) = x .wire i a ∙ sym (y .wire i a)
+    go i l (no a) = let b : n ≤ i = omega arith in x .past i b l ∙ sym (y .past i b l)
+
+-- ── the access ──
+
+module _ (e : Edition) (bytes : List ℕ) (k : ℕ) (s : Kind bytes k) (x y : Input) (a : Holds e bytes x) (b : Holds e bytes y) where
+  dec-kind : (j : ℕ) → Dec (Kind bytes j)
+  dec-kind j = dec-stands bytes 0 2 k j s
+
+  dec-bad : Dec (Bad (form e) bytes)
+  dec-bad =
+      dec-or (dec-kind 3)
+      (dec-or (dec-some bytes (form e .zeros-at) (form e .zero-bits))
+      (dec-or (dec-and (dec-kind 1) (dec-some bytes (form e .value-at) 32))
+      (dec-and (dec-kind 0) (dec-or (dec-some bytes (form e .register-at) (form e .register-bits)) (dec-some bytes (form e .value-at) 32)))))
+
+  by-kind : ¬ Bad (form e) bytes → (j : ℕ) → j < 4 → Kind bytes j → x .access ≡ y .access
+  by-kind f =
+      by-phase (λ j. Kind bytes j → x .access ≡ y .access) (λ t. a .nothing f t ∙ sym (b .nothing f t))
+      (λ t.
+      let p = a .read f t in let q = b .read f t in p .2 ∙ ap (λ (r : ℕ). Access.Read r) (same-names e bytes (p .0) (q .0) (p .1) (q .1)) ∙ sym (q .2))
+      (λ t.
+      let p = a .write f t in let q = b .write f t in
+      p .4 ∙ ap₂ (λ (r v : ℕ). Access.Write r v) (same-names e bytes (p .0) (q .0) (p .2) (q .2)) (one-stands bytes (form e .value-at) 32 (p .1) (q .1) (p .3) (q .3))
+      ∙ sym (q .4))
+      (λ t. absurd (f (inl t)))
+
+  pub same-access : x .access ≡ y .access
+  same-access = go dec-bad
+    where
+      go : Dec (Bad (form e) bytes) → x .access ≡ y .access
+      go (yes t) = a .malformed t ∙ sym (b .malformed t)
+      go (no f) = by-kind f k (s .size) s
+
+  pub same-input : x ≡ y
+  same-input = λ i.
+      record {
+        access = same-access i;
+        sample = record {
+          alerts = record {
+            pos = same-wires bytes (form e .positive-at) (form e .alerts) (x .sample .alerts .pos) (y .sample .alerts .pos) (a .positive) (b .positive) i;
+            neg = same-wires bytes (form e .negative-at) (form e .alerts) (x .sample .alerts .neg) (y .sample .alerts .neg) (a .negative) (b .negative) i;
+          };
+        };
+      }
+
+-- a record has a kind
+pub some-kind : (e : Edition) (bytes : List ℕ) → length bytes ≡ form e .bytes → ((i : ℕ) → getD bytes i 0 ≤ 255) → (k : ℕ) × Kind bytes k
+some-kind Alerts64 bytes l b = (field 190 2 (ofBytes bytes), field-stands bytes b 0 2 190 (omega arith))
+some-kind Alerts248 bytes l b = (field 558 2 (ofBytes bytes), field-stands bytes b 0 2 558 (omega arith))
+
+-- two readers that satisfy the sentences are one
+pub only-reader : (f g : Edition → List ℕ → Input) → Reader f → Reader g → (e : Edition) (bytes : List ℕ) → length bytes ≡ form e .bytes
+    → ((i : ℕ) → getD bytes i 0 ≤ 255) → f e bytes ≡ g e bytes
+only-reader f g x y e bytes l b = let k = some-kind e bytes l b in same-input e bytes (k .0) (k .1) (f e bytes) (g e bytes) (x e bytes l b) (y e bytes l b)

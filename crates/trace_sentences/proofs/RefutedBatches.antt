@@ -1,0 +1,115 @@
+-- Wrong batches and writers that the sentences refuse, as theorems, as in RefutedRecords.antt.
+-- Assumes nothing.
+use Prim.Native.Nat.{ℕ, zero, suc, _-_, _*_, _/_, _%_, _≤_, _<_}
+use mathlib.Core.Path.{refl, sym, ap, _∙_}
+use mathlib.Core.Logic.{inl, inr, ⊎-elim}
+use mathlib.Core.Bool.{cond}
+use mathlib.Core.List.{List, [], _∷_, _++_}
+use native.Mathlib.Omega.{arith}
+use lib.Dec.{eqb, ltb}
+use lib.IntN.{ℤ, pos, negℤ}
+use lib.ListN.{getD, length, take, replicate}
+use Rattle.rules.specs.Answer.{firstOf}
+use Rattle.rules.specs.State.{newHandler}
+use Rattle.rules.specs.Tick.{ticked}
+use Rattle.rules.specs.declared.Access.the-variants.{Nothing}
+use Rattle.rules.specs.declared.Handler.{Handler}
+use Rattle.rules.specs.declared.Input.{Input}
+use Rattle.trace_rules.specs.Batch.{batch}
+use Rattle.trace_rules.specs.Edition.{newest, recordBytes}
+use Rattle.trace_rules.specs.Record.{inputOf, recordable}
+use Rattle.trace_rules.specs.Word.{wordOf}
+use Rattle.trace_rules.specs.Writer.{anyUnrecordable, write, writeOf, writeVerdict}
+use Rattle.trace_rules.specs.declared.Edition.{Edition}
+use Rattle.trace_rules.specs.declared.Edition.the-variants.{Alerts64, Alerts248}
+use Rattle.laws.proofs.Access.Written.{new-valid}
+use Rattle.sentences.specs.Valid.{Valid}
+use Rattle.sentences.proofs.HoldsValid.{holds-valid}
+use Rattle.sentences.proofs.SentenceCases.{by-phase}
+use Rattle.trace_sentences.specs.BatchTicks.{Case7, Batches}
+use Rattle.trace_sentences.specs.Writers.{Arrays, entry, Writer}
+use Rattle.trace_sentences.proofs.HoldsBatches.{holds-batches}
+use Rattle.trace_sentences.proofs.HoldsWords.{refusal-of}
+use Rattle.trace_sentences.proofs.HoldsWriters.{holds-writer}
+use Rattle.trace_sentences.proofs.OnlyWriters.{only-writer}
+
+-- ── batches: the rules' ticks, words, records and states, but another answer or another list ──
+
+abbrev Answers : (Edition → Handler → List ℕ → List ℕ → ℤ) → Type 0
+Answers answer = Batches ticked wordOf inputOf (λ e h bytes out. batch e h bytes out .handler) answer (λ e h bytes out. batch e h bytes out .out)
+
+abbrev Lists : (Edition → Handler → List ℕ → List ℕ → List ℕ) → Type 0
+Lists list = Batches ticked wordOf inputOf (λ e h bytes out. batch e h bytes out .handler) (λ e h bytes out. batch e h bytes out .answer) list
+
+-- a new handler of 1 and of 65 alerts
+valid-1 : Valid (newHandler 1)
+valid-1 = holds-valid (newHandler 1) .0 (new-valid 1 (omega arith) (omega arith))
+
+valid-65 : Valid (newHandler 65)
+valid-65 = holds-valid (newHandler 65) .0 (new-valid 65 (omega arith) (omega arith))
+
+not-7 : ¬ Case7 Alerts248 (newHandler 1)
+unfolding newHandler
+not-7 = ⊎-elim (λ f. f valid-1) (λ l. omega (arith, l))
+
+-- 8 before 7
+abbrev hasty : Edition → Handler → List ℕ → List ℕ → ℤ
+hasty e h bytes out = cond (eqb (length bytes % recordBytes e) 0) (batch e h bytes out .answer) (negℤ (pos 8))
+
+pub no-eight-before-seven : ¬ Answers hasty
+unfolding newHandler
+no-eight-before-seven b =
+    let r = b Alerts248 (newHandler 249) (0 ∷ []) [] .refused-7 (inl (λ v. omega (arith, v .n))) in
+    let d = ap refusal-of (r .answer) in omega (arith, d)
+
+-- 9 before 8
+abbrev hurried : Edition → Handler → List ℕ → List ℕ → ℤ
+hurried e h bytes out = cond (ltb (length out) (length bytes / recordBytes e)) (negℤ (pos 9)) (batch e h bytes out .answer)
+
+pub no-nine-before-eight : ¬ Answers hurried
+no-nine-before-eight b =
+    let r = b Alerts248 (newHandler 1) (replicate 71 0) [] .refused-8 not-7 (λ e. omega (arith, e)) in
+    let d = ap refusal-of (r .answer) in omega (arith, d)
+
+-- an old batch that takes a handler of 65 alerts
+abbrev lenient : Edition → Handler → List ℕ → List ℕ → ℤ
+lenient e h bytes out = batch Alerts248 h bytes out .answer
+
+pub no-old-batch-of-65 : ¬ Answers lenient
+unfolding newHandler
+no-old-batch-of-65 b =
+    let r = b Alerts64 (newHandler 65) [] [] .refused-7 (inr (omega arith)) in
+    let s = holds-batches Alerts248 (newHandler 65) [] [] .runs (⊎-elim (λ f. f valid-65) (λ l. omega (arith, l))) (λ f. f refl) (λ l. omega (arith, l)) in
+    let d = ap refusal-of (sym (s .answer) ∙ r .answer) in omega (arith, d)
+
+-- later words cleared
+abbrev cleared : Edition → Handler → List ℕ → List ℕ → List ℕ
+cleared e h bytes out = take (length bytes) (batch e h bytes out .out) ++ replicate (length out - length bytes) 0
+
+pub no-cleared-words : ¬ Lists cleared
+no-cleared-words b =
+    let r = b Alerts248 (newHandler 1) [] (5 ∷ []) .runs not-7 (λ f. f refl) (λ l. omega (arith, l)) in
+    let e = r .later 0 (omega arith) in
+    omega (arith, e)
+
+-- ── writers ──
+
+abbrev still : Input
+still = record { access = Nothing; sample = record { alerts = record { pos = replicate 4 0; neg = replicate 4 0 } } }
+
+still-word : (v : ℕ) → v < 4 → getD (replicate 4 0) v 0 ≤ 18446744073709551615
+still-word = by-phase (λ v. getD (replicate 4 0) v 0 ≤ 18446744073709551615) (omega arith) (omega arith) (omega arith) (omega arith)
+
+still-arrays : (i : ℕ) → i < length (still ∷ []) → Arrays (entry (still ∷ []) i)
+still-arrays zero l = record { positive = refl; positive-word = still-word; negative = refl; negative-word = still-word }
+still-arrays (suc i) l = absurd (omega arith)
+
+-- one that empties a buffer that is too short
+abbrev emptied : List Input → List ℕ → List ℕ
+emptied xs buffer = cond (ltb (length buffer) (length xs * 70)) [] (write newest xs buffer .buffer)
+
+pub no-emptied-buffer : ¬ Writer (λ xs buffer. write newest xs buffer .answer) emptied
+unfolding write writeOf writeVerdict firstOf anyUnrecordable recordable
+no-emptied-buffer w =
+    let e = only-writer (λ xs buffer. write newest xs buffer .answer) (λ xs buffer. write newest xs buffer .answer) emptied (λ xs buffer. write newest xs buffer .buffer) w holds-writer (still ∷ []) (5 ∷ []) still-arrays .buffer in
+    let d = ap (λ (bs : List ℕ). length bs) e in omega (arith, d)

@@ -1,0 +1,6 @@
+pub mod Words
+pub mod RecordBits
+pub mod BatchTicks
+pub mod Replays
+pub mod Writers
+pub mod Library
