@@ -2,7 +2,7 @@
 -- Assumes nothing.
 use Prim.Native.Nat.{ℕ, _+_, _-_, _≤_, _<_}
 use mathlib.Core.Path.{_≡_, refl, sym, ap, _∙_}
-use mathlib.Core.Logic.{_≢_}
+use mathlib.Core.Logic.{_≢_, _⊎_, inl, inr}
 use mathlib.Core.Bool.{Bool, true, false, false≢true}
 use mathlib.Core.List.{List, [], _∷_, _++_, map}
 use native.Mathlib.Omega.{arith}
@@ -29,7 +29,7 @@ use Rattle.rules.specs.declared.Input.{Input}
 use Rattle.rules.specs.declared.Refusal.the-variants.{BadState}
 use Rattle.rules.specs.declared.Register.the-variants.{Block}
 use Rattle.rules.specs.declared.Setting.{Setting}
-use Rattle.calls.specs.Calls.{Call, Tick, Batch, leaves, leavesAll, inputsAll, seenAll, seenAt, AcrossCalls}
+use Rattle.calls.specs.Calls.{Call, Tick, Batch, leaves, Seen, Shown, Unseen, leavesAll, inTurn, inputsAll, seenAll, seenAt, showsAt, AcrossCalls}
 use Rattle.calls.proofs.Calls.{across-calls}
 
 -- ── five calls: class 2 starts in the first, in tick 100, with phases of two ticks; line e is mapped to Phase e ──
@@ -75,9 +75,12 @@ gives : (batch Edition.Alerts248 (after 1) (0 ∷ rest248) (5 ∷ 5 ∷ []) .ans
 unfolding rules traces leavesAll
 gives = (refl, refl, refl, refl)
 
+-- the four lines of a tick that is shown
+abbrev pub lines : Seen → List Bool
+lines (Shown f) = f 0 ∷ f 1 ∷ f 2 ∷ f 3 ∷ []
+lines Unseen = []
+
 -- the lines that the callers see in ticks 100 to 104: 0, 0, 1, 1, 2
-abbrev lines : (ℕ → Bool) → List Bool
-lines f = f 0 ∷ f 1 ∷ f 2 ∷ f 3 ∷ []
 
 computed : map lines (seenAll station calls)
     ≡ (true ∷ false ∷ false ∷ false ∷ [])
@@ -86,7 +89,7 @@ computed : map lines (seenAll station calls)
     ∷ (false ∷ true ∷ false ∷ false ∷ [])
     ∷ (false ∷ false ∷ true ∷ false ∷ [])
     ∷ []
-unfolding rules traces seenAll
+unfolding rules traces inTurn
 computed = refl
 
 -- ── the same start, and then any calls cs: what the claim says of every tick t that they reach ──
@@ -97,35 +100,40 @@ module _ (cs : List Call) where
   claim = across-calls station (starting ∷ cs) refl
 
   -- whatever the number of the first tick, line 0 is seen on in it
-  at-any-number : (first : ℕ) → seenAt first station (starting ∷ cs) first 0 ≡ true
-  unfolding rules traces inputsAll
-  at-any-number first =
+  at-any-number : (first : ℕ) (f : ℕ → Bool) → seenAt first station (starting ∷ cs) first ≡ Shown f → f 0 ≡ true
+  unfolding rules traces inTurn
+  at-any-number first f s =
       let n : first - first ≡ 0 = omega arith in
-      claim .line first first 0 (record { from = omega arith; to = omega arith }) (omega arith)
+      claim .line first first 0 f (record { from = omega arith; to = omega arith }) s (omega arith)
       ∙ ap (λ (i : ℕ). bit (getD (ticks station (inputsAll station (starting ∷ cs))) i noTick .output .lines) 0) n
 
   module _ (t : ℕ) (from : 100 ≤ t) (to : t ≤ 100 + length (inputsAll (leaves station starting) cs)) where
     of-list : IsTick 100 (inputsAll station (starting ∷ cs)) t
-    unfolding inputsAll
+    unfolding inTurn
     of-list = record { from = from; to = omega arith }
 
     escalated : Escalated class 100 t (givenAt 100 station (inputsAll station (starting ∷ cs)) t) 2
-    unfolding rules traces inputsAll
+    unfolding rules traces inTurn
     escalated =
         claim .demand3 .escalation 100 2 100 (record { from = omega arith; to = omega arith })
         (record { is-class = omega arith; is-start = refl; is-locked = refl; has-en = refl; has-lock = refl }) t from of-list
 
-    -- line 1 is seen on in ticks 102 and 103, by a tick call or in the word of a batch
-    seen-on : 102 ≤ t → t < 104 → seenAt 100 station (starting ∷ cs) t 1 ≡ true
+    -- line 1 is on in ticks 102 and 103, wherever they are seen: by a tick call or in the word of a batch
+    seen-on : (f : ℕ → Bool) → seenAt 100 station (starting ∷ cs) t ≡ Shown f → 102 ≤ t → t < 104 → f 1 ≡ true
     unfolding bit
-    seen-on a b =
-        claim .line 100 t 1 of-list (omega arith)
+    seen-on f s a b =
+        claim .line 100 t 1 f of-list s (omega arith)
         ∙ escalated .line 1 (omega arith) .inside refl (record { from = omega arith; to = omega arith })
 
-    -- the callers see each of these ticks
+    -- each of these ticks has its place: shown, or by a boot and unseen
     one-each : t - 100 < length (seenAll station (starting ∷ cs))
-    unfolding inputsAll
+    unfolding inTurn
     one-each = omega (arith, claim .each-tick)
+
+    shown-or-not : (b : Bool) → showsAt 100 station (starting ∷ cs) t ≡ b
+        → ((f : ℕ → Bool) × (seenAt 100 station (starting ∷ cs) t ≡ Shown f)) ⊎ (seenAt 100 station (starting ∷ cs) t ≡ Unseen)
+    shown-or-not true e = inl (claim .shown 100 t of-list e)
+    shown-or-not false e = inr (claim .unseen 100 t of-list e)
 
     -- none of them is refused with 7
     no-7 : givenAt 100 station (inputsAll station (starting ∷ cs)) t .answer ≢ Answer.Refused BadState
@@ -147,7 +155,7 @@ abbrev locking : Call
 locking = Tick (rest (write (Block Setting.Regwen 3) 0))
 
 stays : (cs : List Call) → valueOf (leavesAll open3 (locking ∷ cs)) 1329 ≡ 0x393F
-unfolding rules traces inputsAll
+unfolding rules traces inTurn
 stays cs =
     let a : AcrossCalls open3 (locking ∷ cs) = across-calls open3 (locking ∷ cs) refl in
     let n : ℕ = length (locking ∷ cs) in

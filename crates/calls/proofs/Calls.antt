@@ -3,11 +3,11 @@
 use Prim.Native.Nat.{ℕ, zero, suc, _-_, _<_}
 use mathlib.Core.Path.{_≡_, refl, sym, ap, subst, _∙_}
 use mathlib.Core.Logic.{_≢_}
-use mathlib.Core.Bool.{Bool, true, false≢true}
+use mathlib.Core.Bool.{Bool, true, false, false≢true, true≢false}
 use mathlib.Core.List.{List, [], _∷_, _++_, map}
 use native.Mathlib.Nat.{le-of-suc-le-suc, not-suc-le-zero}
 use native.Mathlib.Omega.{arith}
-use lib.ListN.{getD, length, take, drop, length-append, length-map}
+use lib.ListN.{getD, length, take, drop, replicate, length-append, length-map}
 use lib.Seq.{take-at, take-append-add}
 use Rattle.bits.specs.Bits.{bit}
 use Rattle.escalation.proofs.Demand3.{demand3}
@@ -27,29 +27,57 @@ use Rattle.rules.specs.declared.Refusal.the-variants.{BadState}
 use Rattle.rules.specs.declared.Ticked.{Ticked}
 use Rattle.trace_laws.proofs.WordFields.{line-bit}
 use Rattle.trace_laws.proofs.ReadValues.{read-fits}
-use Rattle.calls.specs.Calls.{Call, Tick, Batch, leaves, inputs, lineIn, seen, leavesAll, inputsAll, seenAll, AcrossCalls}
+use Rattle.calls.specs.BootTicks.{bootInputs}
+use Rattle.calls.specs.Calls.{Call, Tick, Batch, Boot, leaves, inputs, shows, lineIn, Seen, Shown, Unseen, seen, leavesAll, inTurn, inputsAll, seenAll, showsAll, AcrossCalls}
+use Rattle.calls.proofs.BootTicks.{boot-run}
 
 -- ── what is seen of a list of ticks ──
 
--- the lines of each of them
-data SeenOf : List (ℕ → Bool) → List Ticked → Type 0 where
-  none : SeenOf [] []
-  one : {f : ℕ → Bool} {t : Ticked} {fs : List (ℕ → Bool)} {ts : List Ticked} → ((e : ℕ) → e < 4 → f e ≡ bit (t .output .lines) e) → SeenOf fs ts
-      → SeenOf (f ∷ fs) (t ∷ ts)
+-- of each that is shown its lines, of each other nothing
+data SeenOf : List Bool → List Seen → List Ticked → Type 0 where
+  none : SeenOf [] [] []
+  shows-lines :
+      {f : ℕ → Bool} {t : Ticked} {bs : List Bool} {fs : List Seen} {ts : List Ticked} → ((e : ℕ) → e < 4 → f e ≡ bit (t .output .lines) e) → SeenOf bs fs ts
+      → SeenOf (true ∷ bs) (Shown f ∷ fs) (t ∷ ts)
+  shows-none : {t : Ticked} {bs : List Bool} {fs : List Seen} {ts : List Ticked} → SeenOf bs fs ts → SeenOf (false ∷ bs) (Unseen ∷ fs) (t ∷ ts)
 
-seen-append : {fs gs : List (ℕ → Bool)} {ts us : List Ticked} → SeenOf fs ts → SeenOf gs us → SeenOf (fs ++ gs) (ts ++ us)
+seen-append : {bs cs : List Bool} {fs gs : List Seen} {ts us : List Ticked} → SeenOf bs fs ts → SeenOf cs gs us → SeenOf (bs ++ cs) (fs ++ gs) (ts ++ us)
 seen-append none b = b
-seen-append (one s a) b = one s (seen-append a b)
+seen-append (shows-lines s a) b = shows-lines s (seen-append a b)
+seen-append (shows-none a) b = shows-none (seen-append a b)
 
-seen-length : {fs : List (ℕ → Bool)} {ts : List Ticked} → SeenOf fs ts → length fs ≡ length ts
+seen-length : {bs : List Bool} {fs : List Seen} {ts : List Ticked} → SeenOf bs fs ts → length fs ≡ length ts
 seen-length none = refl
-seen-length (one s a) = ap suc (seen-length a)
+seen-length (shows-lines s a) = ap suc (seen-length a)
+seen-length (shows-none a) = ap suc (seen-length a)
 
-seen-at : {fs : List (ℕ → Bool)} {ts : List Ticked} → SeenOf fs ts → (d : ℕ → Bool) (n : Ticked) (i e : ℕ) → i < length ts → e < 4
-    → getD fs i d e ≡ bit (getD ts i n .output .lines) e
-seen-at none d n i e l m = absurd (not-suc-le-zero l)
-seen-at (one s a) d n zero e l m = s e m
-seen-at (one s a) d n (suc i) e l m = seen-at a d n i e (le-of-suc-le-suc l) m
+-- of one of them
+record SeenIn (b : Bool) (s : Seen) (t : Ticked) : Type 0 where
+  shown : b ≡ true → (f : ℕ → Bool) × (s ≡ Shown f)
+  unseen : b ≡ false → s ≡ Unseen
+  line : (f : ℕ → Bool) → s ≡ Shown f → (e : ℕ) → e < 4 → f e ≡ bit (t .output .lines) e
+
+abbrev isShown : Seen → Bool
+isShown (Shown f) = true
+isShown Unseen = false
+
+abbrev linesOf : Seen → ℕ → Bool
+linesOf (Shown f) = f
+linesOf Unseen = λ _. false
+
+seen-at : {bs : List Bool} {fs : List Seen} {ts : List Ticked} → SeenOf bs fs ts → (b : Bool) (d : Seen) (n : Ticked) (i : ℕ) → i < length ts
+    → SeenIn (getD bs i b) (getD fs i d) (getD ts i n)
+seen-at none b d n i l = absurd (not-suc-le-zero l)
+seen-at (shows-lines {f} s a) b d n zero l =
+    record {
+      shown = λ _. (f, refl);
+      unseen = λ e. absurd (true≢false e);
+      line = λ g e k m. ap (λ (u : Seen). linesOf u k) (sym e) ∙ s k m;
+    }
+seen-at (shows-none a) b d n zero l =
+    record { shown = λ e. absurd (false≢true e); unseen = λ _. refl; line = λ g e k m. absurd (false≢true (ap isShown e)) }
+seen-at (shows-lines s a) b d n (suc i) l = seen-at a b d n i (le-of-suc-le-suc l)
+seen-at (shows-none a) b d n (suc i) l = seen-at a b d n i (le-of-suc-le-suc l)
 
 -- ── one call ──
 
@@ -58,26 +86,35 @@ leaves-run : (h : Handler) (c : Call) → leaves h c ≡ run h (inputs h c)
 unfolding run batch batchOf
 leaves-run h (Tick x) = refl
 leaves-run h (Batch v bytes out) = refl
+leaves-run h (Boot l) = boot-run l h
 
 -- the lines of a tick are in its word
-words-seen : (h : Handler) (xs : List Input) → valid h ≡ true → SeenOf (map lineIn (map wordOf (ticks h xs))) (ticks h xs)
+words-seen : (h : Handler) (xs : List Input) → valid h ≡ true
+    → SeenOf (replicate (length xs) true) (map (λ (w : ℕ). Shown (lineIn w)) (map wordOf (ticks h xs))) (ticks h xs)
 unfolding ticks run
 words-seen h [] v = none
-words-seen h (x ∷ xs) v = one (line-bit (ticked h x) (read-fits h v x)) (words-seen (ticked h x .handler) xs (run-valid h (x ∷ []) v))
+words-seen h (x ∷ xs) v = shows-lines (line-bit (ticked h x) (read-fits h v x)) (words-seen (ticked h x .handler) xs (run-valid h (x ∷ []) v))
 
-seen-ticks : (h : Handler) (c : Call) → valid h ≡ true → SeenOf (seen h c) (ticks h (inputs h c))
+-- a place for each tick that nobody sees
+none-seen : (h : Handler) (xs : List Input) → SeenOf (replicate (length xs) false) (replicate (length xs) Unseen) (ticks h xs)
+unfolding ticks
+none-seen h [] = none
+none-seen h (x ∷ xs) = shows-none (none-seen (ticked h x .handler) xs)
+
+seen-ticks : (h : Handler) (c : Call) → valid h ≡ true → SeenOf (replicate (length (inputs h c)) (shows c)) (seen h c) (ticks h (inputs h c))
 unfolding ticks batch batchOf
-seen-ticks h (Tick x) v = one (λ e l. refl) none
+seen-ticks h (Tick x) v = shows-lines (λ e l. refl) none
 seen-ticks h (Batch v bytes out) ok =
     let xs = batchInputs v (batchVerdict v h bytes out) bytes in
-    subst (λ (ws : List ℕ). SeenOf (map lineIn ws) (ticks h xs))
+    subst (λ (ws : List ℕ). SeenOf (replicate (length xs) true) (map (λ (w : ℕ). Shown (lineIn w)) ws) (ticks h xs))
     (sym (take-at (map wordOf (ticks h xs)) (drop (length xs) out) (length xs) (length-map (ticks h xs) wordOf ∙ length-ticks h xs)))
     (words-seen h xs ok)
+seen-ticks h (Boot l) v = none-seen h (bootInputs l h)
 
 -- ── calls one after another ──
 
 all-run : (h : Handler) (cs : List Call) → leavesAll h cs ≡ run h (inputsAll h cs)
-unfolding leavesAll inputsAll run
+unfolding leavesAll inTurn run
 all-run h [] = refl
 all-run h (c ∷ cs) =
     all-run (leaves h c) cs ∙ ap (λ (g : Handler). run g (inputsAll (leaves h c) cs)) (leaves-run h c)
@@ -85,7 +122,7 @@ all-run h (c ∷ cs) =
 
 -- the ticks of the first i calls are the first of all
 inputs-first : (h : Handler) (cs : List Call) (i : ℕ) → inputsAll h (take i cs) ≡ take (length (inputsAll h (take i cs))) (inputsAll h cs)
-unfolding inputsAll
+unfolding inTurn
 inputs-first h cs zero = refl
 inputs-first h [] (suc i) = refl
 inputs-first h (c ∷ cs) (suc i) =
@@ -96,12 +133,12 @@ inputs-first h (c ∷ cs) (suc i) =
     ∙ sym (take-append-add xs zs (length ys))
     ∙ sym (ap (λ (n : ℕ). take n (xs ++ zs)) (length-append xs ys))
 
-seen-all : (h : Handler) (cs : List Call) → valid h ≡ true → SeenOf (seenAll h cs) (ticks h (inputsAll h cs))
-unfolding seenAll inputsAll ticks
+seen-all : (h : Handler) (cs : List Call) → valid h ≡ true → SeenOf (showsAll h cs) (seenAll h cs) (ticks h (inputsAll h cs))
+unfolding inTurn ticks
 seen-all h [] v = none
 seen-all h (c ∷ cs) v =
     let g : leaves h c ≡ run h (inputs h c) = leaves-run h c in
-    subst (SeenOf (seenAll h (c ∷ cs)))
+    subst (SeenOf (showsAll h (c ∷ cs)) (seenAll h (c ∷ cs)))
     (ap (λ (f : Handler). ticks h (inputs h c) ++ ticks f (inputsAll (leaves h c) cs)) g ∙ sym (ticks-append h (inputs h c) (inputsAll (leaves h c) cs)))
     (seen-append (seen-ticks h c v) (seen-all (leaves h c) cs (ap valid g ∙ run-valid h (inputs h c) v)))
 
@@ -114,12 +151,18 @@ across-calls h cs v =
       accepted = λ i. ap valid (all-run h (take i cs)) ∙ run-valid h (inputsAll h (take i cs)) v;
       runs = runs;
       each-tick = seen-length (seen-all h cs v) ∙ length-ticks h xs;
-      line = λ first t e a l. seen-at (seen-all h cs v) _ noTick (t - first) e (omega (arith, a .from, a .to, length-ticks h xs)) l;
+      shown = λ first t a. at first t a .shown;
+      unseen = λ first t a. at first t a .unseen;
+      line = λ first t e f a s l. at first t a .line f s e l;
       demand3 = demand3 h xs v;
     }
   where
     xs : List Input
     xs = inputsAll h cs
+
+    at : (first t : ℕ) → IsTick first xs t
+        → SeenIn (getD (showsAll h cs) (t - first) false) (getD (seenAll h cs) (t - first) Unseen) (getD (ticks h xs) (t - first) noTick)
+    at first t a = seen-at (seen-all h cs v) false Unseen noTick (t - first) (omega (arith, a .from, a .to, length-ticks h xs))
 
     runs : (first t : ℕ) → IsTick first xs t → givenAt first h xs t .answer ≢ Answer.Refused BadState
     runs first t a e =

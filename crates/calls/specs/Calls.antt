@@ -1,15 +1,17 @@
--- Demand 3 across calls: tick and batch calls one after another, each on the state that the last one left, are one list of ticks, and demand 3 is
--- true of it. proofs/Calls.antt proves it of every sequence of calls. `ticked` and `batch` are what the contracts of the calls cite.
+-- Demand 3 across calls: tick, batch and boot calls one after another, each on the state that the last one left, are one list of ticks, and demand 3
+-- is true of it. proofs/Calls.antt proves it of every sequence of calls. `ticked`, `batch` and `boot` are what the contracts of the calls cite.
 -- Assumes nothing.
 use Prim.Native.Nat.{ℕ, _-_, _<_}
 use mathlib.Core.Path.{_≡_}
 use mathlib.Core.Logic.{_≢_}
 use mathlib.Core.Bool.{Bool, true, false}
 use mathlib.Core.List.{List, [], _∷_, _++_, map}
-use lib.ListN.{getD, length, take}
+use lib.ListN.{getD, length, take, replicate}
 use Rattle.bits.specs.Bits.{bit}
 use Rattle.escalation.specs.Escalation.{Demand3}
 use Rattle.escalation.specs.List.{IsTick, givenAt}
+use Rattle.policy.specs.Plan.{boot}
+use Rattle.policy.specs.declared.Lifecycle.{Lifecycle}
 use Rattle.trace_rules.specs.Batch.{batch, batchVerdict, batchInputs}
 use Rattle.rules.specs.Run.{run}
 use Rattle.rules.specs.Tick.{ticked}
@@ -19,32 +21,48 @@ use Rattle.trace_rules.specs.declared.Edition.{Edition}
 use Rattle.rules.specs.declared.Handler.{Handler}
 use Rattle.rules.specs.declared.Input.{Input}
 use Rattle.rules.specs.declared.Refusal.the-variants.{BadState}
+use Rattle.calls.specs.BootTicks.{bootInputs}
 
 -- ── one call, on the state h ──
 
--- a tick with any input; a batch of any edition, with any bytes and any lent list
+-- a tick with any input; a batch of any edition, with any bytes and any lent list; a boot of any lifecycle
 pub data Call : Type 0 where
   Tick : Input → Call
   Batch : Edition → List ℕ → List ℕ → Call
+  Boot : Lifecycle → Call
 
 -- the state that it leaves
 abbrev pub leaves : Handler → Call → Handler
 leaves h (Tick x) = ticked h x .handler
 leaves h (Batch v bytes out) = batch v h bytes out .handler
+leaves h (Boot l) = boot l h .handler
 
--- the inputs of its ticks: "a batch is the list of its records' ticks, and a refused batch is the empty list"
+-- the inputs of its ticks: "a batch is the list of its records' ticks, and a refused batch is the empty list"; a boot's are those up to where it stopped
 abbrev pub inputs : Handler → Call → List Input
 inputs h (Tick x) = x ∷ []
 inputs h (Batch v bytes out) = batchInputs v (batchVerdict v h bytes out) bytes
+inputs h (Boot l) = bootInputs l h
+
+-- whether its caller sees the lines of its ticks: a boot "returns that register number, the answer and the state reached", and no outputs
+abbrev pub shows : Call → Bool
+shows (Tick x) = true
+shows (Batch v bytes out) = true
+shows (Boot l) = false
 
 -- line e in a word: "interrupts (4 bits, class 0 first), lines (4, line 0 first)"
 abbrev pub lineIn : ℕ → ℕ → Bool
 lineIn word e = bit word (59 - e)
 
--- whether its caller sees line e on, in each of its ticks: in the lines that a tick gives, and in the tick's word of the list that a batch leaves
-abbrev pub seen : Handler → Call → List (ℕ → Bool)
-seen h (Tick x) = bit (ticked h x .output .lines) ∷ []
-seen h (Batch v bytes out) = map lineIn (take (length (inputs h (Batch v bytes out))) (batch v h bytes out .out))
+-- of one tick: whether line e is on, or nothing
+pub data Seen : Type 0 where
+  Shown : (ℕ → Bool) → Seen
+  Unseen : Seen
+
+-- what its caller sees of each of its ticks: the lines that a tick gives, the tick's word of the list that a batch leaves, nothing of a boot's
+abbrev pub seen : Handler → Call → List Seen
+seen h (Tick x) = Shown (bit (ticked h x .output .lines)) ∷ []
+seen h (Batch v bytes out) = map (λ (w : ℕ). Shown (lineIn w)) (take (length (inputs h (Batch v bytes out))) (batch v h bytes out .out))
+seen h (Boot l) = replicate (length (bootInputs l h)) Unseen
 
 -- ── calls one after another, each on the state that the last one left ──
 
@@ -52,17 +70,26 @@ unfoldable pub leavesAll : Handler → List Call → Handler
 leavesAll h [] = h
 leavesAll h (c ∷ cs) = leavesAll (leaves h c) cs
 
-unfoldable pub inputsAll : Handler → List Call → List Input
-inputsAll h [] = []
-inputsAll h (c ∷ cs) = inputs h c ++ inputsAll (leaves h c) cs
+-- a list f of each call, joined
+unfoldable pub inTurn : {A : Type 0} → (Handler → Call → List A) → Handler → List Call → List A
+inTurn f h [] = []
+inTurn f h (c ∷ cs) = f h c ++ inTurn f (leaves h c) cs
 
-unfoldable pub seenAll : Handler → List Call → List (ℕ → Bool)
-seenAll h [] = []
-seenAll h (c ∷ cs) = seen h c ++ seenAll (leaves h c) cs
+abbrev pub inputsAll : Handler → List Call → List Input
+inputsAll = inTurn inputs
 
--- line e as seen in tick t, the first tick being number first
-abbrev pub seenAt : ℕ → Handler → List Call → ℕ → ℕ → Bool
-seenAt first h cs t e = getD (seenAll h cs) (t - first) (λ _. false) e
+abbrev pub seenAll : Handler → List Call → List Seen
+seenAll = inTurn seen
+
+abbrev pub showsAll : Handler → List Call → List Bool
+showsAll = inTurn (λ h c. replicate (length (inputs h c)) (shows c))
+
+-- of tick t, the first tick being number first: what is seen of it, and whether it is of a call that shows its ticks
+abbrev pub seenAt : ℕ → Handler → List Call → ℕ → Seen
+seenAt first h cs t = getD (seenAll h cs) (t - first) Unseen
+
+abbrev pub showsAt : ℕ → Handler → List Call → ℕ → Bool
+showsAt first h cs t = getD (showsAll h cs) (t - first) false
 
 -- ── the claim, of the calls cs from the state h ──
 
@@ -72,10 +99,14 @@ pub record AcrossCalls (h : Handler) (cs : List Call) : Type 0 where
   pub accepted : (i : ℕ) → valid (leavesAll h (take i cs)) ≡ true
   -- so no tick of the list is refused with 7
   pub runs : (first t : ℕ) → IsTick first (inputsAll h cs) t → givenAt first h (inputsAll h cs) t .answer ≢ Answer.Refused BadState
-  -- the callers see the lines of each tick of the list, and of no other
+  -- each tick of the list, and no other, has its place in what the callers see
   pub each-tick : length (seenAll h cs) ≡ length (inputsAll h cs)
+  -- a tick of a tick call or a batch is shown, one of a boot is not
+  pub shown : (first t : ℕ) → IsTick first (inputsAll h cs) t → showsAt first h cs t ≡ true → (f : ℕ → Bool) × (seenAt first h cs t ≡ Shown f)
+  pub unseen : (first t : ℕ) → IsTick first (inputsAll h cs) t → showsAt first h cs t ≡ false → seenAt first h cs t ≡ Unseen
+  -- and of each tick that is shown the caller sees its lines
   pub line :
-      (first t e : ℕ) → IsTick first (inputsAll h cs) t → e < 4
-      → seenAt first h cs t e ≡ bit (givenAt first h (inputsAll h cs) t .output .lines) e
-  -- and demand 3 is true of the list: starts, escalations, locks and clears, across the calls
+      (first t e : ℕ) (f : ℕ → Bool) → IsTick first (inputsAll h cs) t → seenAt first h cs t ≡ Shown f → e < 4
+      → f e ≡ bit (givenAt first h (inputsAll h cs) t .output .lines) e
+  -- and demand 3 is true of the list: starts, escalations, locks and clears, across the calls, boots among them
   pub demand3 : Demand3 h (inputsAll h cs)
