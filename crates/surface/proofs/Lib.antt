@@ -1,0 +1,3 @@
+pub mod TickParts
+pub mod BatchParts
+pub mod WriteParts

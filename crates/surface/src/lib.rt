@@ -1,0 +1,88 @@
+// What the boundary promises, part by part. It is no product surface and nobody links it: each function calls one of the boundary's and promises each part of
+// what comes back by itself, so that a part which the boundary's contract leaves out no longer proves here.
+use batch::Batched;
+use boundary::tarravane_batch_24;
+use boundary::tarravane_batch_70;
+use boundary::tarravane_install;
+use boundary::tarravane_new;
+use boundary::tarravane_record;
+use boundary::tarravane_tick;
+use handler::tick::Answered;
+use policy::Installed;
+use rules::Handler;
+use rules::Made;
+use rules::Sample;
+use trace_rules::Edition;
+ghost use mathlib.Core.Path.{_≡_};
+ghost use mathlib.Core.Bool.{true};
+ghost use Rattle.boundary.specs.Input.{inputBy};
+ghost use Rattle.escalation.specs.Escalation.{Demand3};
+ghost use Rattle.policy.specs.Plan.{boot, lifecycleOf};
+ghost use Rattle.rules.specs.Answer.{number};
+ghost use Rattle.rules.specs.Run.{run};
+ghost use Rattle.rules.specs.State.{made};
+ghost use Rattle.rules.specs.Tick.{ticked};
+ghost use Rattle.rules.specs.Valid.{valid};
+ghost use Rattle.surface.specs.CallParts.{ranBy, Words, LaterWords, SameInputs, SameNumbers, SameBytes};
+ghost use Rattle.trace_rules.specs.Batch.{batchAnswer, batchVerdict};
+ghost use Rattle.writer.specs.Lent.{lent, writeLent};
+
+pub fn make(n: usize) -> Made
+    ensures { λ r. ⌜ r .handler ≡ made n .handler ⌝ }
+    ensures answer { λ r. ⌜ r .answer ≡ made n .answer ⌝ }
+{
+    tarravane_new(n)
+}
+
+pub fn tick(h: Handler, kind: u8, register: u16, value: u32, sample: Sample) -> Answered
+    ensures { λ r. ⌜ r .handler ≡ ticked h (inputBy kind register value sample) .handler ⌝ }
+    ensures answer { λ r. ⌜ r .answer ≡ number (ticked h (inputBy kind register value sample) .answer) ⌝ }
+    ensures outputs { λ r. ⌜ r .output ≡ ticked h (inputBy kind register value sample) .output ⌝ }
+{
+    tarravane_tick(h, kind, register, value, sample)
+}
+
+pub fn batch_24(h: Handler, bytes: &[u8], out: &mut [u64]) -> Batched
+    ensures { λ r. ⌜ r .handler ≡ run h (ranBy Edition.Alerts64 h (now (bytes .entry)) (now (out .entry))) ⌝ }
+    ensures answer { λ r. ⌜ r .answer ≡ batchAnswer (batchVerdict Edition.Alerts64 h (now (bytes .entry)) (now (out .entry))) ⌝ }
+    ensures words { λ r. ⌜ Words Edition.Alerts64 h (now (bytes .entry)) (now (out .entry)) (now (out .exit)) ⌝ }
+    ensures later { λ r. ⌜ LaterWords Edition.Alerts64 h (now (bytes .entry)) (now (out .entry)) (now (out .exit)) ⌝ }
+    ensures demand3 { λ r. ⌜ (valid h ≡ true → Demand3 h (ranBy Edition.Alerts64 h (now (bytes .entry)) (now (out .entry)))) ⌝ }
+{
+    tarravane_batch_24(h, bytes, out)
+}
+
+pub fn batch_70(h: Handler, bytes: &[u8], out: &mut [u64]) -> Batched
+    ensures { λ r. ⌜ r .handler ≡ run h (ranBy Edition.Alerts248 h (now (bytes .entry)) (now (out .entry))) ⌝ }
+    ensures answer { λ r. ⌜ r .answer ≡ batchAnswer (batchVerdict Edition.Alerts248 h (now (bytes .entry)) (now (out .entry))) ⌝ }
+    ensures words { λ r. ⌜ Words Edition.Alerts248 h (now (bytes .entry)) (now (out .entry)) (now (out .exit)) ⌝ }
+    ensures later { λ r. ⌜ LaterWords Edition.Alerts248 h (now (bytes .entry)) (now (out .entry)) (now (out .exit)) ⌝ }
+    ensures demand3 { λ r. ⌜ (valid h ≡ true → Demand3 h (ranBy Edition.Alerts248 h (now (bytes .entry)) (now (out .entry)))) ⌝ }
+{
+    tarravane_batch_70(h, bytes, out)
+}
+
+pub fn write(
+    kinds: &[u8],
+    registers: &[u16],
+    values: &[u32],
+    positive: &[u64],
+    negative: &[u64],
+    out: &mut [u8],
+) -> i64
+    ensures { λ r. ⌜ r ≡ writeLent (lent (now (kinds .entry)) (now (registers .entry)) (now (values .entry)) (now (positive .entry)) (now (negative .entry))) (now (out .entry)) .answer ⌝ }
+    ensures bytes { λ r. ⌜ now (out .exit) ≡ writeLent (lent (now (kinds .entry)) (now (registers .entry)) (now (values .entry)) (now (positive .entry)) (now (negative .entry))) (now (out .entry)) .buffer ⌝ }
+    ensures inputs { λ r. ⌜ SameInputs (lent (now (kinds .entry)) (now (registers .entry)) (now (values .entry)) (now (positive .entry)) (now (negative .entry))) (now (out .entry)) (now (out .exit)) ⌝ }
+    ensures numbers { λ r. ⌜ SameNumbers (lent (now (kinds .entry)) (now (registers .entry)) (now (values .entry)) (now (positive .entry)) (now (negative .entry))) (now (out .entry)) ⌝ }
+    ensures writtenback { λ r. ⌜ SameBytes (lent (now (kinds .entry)) (now (registers .entry)) (now (values .entry)) (now (positive .entry)) (now (negative .entry))) (now (out .entry)) (now (out .exit)) ⌝ }
+{
+    tarravane_record(kinds, registers, values, positive, negative, out)
+}
+
+pub fn install(h: Handler, lifecycle: u8) -> Installed
+    ensures { λ r. ⌜ r .handler ≡ boot (lifecycleOf lifecycle) h .handler ⌝ }
+    ensures answer { λ r. ⌜ r .answer ≡ boot (lifecycleOf lifecycle) h .answer ⌝ }
+    ensures register { λ r. ⌜ r .register ≡ boot (lifecycleOf lifecycle) h .register ⌝ }
+{
+    tarravane_install(h, lifecycle)
+}
