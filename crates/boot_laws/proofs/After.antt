@@ -28,6 +28,7 @@ use Rattle.rules.specs.declared.Setting.the-variants.{Ctrl, AccumCnt}
 use Rattle.rules.specs.declared.Single.the-variants.{IntrState, IntrEnable}
 use Rattle.policy.specs.Install.{Ask, Entry, under, install, write, read, asks}
 use Rattle.policy.specs.Plan.{locks, ctrlOf, alertEntries, classEntries, planOf, boot}
+use Rattle.boot_laws.specs.Boots.{booted}
 use Rattle.boot_laws.specs.Ran.{wants, reach, Among}
 use Rattle.boot_laws.specs.Ran.Among.{here, there}
 use Rattle.policy.specs.Sound.{unnamed, sound, planned}
@@ -43,7 +44,7 @@ use Rattle.boot_laws.proofs.Members.{has-length, alert-part, class-part
 use Rattle.policy.proofs.PlanLaws.{plan-planned}
 use Rattle.boot_laws.proofs.QuietLaws.{quiet-write, quiet-read}
 use Rattle.boot_laws.proofs.Unnamed.{unplanned, local-out, other-out}
-use Rattle.boot_laws.proofs.Boot.{plan-fits, begins, booted, Went, went}
+use Rattle.boot_laws.proofs.Boot.{plan-fits, begins, Went, went}
 
 -- ── after a success, from any accepted state ──
 

@@ -21,7 +21,6 @@ use Rattle.laws.specs.InMap.{inMap}
 use Rattle.laws.specs.RegisterFile.{plain}
 use Rattle.rules.specs.Access.{value}
 use Rattle.rules.specs.Map.{numberOf}
-use Rattle.rules.specs.Run.{run}
 use Rattle.rules.specs.Stages.{stage}
 use Rattle.rules.specs.State.{most, newHandler}
 use Rattle.rules.specs.Valid.{valid}
@@ -31,13 +30,13 @@ use Rattle.rules.specs.declared.Register.the-variants.{Only}
 use Rattle.rules.specs.declared.Single.the-variants.{IntrState}
 use Rattle.policy.specs.Install.{Ask, Entry, under, install, asks}
 use Rattle.policy.specs.Plan.{planOf, barred, boot}
-use Rattle.boot_laws.specs.Ran.{inputs, noAsk, All, StoppedAt}
+use Rattle.boot_laws.specs.Boots.{booted, Either}
+use Rattle.boot_laws.specs.Ran.{noAsk, All}
 use Rattle.boot_laws.specs.Ran.All.{none, more}
 use Rattle.policy.specs.Sound.{unnamed, unguarded, installable, sound, free}
 use Rattle.boot_laws.specs.Stands.{Success}
 use Rattle.policy.specs.Table.{alertCount}
 use Rattle.policy.specs.declared.Bar.the-variants.{BadState, FewAlerts}
-use Rattle.policy.specs.declared.Installed.{Installed}
 use Rattle.policy.specs.declared.Lifecycle.{Lifecycle}
 use Rattle.policy.specs.declared.Progress.{Progress}
 use Rattle.boot_laws.proofs.AskLaws.{install-run, install-stops}
@@ -69,17 +68,11 @@ begins l h t a =
     ap₂ (λ (x y : Bool). cond x (cond y (barred h FewAlerts) (install (under h) (asks (planOf l)) .reached)) (barred h BadState)) t
     (le-ltb (h .n) alertCount a)
 
--- what a success gives: register 0, answer 0 and the state after all ticks
-abbrev pub booted : Lifecycle → Handler → Installed
-booted l h = record { handler = run h (inputs (asks (planOf l))); answer = pos 0; register = 0 }
-
 -- a boot that begins succeeds, or stopped at the first answer that is not wanted, with what that tick gave
-pub boot-either : (l : Lifecycle) (h : Handler) → valid h ≡ true → alertCount ≤ h .n
-    → (boot l h ≡ booted l h) ⊎ ((s : Progress) × StoppedAt h (asks (planOf l)) s × (boot l h ≡ s .reached))
+pub boot-either : (l : Lifecycle) (h : Handler) → valid h ≡ true → alertCount ≤ h .n → Either l h
 boot-either l h t a = go (install (under h) (asks (planOf l)) .going) refl
   where
-    go : (b : Bool) → install (under h) (asks (planOf l)) .going ≡ b
-        → (boot l h ≡ booted l h) ⊎ ((s : Progress) × StoppedAt h (asks (planOf l)) s × (boot l h ≡ s .reached))
+    go : (b : Bool) → install (under h) (asks (planOf l)) .going ≡ b → Either l h
     go true g = inl (begins l h t a ∙ ap (λ (p : Progress). p .reached) (install-run h (asks (planOf l)) g))
     go false g = inr (install (under h) (asks (planOf l)), install-stops h (asks (planOf l)) g, begins l h t a)
 

@@ -16,4 +16,6 @@ pub mod Unlocked
 pub mod Course
 pub mod Ready
 pub mod StaysIdle
+pub mod Boots
+pub mod WholeBoot
 pub mod BootExamples

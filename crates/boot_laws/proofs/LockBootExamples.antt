@@ -17,8 +17,9 @@ use Rattle.policy.specs.Table.{markAt}
 use Rattle.policy.specs.declared.Installed.{Installed}
 use Rattle.policy.specs.declared.Lifecycle.the-variants.{Prod}
 use Rattle.policy.proofs.StopExamples.{staged}
+use Rattle.boot_laws.specs.Boots.{booted}
 use Rattle.boot_laws.proofs.After.{boot-stands}
-use Rattle.boot_laws.proofs.Boot.{booted, boot-succeeds}
+use Rattle.boot_laws.proofs.Boot.{boot-succeeds}
 use Rattle.boot_laws.proofs.StopLaws.{class-locked}
 
 -- names every definition that an example computes with

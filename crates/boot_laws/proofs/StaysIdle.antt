@@ -17,20 +17,19 @@ use Rattle.class_rules.specs.declared.Signals.{Signals}
 use Rattle.escalation.proofs.Going.{step-place}
 use Rattle.escalation.proofs.ListTicks.{input, at-next}
 use Rattle.escalation.proofs.ListTicks
-use Rattle.escalation.specs.Escalation.{stateIn, Starts, Escalated, Demand3}
-use Rattle.escalation.specs.List.{IsTick, before, inputAt, givenAt, classRead}
+use Rattle.escalation.specs.Escalation.{stateIn}
+use Rattle.escalation.specs.List.{before, inputAt, classRead}
 use Rattle.laws.proofs.Tick.Content.{after-class, acted-place}
-use Rattle.rules.specs.Access.{clears}
 use Rattle.rules.specs.Run.{run}
 use Rattle.rules.specs.State.{most, newHandler}
-use Rattle.rules.specs.Tick.{happensIn, after, signalsIn}
+use Rattle.rules.specs.Tick.{after, signalsIn}
 use Rattle.rules.specs.Valid.{valid}
 use Rattle.rules.specs.declared.Handler.{Handler}
 use Rattle.rules.specs.declared.Input.{Input}
-use Rattle.boot_laws.specs.FromBoot.{FirstEvent}
-use Rattle.policy.specs.Plan.{isA, locks, boot}
+use Rattle.boot_laws.specs.FromBoot.{FirstEvent, startsIn, FirstInList, UntilFirst}
+use Rattle.policy.specs.Plan.{locks, boot}
 use Rattle.boot_laws.specs.Stands.{Success}
-use Rattle.policy.specs.Table.{alertCount, markAt}
+use Rattle.policy.specs.Table.{alertCount}
 use Rattle.policy.specs.declared.Installed.{Installed}
 use Rattle.policy.specs.declared.Lifecycle.{Lifecycle}
 use Rattle.boot_laws.proofs.AnyBoot.{boot-valid}
@@ -70,11 +69,7 @@ module _ (l : Lifecycle) (n : ℕ) (c : locks l ≡ true) (a : alertCount ≤ n)
   good : valid h ≡ true
   good = boot-valid l (newHandler n) (went l (newHandler n) ok .good)
 
-  -- class A starts in tick i, counted from 0
-  abbrev startsIn : ℕ → Bool
-  startsIn i = starts (signalsIn (ListTicks.at h xs i) (input xs i) 0) (classRead (ListTicks.at h xs i) (input xs i) 0)
-
-  idle-to : (i : ℕ) → i ≤ length xs → ((j : ℕ) → j < i → startsIn j ≡ false) → stateIn (ListTicks.at h xs i) 0 ≡ Idle
+  idle-to : (i : ℕ) → i ≤ length xs → ((j : ℕ) → j < i → startsIn h xs j ≡ false) → stateIn (ListTicks.at h xs i) 0 ≡ Idle
   unfolding run
   idle-to zero m e = from-boot l n xs c a b .idle
   idle-to (suc i) m e =
@@ -82,26 +77,15 @@ module _ (l : Lifecycle) (n : ℕ) (c : locks l ≡ true) (a : alertCount ≤ n)
       ∙ tick-idles (ListTicks.at h xs i) (input xs i) (idle-to i (omega arith) (λ j (k : j < i). e j (omega arith)))
       (timeout-is l c h good (boot-stands l (newHandler n) ok) (take i xs) (input xs i)) (e i (omega arith))
 
-  is-first : (first s i : ℕ) → IsTick first xs s → ((j : ℕ) → j < s - first → startsIn j ≡ false) → i < alertCount → isA (markAt l i) ≡ true
-      → happensIn (before first h xs s) (inputAt first xs s) i ≡ true
-      → clears (before first h xs s) (inputAt first xs s .access) 0 ≡ false → FirstEvent l (before first h xs s) (inputAt first xs s) i
-  is-first first s i t e k m o u =
-      let r : s - first ≤ length xs = let d = t .from in let f = t .to in omega arith in
-      record { idle = idle-to (s - first) r e; is-alert = k; marked = m; occurs = o; unclear = u }
+  is-first : (first s i : ℕ) → FirstInList l h xs first s i → FirstEvent l (before first h xs s) (inputAt first xs s) i
+  is-first first s i f =
+      let r : s - first ≤ length xs = let t = f .is-tick .from in let u = f .is-tick .to in omega arith in
+      record { idle = idle-to (s - first) r (f .unstarted); is-alert = f .is-alert; marked = f .marked; occurs = f .occurs; unclear = f .unclear }
 
-  -- the first event of an alert marked A starts it: no start came before tick s of the list, and in it an alert marked A has an event with no
-  -- accepted clear of class A
-  pub first-starts : (first s i : ℕ) → IsTick first xs s → ((j : ℕ) → j < s - first → startsIn j ≡ false) → i < alertCount → isA (markAt l i) ≡ true
-      → happensIn (before first h xs s) (inputAt first xs s) i ≡ true
-      → clears (before first h xs s) (inputAt first xs s .access) 0 ≡ false → Starts (before first h xs s) (inputAt first xs s) 0
-  first-starts first s i t e k m o u = from-boot l n xs c a b .start first s i t (is-first first s i t e k m o u)
-
-  -- and demand 3 holds of it from that tick on
-  pub first-escalates : (first s i : ℕ) → IsTick first xs s → ((j : ℕ) → j < s - first → startsIn j ≡ false) → i < alertCount → isA (markAt l i) ≡ true
-      → happensIn (before first h xs s) (inputAt first xs s) i ≡ true
-      → clears (before first h xs s) (inputAt first xs s .access) 0 ≡ false → (v : ℕ) → s ≤ v → IsTick first xs v
-      → Escalated (classRead (before first h xs s) (inputAt first xs s) 0) s v (givenAt first h xs v) 0
-  first-escalates first s i t e k m o u = from-boot l n xs c a b .escalation first s i t (is-first first s i t e k m o u)
-
-  pub whole-list : Demand3 h xs
-  whole-list = from-boot l n xs c a b .demand3
+  pub until-first : UntilFirst l h xs
+  until-first =
+      record {
+        stays-idle = idle-to;
+        first-starts = λ first s i f. from-boot l n xs c a b .start first s i (f .is-tick) (is-first first s i f);
+        first-escalates = λ first s i f. from-boot l n xs c a b .escalation first s i (f .is-tick) (is-first first s i f);
+      }

@@ -1,34 +1,23 @@
--- After a success: which locks the boot leaves as they were. "its REGWEN and those of alerts marked A, never X, are locked, only in PROD and PROD_END"
+-- Which locks any boot leaves as they were. "its REGWEN and those of alerts marked A, never X, are locked, only in PROD and PROD_END"
 -- Assumes nothing.
-use Prim.Native.Nat.{ℕ, _≤_, _<_}
+use Prim.Native.Nat.{ℕ}
 use mathlib.Core.Path.{_≡_, refl, sym, ap, _∙_}
 use mathlib.Core.Bool.{Bool, true, false, _&&_, _||_}
-use native.Mathlib.Omega.{arith}
 use borrow.Author.Tests.{lt-ltb}
-use lib.Dec.{eqb}
 use Rattle.bits.proofs.IndexLaws.{and-true, true-and, all-at}
 use Rattle.bits.specs.Index.{allTo}
-use Rattle.rules.specs.Access.{value}
 use Rattle.rules.specs.Map.{numberOf}
 use Rattle.rules.specs.State.{classCount}
 use Rattle.rules.specs.declared.Field.{Field}
 use Rattle.rules.specs.declared.Handler.{Handler}
 use Rattle.rules.specs.declared.Register.the-variants.{Alert, Block}
 use Rattle.rules.specs.declared.Setting.{Setting}
-use Rattle.policy.specs.Plan.{isA, locks, alertEntries, classEntries, lockEntries, classLock, partsTo, planOf, boot}
+use Rattle.policy.specs.Plan.{alertEntries, classEntries, lockEntries, classLock, partsTo, planOf, boot}
 use Rattle.policy.specs.Sound.{unnamed}
-use Rattle.boot_laws.specs.Stands.{Success}
+use Rattle.boot_laws.specs.Stands.{locksAlert, locksClass, Unlocked}
 use Rattle.policy.specs.Table.{alertCount, markAt}
 use Rattle.policy.specs.declared.Lifecycle.{Lifecycle}
-use Rattle.boot_laws.proofs.Boot.{went}
 use Rattle.boot_laws.proofs.After.{boot-untouched}
-
--- the boot locks alert i, and class k
-abbrev pub locksAlert : Lifecycle → ℕ → Bool
-locksAlert l i = locks l && isA (markAt l i)
-
-abbrev pub locksClass : Lifecycle → ℕ → Bool
-locksClass l k = locks l && eqb k 0
 
 -- the plan names no other lock
 abbrev sparesAlert : Lifecycle → ℕ → Bool
@@ -49,15 +38,14 @@ plan-spares Lifecycle.Scrap = refl
 other : (a b : Bool) → (a || b) ≡ true → a ≡ false → b ≡ true
 other a b e f = sym (ap (λ (c : Bool). c || b) f) ∙ e
 
-module _ (l : Lifecycle) (h : Handler) (s : Success l h) where
-  pub alert-unlocked : (i : ℕ) → i < alertCount → locksAlert l i ≡ false → value (boot l h .handler) (Alert Field.Regwen i) ≡ value h (Alert Field.Regwen i)
-  alert-unlocked i b f =
-      let m : alertCount ≤ h .n = went l h s .large in
-      let u = all-at (sparesAlert l) alertCount (and-true (allTo (sparesAlert l) alertCount) _ (plan-spares l) .0) i b in
-      boot-untouched l h .values (Alert Field.Regwen i) (lt-ltb i (h .n) (omega arith)) (other (locksAlert l i) _ u f) refl
-
-  -- classes B, C and D always, and class A where the lifecycle does not lock it
-  pub class-unlocked : (k : ℕ) → k < classCount → locksClass l k ≡ false → value (boot l h .handler) (Block Setting.Regwen k) ≡ value h (Block Setting.Regwen k)
-  class-unlocked k b f =
-      let u = all-at (sparesClass l) classCount (and-true (allTo (sparesAlert l) alertCount) _ (plan-spares l) .1) k b in
-      boot-untouched l h .values (Block Setting.Regwen k) (true-and (lt-ltb k classCount b) refl) (other (locksClass l k) _ u f) refl
+-- of every boot, one that stops, and one that does not begin
+pub boot-unlocked : (l : Lifecycle) (h : Handler) → Unlocked l h (boot l h .handler)
+boot-unlocked l h =
+    record {
+      alerts = λ i b m f.
+          let u = all-at (sparesAlert l) alertCount (and-true (allTo (sparesAlert l) alertCount) _ (plan-spares l) .0) i b in
+          boot-untouched l h .values (Alert Field.Regwen i) (lt-ltb i (h .n) m) (other (locksAlert l i) _ u f) refl;
+      classes = λ k b f.
+          let u = all-at (sparesClass l) classCount (and-true (allTo (sparesAlert l) alertCount) _ (plan-spares l) .1) k b in
+          boot-untouched l h .values (Block Setting.Regwen k) (true-and (lt-ltb k classCount b) refl) (other (locksClass l k) _ u f) refl;
+    }

@@ -1,3 +1,4 @@
 pub mod Ran
 pub mod Stands
+pub mod Boots
 pub mod FromBoot

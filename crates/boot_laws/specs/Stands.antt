@@ -2,7 +2,8 @@
 -- Assumes nothing.
 use Prim.Native.Nat.{ℕ, _≤_, _<_}
 use mathlib.Core.Path.{_≡_}
-use mathlib.Core.Bool.{true, false}
+use mathlib.Core.Bool.{Bool, true, false, _&&_}
+use lib.Dec.{eqb}
 use lib.IntN.{pos}
 use Rattle.class_rules.specs.Class.{en, lock}
 use Rattle.laws.specs.Frame.{movesItself}
@@ -56,6 +57,19 @@ pub record Untouched (l : Lifecycle) (h g : Handler) : Type 0 where
   pub local-stages : (f : Field) (j : ℕ) → j < localCount → stage g (Local f j) ≡ stage h (Local f j)
   pub others : (f : Field) (i : ℕ) → alertCount ≤ i → i < h .n → fieldRow f .moves ≡ false → value g (Alert f i) ≡ value h (Alert f i)
   pub other-stages : (f : Field) (i : ℕ) → alertCount ≤ i → i < h .n → stage g (Alert f i) ≡ stage h (Alert f i)
+
+-- the boot locks alert i, and class k
+abbrev pub locksAlert : Lifecycle → ℕ → Bool
+locksAlert l i = locks l && isA (markAt l i)
+
+abbrev pub locksClass : Lifecycle → ℕ → Bool
+locksClass l k = locks l && eqb k 0
+
+-- "its REGWEN and those of alerts marked A, never X, are locked, only in PROD and PROD_END": every other lock is as before, wherever the boot stops
+pub record Unlocked (l : Lifecycle) (h g : Handler) : Type 0 where
+  pub alerts : (i : ℕ) → i < alertCount → i < h .n → locksAlert l i ≡ false → value g (Alert Field.Regwen i) ≡ value h (Alert Field.Regwen i)
+  -- classes B, C and D always, and class A where the lifecycle does not lock it
+  pub classes : (k : ℕ) → k < classCount → locksClass l k ≡ false → value g (Block Setting.Regwen k) ≡ value h (Block Setting.Regwen k)
 
 -- what moves only with an event: after a success none came, so INTR_STATE, every CAUSE and every ACCUM_CNT is as before. STATE, ESC_CNT and
 -- CLR_REGWEN are the run's: a class in Timeout or a phase moves without an event

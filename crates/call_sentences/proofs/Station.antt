@@ -14,7 +14,7 @@ use Rattle.rules.specs.declared.Sample.{Sample}
 use Rattle.writer.specs.Lent.{lent, writeLent}
 use Rattle.sentences.specs.AccessArrays.{Sized}
 use Rattle.sentences.proofs.OnlyMaking.{only-making}
-use Rattle.trace_sentences.specs.Library.{make as l-make, step as l-step, replay as l-replay, any-input as l-input, all-bytes as l-bytes, Got as LGot}
+use Rattle.trace_sentences.specs.Library.{off, make as l-make, step as l-step, replay as l-replay, any-input as l-input, all-bytes as l-bytes, Got as LGot}
 use Rattle.trace_sentences.proofs.Library.{rules, holds-library, same-got, same-leaves, sized-leaves}
 use Rattle.call_sentences.specs.Station.{Station, Sound, Call, make, step, replay, write, Typed, any-count, any-step, all-bytes, all-words, AllTyped, none, one, Got, got, all}
 use Rattle.call_sentences.proofs.HoldsArguments.{holds-tick-inputs, holds-write-calls}
@@ -69,7 +69,7 @@ module _ (c d : Station) (s : Sound c) (t : Sound d) where
 
   same-call : (h : Handler) (x : Call) → Sized h → Typed x → got c h x ≡ got d h x
   same-call h (make n) z any-count =
-      ap (λ (m : Made). record { number = m .answer; output = record { interrupts = 0; lines = 0 }; lent = []; state = m .handler }) (same-new n)
+      ap (λ (m : Made). record { number = m .answer; output = off; lent = []; state = m .handler }) (same-new n)
   same-call h (step k r v w) z any-step =
       let x = s .input k r v w in
       let g = same-got (s .behind) (t .behind) (s .sound) (t .sound) h (l-step x) z l-input in
@@ -88,13 +88,13 @@ module _ (c d : Station) (s : Sound c) (t : Sound d) where
       λ i.
       record {
         number = (s .batch-answer e h bytes out ∙ ap (λ (y : LGot). y .number) g ∙ sym (t .batch-answer e h bytes out)) i;
-        output = record { interrupts = 0; lines = 0 };
+        output = off;
         lent = (s .batch-list e h bytes out ∙ ap (λ (y : LGot). y .lent) g ∙ sym (t .batch-list e h bytes out)) i;
         state = (s .batch-state e h bytes out ∙ l ∙ sym (t .batch-state e h bytes out)) i;
       }
   same-call h (write ks rs vs ps ns buffer) z (all-words p q) =
       let w = only-write-calls (c .write-answer) (d .write-answer) (c .write-buffer) (d .write-buffer) (s .writes) (t .writes) ks rs vs ps ns buffer p q in
-      λ i. record { number = w .answer i; output = record { interrupts = 0; lines = 0 }; lent = w .buffer i; state = h }
+      λ i. record { number = w .answer i; output = off; lent = w .buffer i; state = h }
 
   -- every sequence of calls, from any state whose arrays have their lengths
   pub only-station : (h : Handler) (xs : List Call) → Sized h → AllTyped xs → all c h xs ≡ all d h xs

@@ -11,7 +11,7 @@ use Rattle.rules.specs.declared.Input.{Input}
 use Rattle.rules.specs.declared.Made.{Made}
 use Rattle.rules.specs.declared.Output.{Output}
 use Rattle.rules.specs.declared.Sample.{Sample}
-use Rattle.trace_sentences.specs.Library.{Library, Satisfies}
+use Rattle.trace_sentences.specs.Library.{Library, Satisfies, off}
 use Rattle.call_sentences.specs.Arguments.{TickInputs, WriteCalls}
 
 pub record Station : Type 0 where
@@ -70,12 +70,12 @@ pub record Got : Type 0 where
   pub state : Handler
 
 abbrev pub got : Station → Handler → Call → Got
-got c h (make n) = record { number = c .new n .answer; output = record { interrupts = 0; lines = 0 }; lent = []; state = c .new n .handler }
+got c h (make n) = record { number = c .new n .answer; output = off; lent = []; state = c .new n .handler }
 got c h (step k r v w) = record { number = c .tick-answer h k r v w; output = c .tick-output h k r v w; lent = []; state = c .tick-state h k r v w }
 got c h (replay e bytes out) =
-    record { number = c .batch-answer e h bytes out; output = record { interrupts = 0; lines = 0 }; lent = c .batch-list e h bytes out; state = c .batch-state e h bytes out }
+    record { number = c .batch-answer e h bytes out; output = off; lent = c .batch-list e h bytes out; state = c .batch-state e h bytes out }
 got c h (write ks rs vs ps ns buffer) =
-    record { number = c .write-answer ks rs vs ps ns buffer; output = record { interrupts = 0; lines = 0 }; lent = c .write-buffer ks rs vs ps ns buffer; state = h }
+    record { number = c .write-answer ks rs vs ps ns buffer; output = off; lent = c .write-buffer ks rs vs ps ns buffer; state = h }
 
 -- all that a sequence of calls gives, each on the state that the one before it left
 unfoldable pub all : Station → Handler → List Call → List Got

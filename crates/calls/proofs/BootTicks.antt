@@ -21,8 +21,7 @@ use Rattle.policy.specs.declared.Bar.the-variants.{BadState, FewAlerts}
 use Rattle.policy.specs.declared.Lifecycle.{Lifecycle}
 use Rattle.policy.specs.declared.Progress.{Progress}
 use Rattle.boot_laws.specs.Ran
-use Rattle.boot_laws.specs.Ran.{inputOf, wants, reach, noAsk, StoppedAt}
-use Rattle.boot_laws.specs.Stands.{Success}
+use Rattle.boot_laws.specs.Ran.{inputOf, wants, reach, noAsk}
 use Rattle.boot_laws.proofs.AskLaws.{asked-wanted, asked-other, asked-going, stays, was-going}
 use Rattle.boot_laws.proofs.Boot.{went}
 use Rattle.calls.specs.BootTicks.{ran, bootInputs, BootRan}

@@ -23,7 +23,8 @@ use Rattle.policy.specs.declared.Lifecycle.{Lifecycle}
 use Rattle.policy.specs.declared.Progress.{Progress}
 use Rattle.boot_laws.specs.Ran
 use Rattle.boot_laws.specs.Ran.{wants, noAsk, StoppedAt}
-use Rattle.boot_laws.proofs.Boot.{booted, boot-either}
+use Rattle.boot_laws.proofs.Boot.{boot-either}
+use Rattle.boot_laws.specs.Boots.{booted}
 use Rattle.trace_rules.specs.Batch.{batch, batchVerdict, batchInputs}
 use Rattle.rules.specs.Answer.{number}
 use Rattle.rules.specs.Run.{run, ticks}

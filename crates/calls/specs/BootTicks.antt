@@ -1,6 +1,6 @@
 -- Request (vi), "Boot policy": the ticks of a boot, "one access a tick with all wires at (0,1)". proofs/BootTicks.antt proves the claim of every boot.
 -- Assumes nothing.
-use Prim.Native.Nat.{ℕ, suc, _≤_, _<_}
+use Prim.Native.Nat.{suc, _≤_, _<_}
 use mathlib.Core.Path.{_≡_}
 use mathlib.Core.Bool.{true, false, cond}
 use mathlib.Core.List.{List, [], _∷_}

@@ -1,9 +1,11 @@
 -- The plans in numbers, whole: no theorem about the end sees their order. Written out from source document 002 and request (vi).
 -- Assumes nothing.
-use Prim.Native.Nat.{ℕ}
+use Prim.Native.Nat.{ℕ, _<_}
 use mathlib.Core.Path.{_≡_, refl}
 use mathlib.Core.Bool.{Bool, true, false, _&&_}
 use mathlib.Core.List.{List, [], _∷_, _++_, map}
+use native.Mathlib.Omega.{arith}
+use borrow.Author.Tests.{ne-eqb}
 use lib.Dec.{eqb}
 use lib.ListN.{length, replicate}
 use Rattle.rules.specs.Map.{numberOf, isShadowed}
@@ -156,3 +158,10 @@ lifecycles : (lifecycleOf 0 ≡ Lifecycle.Raw)
     × (lifecycleOf 255 ≡ Lifecycle.ProdEnd)
 unfolding plans
 lifecycles = (refl, refl, refl, refl, refl, refl, refl, refl)
+
+-- any number over 5
+over-five : (n : ℕ) → 5 < n → lifecycleOf n ≡ Lifecycle.ProdEnd
+unfolding lifecycleOf
+over-five n l =
+    simp
+    (ne-eqb n 0 (λ e. omega arith), ne-eqb n 1 (λ e. omega arith), ne-eqb n 2 (λ e. omega arith), ne-eqb n 3 (λ e. omega arith), ne-eqb n 4 (λ e. omega arith), ne-eqb n 5 (λ e. omega arith))

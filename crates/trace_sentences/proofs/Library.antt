@@ -27,7 +27,7 @@ use Rattle.sentences.proofs.HoldsMaking.{holds-making}
 use Rattle.sentences.proofs.OnlyMaking.{only-making}
 use Rattle.sentences.proofs.Whole.{Same, only-whole}
 use Rattle.trace_sentences.specs.BatchTicks.{Case7, Case8, Case9, count, recordOf, Ran}
-use Rattle.trace_sentences.specs.Library.{Library, Satisfies, Call, make, step, replay, record-all, Typed, any-count, any-input, all-bytes, all-arrays, AllTyped, none, one, Got, got, leaves, all, last}
+use Rattle.trace_sentences.specs.Library.{Library, Satisfies, off, Call, make, step, replay, record-all, Typed, any-count, any-input, all-bytes, all-arrays, AllTyped, none, one, Got, got, leaves, all, last}
 use Rattle.trace_sentences.specs.RecordBits.{form}
 use Rattle.trace_sentences.specs.Replays.{Replays}
 use Rattle.trace_sentences.proofs.HoldsWriters.{holds-writer}
@@ -137,7 +137,7 @@ module _ (l m : Library) (s : Satisfies l) (t : Satisfies m) where
 
   pub same-got : (h : Handler) (c : Call) → Sized h → Typed c → got l h c ≡ got m h c
   same-got h (make n) z any-count =
-      ap (λ (d : Made). record { number = d .answer; output = record { interrupts = 0; lines = 0 }; lent = [] }) (only-making (l .new) (m .new) (s .making) (t .making) n)
+      ap (λ (d : Made). record { number = d .answer; output = off; lent = [] }) (only-making (l .new) (m .new) (s .making) (t .making) n)
   same-got h (step x) z any-input = λ i.
       record {
         number = (s .answer h x ∙ same-tick h x z .answer ∙ sym (t .answer h x)) i;
@@ -145,10 +145,10 @@ module _ (l m : Library) (s : Satisfies l) (t : Satisfies m) where
         lent = [];
       }
   same-got h (replay e bytes out) z (all-bytes b) = λ i.
-      record { number = same-batch e h bytes out z b .answer i; output = record { interrupts = 0; lines = 0 }; lent = same-batch e h bytes out z b .list i }
+      record { number = same-batch e h bytes out z b .answer i; output = off; lent = same-batch e h bytes out z b .list i }
   same-got h (record-all xs buffer) z (all-arrays a) =
       let w = only-writer (l .write-answer) (m .write-answer) (l .write-buffer) (m .write-buffer) (s .writer) (t .writer) xs buffer a in
-      λ i. record { number = w .answer i; output = record { interrupts = 0; lines = 0 }; lent = w .buffer i }
+      λ i. record { number = w .answer i; output = off; lent = w .buffer i }
 
   pub same-leaves : (h : Handler) (c : Call) → Sized h → Typed c → leaves l h c ≡ leaves m h c
   same-leaves h (make n) z any-count = ap (λ (d : Made). d .handler) (only-making (l .new) (m .new) (s .making) (t .making) n)

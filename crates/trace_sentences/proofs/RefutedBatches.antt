@@ -9,19 +9,22 @@ use native.Mathlib.Omega.{arith}
 use lib.Dec.{eqb, ltb}
 use lib.IntN.{ℤ, pos, negℤ}
 use lib.ListN.{getD, length, take, replicate}
-use Rattle.rules.specs.Answer.{firstOf}
+use Rattle.rules.specs.Answer.{firstOf, number}
+use Rattle.rules.specs.Run.{run}
 use Rattle.rules.specs.State.{newHandler}
 use Rattle.rules.specs.Tick.{ticked}
-use Rattle.rules.specs.declared.Access.the-variants.{Nothing}
+use Rattle.rules.specs.declared.Access.the-variants.{Nothing, Malformed}
 use Rattle.rules.specs.declared.Handler.{Handler}
 use Rattle.rules.specs.declared.Input.{Input}
 use Rattle.trace_rules.specs.Batch.{batch}
 use Rattle.trace_rules.specs.Edition.{newest, recordBytes}
-use Rattle.trace_rules.specs.Record.{inputOf, recordable}
+use Rattle.trace_rules.specs.Record.{inputOf, inputsOf, recordable}
 use Rattle.trace_rules.specs.Word.{wordOf}
 use Rattle.trace_rules.specs.Writer.{anyUnrecordable, write, writeOf, writeVerdict}
 use Rattle.trace_rules.specs.declared.Edition.{Edition}
 use Rattle.trace_rules.specs.declared.Edition.the-variants.{Alerts64, Alerts248}
+use Rattle.rules.proofs.Scenes.{rules}
+use Rattle.trace_rules.proofs.TraceScenes.{traces}
 use Rattle.laws.proofs.Access.Written.{new-valid}
 use Rattle.sentences.specs.Valid.{Valid}
 use Rattle.sentences.proofs.HoldsValid.{holds-valid}
@@ -30,7 +33,7 @@ use Rattle.trace_sentences.specs.BatchTicks.{Case7, Batches}
 use Rattle.trace_sentences.specs.Writers.{Arrays, entry, Writer}
 use Rattle.trace_sentences.proofs.HoldsBatches.{holds-batches}
 use Rattle.trace_sentences.proofs.HoldsWords.{refusal-of}
-use Rattle.trace_sentences.proofs.HoldsWriters.{holds-writer}
+use Rattle.trace_sentences.proofs.HoldsWriters.{ten, holds-writer}
 use Rattle.trace_sentences.proofs.OnlyWriters.{only-writer}
 
 -- ── batches: the rules' ticks, words, records and states, but another answer or another list ──
@@ -71,6 +74,15 @@ no-nine-before-eight b =
     let r = b Alerts248 (newHandler 1) (replicate 71 0) [] .refused-8 not-7 (λ e. omega (arith, e)) in
     let d = ap refusal-of (r .answer) in omega (arith, d)
 
+-- half records taken
+abbrev halved : Edition → Handler → List ℕ → List ℕ → ℤ
+halved e h bytes out = cond (eqb (length bytes % (recordBytes e / 2)) 0) (pos 0) (batch e h bytes out .answer)
+
+pub no-half-records : ¬ Answers halved
+no-half-records b =
+    let r = b Alerts248 (newHandler 1) (replicate 35 0) [] .refused-8 not-7 (λ e. omega (arith, e)) in
+    let d = ap refusal-of (r .answer) in omega (arith, d)
+
 -- an old batch that takes a handler of 65 alerts
 abbrev lenient : Edition → Handler → List ℕ → List ℕ → ℤ
 lenient e h bytes out = batch Alerts248 h bytes out .answer
@@ -91,6 +103,16 @@ no-cleared-words b =
     let r = b Alerts248 (newHandler 1) [] (5 ∷ []) .runs not-7 (λ f. f refl) (λ l. omega (arith, l)) in
     let e = r .later 0 (omega arith) in
     omega (arith, e)
+
+-- a refused batch that runs: 1 is written to INTR_ENABLE, and the list has no room for the word
+abbrev enables : List ℕ
+enables = 0x80 ∷ 0x08 ∷ 0 ∷ 0 ∷ 0 ∷ 0 ∷ 0 ∷ 1 ∷ replicate 62 0
+
+pub no-refused-run : ¬ Batches ticked wordOf inputOf (λ e h bytes out. run h (inputsOf e bytes)) (λ e h bytes out. batch e h bytes out .answer) (λ e h bytes out. batch e h bytes out .out)
+unfolding rules traces
+no-refused-run b =
+    let r = b Alerts248 (newHandler 1) enables [] .refused-9 not-7 (λ f. f refl) (omega arith) in
+    let d = ap (λ (h : Handler). h .interrupts .enable) (r .state) in omega (arith, d)
 
 -- ── writers ──
 
@@ -113,3 +135,21 @@ unfolding write writeOf writeVerdict firstOf anyUnrecordable recordable
 no-emptied-buffer w =
     let e = only-writer (λ xs buffer. write newest xs buffer .answer) (λ xs buffer. write newest xs buffer .answer) emptied (λ xs buffer. write newest xs buffer .buffer) w holds-writer (still ∷ []) (5 ∷ []) still-arrays .buffer in
     let d = ap (λ (bs : List ℕ). length bs) e in omega (arith, d)
+
+-- one that looks at the first access alone
+abbrev careless : List Input → List ℕ → ℤ
+careless xs buffer = write newest (take 1 xs) buffer .answer
+
+abbrev second-bad : List Input
+second-bad = still ∷ record { access = Malformed; sample = still .sample } ∷ []
+
+second-arrays : (i : ℕ) → i < length second-bad → Arrays (entry second-bad i)
+second-arrays zero l = record { positive = refl; positive-word = still-word; negative = refl; negative-word = still-word }
+second-arrays (suc zero) l = record { positive = refl; positive-word = still-word; negative = refl; negative-word = still-word }
+second-arrays (suc (suc i)) l = absurd (omega arith)
+
+pub no-ten-of-first-only : ¬ Writer careless (λ xs buffer. write newest xs buffer .buffer)
+unfolding write writeOf writeVerdict firstOf anyUnrecordable recordable number
+no-ten-of-first-only w =
+    let r = w second-bad [] second-arrays .refused-10 (ten second-bad refl) in
+    let d = ap refusal-of (r .answer) in omega (arith, d)

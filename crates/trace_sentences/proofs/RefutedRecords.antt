@@ -43,12 +43,13 @@ hidden (Answer.Refused m) = cond (eqb (refusalNumber m) 12 || eqb (refusalNumber
 abbrev hides : Ticked → ℕ
 hides t = wordOf (record { handler = t .handler; answer = hidden (t .answer); output = t .output })
 
-abbrev differing : Ticked
-differing = record { handler = newHandler 1; answer = Answer.Refused Differs; output = record { interrupts = 0; lines = 0 } }
+-- a tick with these lines on
+abbrev gives : Answer → ℕ → Ticked
+gives a lines = record { handler = newHandler 1; answer = a; output = record { interrupts = 0; lines = lines } }
 
 pub no-hidden-refusal : ¬ Words number hides
 unfolding wordOf wordBy pack
-no-hidden-refusal w = let e = only-words number hides wordOf w holds-words differing (in-range (Answer.Refused Differs) (omega arith)) in omega (arith, e)
+no-hidden-refusal w = let e = only-words number hides wordOf w holds-words (gives (Answer.Refused Differs) 0) (in-range (Answer.Refused Differs) (omega arith)) in omega (arith, e)
 
 -- one with line 3 first
 abbrev reversed : Ticked → ℕ
@@ -58,8 +59,7 @@ reversed t =
 pub no-reversed-lines : ¬ Words number reversed
 unfolding wordOf wordBy pack bit bitsOf
 no-reversed-lines w =
-    let t : Ticked = record { handler = newHandler 1; answer = Answer.Done; output = record { interrupts = 0; lines = 1 } } in
-    let e = only-words number reversed wordOf w holds-words t (in-range Answer.Done (omega arith)) in omega (arith, e)
+    let e = only-words number reversed wordOf w holds-words (gives Answer.Done 1) (in-range Answer.Done (omega arith)) in omega (arith, e)
 
 -- ── records ──
 

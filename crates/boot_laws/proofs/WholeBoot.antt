@@ -1,0 +1,263 @@
+-- Request (vi) once more, taken from the claims over every lifecycle, state, alert, class, phase and tick, in raw registers and numbers. A claim that says
+-- less, or asks for more (an alert or class left out, fewer states, a stop whose answers are not said), does not give it.
+-- Assumes nothing.
+use Prim.Native.Nat.{ℕ, _+_, _-_, _≤_, _<_}
+use mathlib.Core.Path.{_≡_, refl, ap, _∙_}
+use mathlib.Core.Logic.{_⊎_, inl, inr}
+use mathlib.Core.Bool.{Bool, true, false, _&&_}
+use mathlib.Core.List.{List, map}
+use lib.Dec.{eqb}
+use lib.IntN.{pos, negsuc}
+use lib.ListN.{getD, length, take}
+use Rattle.bits.specs.Bits.{bit}
+use Rattle.class_rules.specs.Class.{stateOf}
+use Rattle.class_rules.specs.Step.{starts}
+use Rattle.class_rules.specs.declared.ClassState.the-variants.{Idle}
+use Rattle.escalation.specs.Escalation.{Starts, Escalated, Demand3}
+use Rattle.escalation.specs.List.{noInput, noTick}
+use Rattle.laws.specs.Above.{SameAbove}
+use Rattle.laws.specs.Frame.{movesItself}
+use Rattle.laws.specs.InMap.{inMap}
+use Rattle.laws.specs.Quiet.{runs}
+use Rattle.rules.specs.Access.{value, clears, acted}
+use Rattle.rules.specs.Answer.{number}
+use Rattle.rules.specs.Run.{run, ticks}
+use Rattle.rules.specs.Stages.{stage}
+use Rattle.rules.specs.State.{armed, classAt, newHandler}
+use Rattle.rules.specs.Tick.{ticked, happensIn, signalsIn}
+use Rattle.rules.specs.Valid.{valid}
+use Rattle.class_rules.specs.declared.Class.{Class}
+use Rattle.rules.specs.declared.Field.{Field}
+use Rattle.rules.specs.declared.Handler.{Handler}
+use Rattle.rules.specs.declared.Input.{Input}
+use Rattle.rules.specs.declared.Register.{Register}
+use Rattle.rules.specs.declared.Register.the-variants.{Only, Local, Alert, Block}
+use Rattle.rules.specs.declared.Setting.{Setting}
+use Rattle.rules.specs.declared.Setting.the-variants.{Ctrl, AccumCnt, AccumThresh, TimeoutCyc, PhaseCyc}
+use Rattle.rules.specs.declared.Single.the-variants.{IntrState, IntrEnable}
+use Rattle.rules.specs.declared.Ticked.{Ticked}
+use Rattle.policy.specs.Install.{Ask, Entry, rest, is, asks}
+use Rattle.policy.specs.Plan.{classOf, enOf, isA, locks, ctrlOf, lengthOf, alertEntries, classEntries, planOf, boot}
+use Rattle.policy.specs.Sound.{unnamed, free}
+use Rattle.policy.specs.Table.{markAt}
+use Rattle.policy.specs.declared.Lifecycle.{Lifecycle}
+use Rattle.policy.specs.declared.Progress.{Progress}
+use Rattle.boot_laws.specs.Boots.{Either}
+use Rattle.boot_laws.specs.FromBoot.{FirstEvent, FirstInList}
+use Rattle.boot_laws.specs.Ran.{noAsk, Among}
+use Rattle.boot_laws.specs.Ran.Among.{here, there}
+use Rattle.boot_laws.specs.Stands.{Success}
+use Rattle.boot_laws.proofs.Boots.{boots, new-boots}
+use Rattle.boot_laws.proofs.FromBoot.{from-boot}
+use Rattle.boot_laws.proofs.Members.{has-length, alert-part, class-part}
+use Rattle.boot_laws.proofs.StaysIdle.{until-first}
+
+-- ── of any boot ──
+
+module _ (l : Lifecycle) (h : Handler) where
+  abbrev end : Handler
+  end = boot l h .handler
+
+  not-begun : (valid h ≡ false → boot l h ≡ record { handler = h; answer = negsuc 6; register = 0 })
+      × (valid h ≡ true → h .n < 58 → boot l h ≡ record { handler = h; answer = negsuc 12; register = 0 })
+  not-begun = let b = boots l h in (b .bad-state, b .few-alerts)
+
+  left-alone : (end .n ≡ h .n)
+      × ((o : Register) → inMap (h .n) o ≡ true → unnamed o (planOf l) ≡ true
+      → (movesItself o ≡ false → value end o ≡ value h o) × (stage end o ≡ stage h o))
+      × (value end (Only IntrEnable) ≡ value h (Only IntrEnable))
+  left-alone = let u = boots l h .untouched in (u .n, λ o i n. (u .values o i n, u .stages o i n), u .enables)
+
+  locals-alone : (j : ℕ) → j < 7
+      → (value end (Local Field.Regwen j) ≡ value h (Local Field.Regwen j))
+      × (value end (Local Field.En j) ≡ value h (Local Field.En j))
+      × (value end (Local Field.Class j) ≡ value h (Local Field.Class j))
+      × ((f : Field) → stage end (Local f j) ≡ stage h (Local f j))
+  locals-alone j b =
+      let u = boots l h .untouched in
+      (u .locals Field.Regwen j b refl, u .locals Field.En j b refl, u .locals Field.Class j b refl, λ f. u .local-stages f j b)
+
+  others-alone : (i : ℕ) → 58 ≤ i → i < h .n
+      → (value end (Alert Field.Regwen i) ≡ value h (Alert Field.Regwen i))
+      × (value end (Alert Field.En i) ≡ value h (Alert Field.En i))
+      × (value end (Alert Field.Class i) ≡ value h (Alert Field.Class i))
+      × ((f : Field) → stage end (Alert f i) ≡ stage h (Alert f i))
+  others-alone i a b =
+      let u = boots l h .untouched in
+      (u .others Field.Regwen i a b refl, u .others Field.En i a b refl, u .others Field.Class i a b refl, λ f. u .other-stages f i a b)
+
+  locks-alone : ((i : ℕ) → i < 58 → i < h .n → (locks l && isA (markAt l i)) ≡ false → value end (Alert Field.Regwen i) ≡ value h (Alert Field.Regwen i))
+      × ((k : ℕ) → k < 4 → (locks l && eqb k 0) ≡ false → value end (Block Setting.Regwen k) ≡ value h (Block Setting.Regwen k))
+  locks-alone = let u = boots l h .unlocked in (u .alerts, u .classes)
+
+  still-valid : (valid h ≡ true → valid end ≡ true) × SameAbove h end
+  still-valid = let b = boots l h in (b .keeps-valid, b .keeps-above)
+
+-- ── after register 0 and answer 0, from any state ──
+
+module _ (l : Lifecycle) (h : Handler) (r : boot l h .register ≡ 0) (a : boot l h .answer ≡ pos 0) where
+  abbrev g : Handler
+  g = boot l h .handler
+
+  success : Success l h
+  success = record { register = r; answer = a }
+
+  -- the state was accepted and so large, and all ticks of the plan ran
+  ran : (valid h ≡ true)
+      × (58 ≤ h .n)
+      × (boot l h ≡ record { handler = run h (map (λ (x : Ask). rest (x .access)) (asks (planOf l))); answer = pos 0; register = 0 })
+  ran = boots l h .success success
+
+  each-alert : (i : ℕ) → i < 58 → (value g (Alert Field.Class i) ≡ classOf (markAt l i)) × (value g (Alert Field.En i) ≡ enOf (markAt l i))
+  each-alert i b = let s = boots l h .stands success in (s .class i b, s .enable i b)
+
+  each-lock : locks l ≡ true
+      → (value g (Block Setting.Regwen 0) ≡ 0)
+      × (bit (classAt g 0 .ctrl) 0 ≡ true)
+      × (bit (classAt g 0 .ctrl) 1 ≡ true)
+      × ((i : ℕ) → i < 58 → isA (markAt l i) ≡ true → value g (Alert Field.Regwen i) ≡ 0)
+  each-lock c = let s = boots l h .stands success in let d = s .classLocks c in (d .0, d .1, d .2, λ i b m. s .alertLocks i b c m)
+
+  each-class : (k : ℕ) → k < 4
+      → (value g (Block AccumThresh k) ≡ 0)
+      × (value g (Block TimeoutCyc k) ≡ 0)
+      × ((p : ℕ) → p < 4 → value g (Block (PhaseCyc p) k) ≡ lengthOf k p)
+      × (value g (Block Ctrl k) ≡ ctrlOf l k)
+  each-class k b = let s = boots l h .stands success in (s .thresh k b, s .timeout k b, λ p c. s .lengths k p b c, s .ctrl k b)
+
+  -- no stage is open at a register of the plan: by name, and of each alert and class
+  no-stage : (e : Entry) → Among e (planOf l) → stage g (e .register) ≡ 0
+  no-stage = boots l h .stands success .unstaged
+
+  no-alert-stage : (i : ℕ) → i < 58 → (stage g (Alert Field.Class i) ≡ 0) × (stage g (Alert Field.En i) ≡ 0)
+  unfolding alertEntries
+  no-alert-stage i b = (no-stage _ (alert-part l _ i b here), no-stage _ (alert-part l _ i b (there here)))
+
+  no-class-stage : (k : ℕ) → k < 4
+      → (stage g (Block AccumThresh k) ≡ 0)
+      × (stage g (Block TimeoutCyc k) ≡ 0)
+      × ((p : ℕ) → p < 4 → stage g (Block (PhaseCyc p) k) ≡ 0)
+      × (stage g (Block Ctrl k) ≡ 0)
+  unfolding classEntries
+  no-class-stage k b = (
+    no-stage _ (class-part l _ k b here),
+    no-stage _ (class-part l _ k b (there here)),
+    (λ p c. no-stage _ (class-part l _ k b (has-length l k p c))),
+    no-stage _ (class-part l _ k b (there (there (there (there (there (there here))))))),
+  )
+
+  -- and no event came
+  no-event : ((o : Register) → inMap (h .n) o ≡ true → movesItself o ≡ true → runs o ≡ false → value g o ≡ value h o)
+      × (value g (Only IntrState) ≡ value h (Only IntrState))
+      × ((j : ℕ) → j < 7 → value g (Local Field.Cause j) ≡ value h (Local Field.Cause j))
+      × ((i : ℕ) → i < h .n → value g (Alert Field.Cause i) ≡ value h (Alert Field.Cause i))
+      × ((k : ℕ) → k < 4 → value g (Block AccumCnt k) ≡ value h (Block AccumCnt k))
+  no-event = let e = boots l h .eventless success in (e .values, e .interrupts, e .local-causes, e .causes, e .counts)
+
+-- ── where it stops: the state, the answer and the register, in the words of one tick ──
+
+module _ (l : Lifecycle) (h : Handler) (t : valid h ≡ true) (n : 58 ≤ h .n) where
+  abbrev before : ℕ → Handler
+  before i = run h (take i (map (λ (x : Ask). rest (x .access)) (asks (planOf l))))
+
+  abbrev at : ℕ → Ask
+  at i = getD (asks (planOf l)) i noAsk
+
+  abbrev gives : ℕ → Ticked
+  gives i = ticked (before i) (rest (at i .access))
+
+  abbrev wanted : ℕ → Bool
+  wanted i = is (number (gives i .answer)) (at i .wanted)
+
+  record Stop (i : ℕ) : Type 0 where
+    inside : i < length (asks (planOf l))
+    earlier : (j : ℕ) → j < i → wanted j ≡ true
+    here : wanted i ≡ false
+    result : boot l h ≡ record { handler = gives i .handler; answer = number (gives i .answer); register = at i .register }
+
+  abbrev Went : Type 0
+  Went = boot l h ≡ record { handler = run h (map (λ (x : Ask). rest (x .access)) (asks (planOf l))); answer = pos 0; register = 0 }
+
+  either : Went ⊎ ((i : ℕ) × Stop i)
+  either = go (boots l h .either t n)
+    where
+      go : Either l h → Went ⊎ ((i : ℕ) × Stop i)
+      go (inl e) = inl e
+      go (inr (s, c, e)) =
+          inr (c .place, record { inside = c .inside; earlier = c .earlier; here = c .there; result = e ∙ ap (λ (p : Progress). p .reached) (c .result) })
+
+  -- with nothing of the plan locked or staged otherwise it comes to its end
+  goes : free h (planOf l) ≡ true → Went
+  goes = boots l h .succeeds t n
+
+-- ── a new handler ──
+
+new-goes : (l : Lifecycle) (n : ℕ) → 58 ≤ n → n ≤ 248
+    → boot l (newHandler n) ≡ record { handler = run (newHandler n) (map (λ (x : Ask). rest (x .access)) (asks (planOf l))); answer = pos 0; register = 0 }
+new-goes l n = new-boots l n .new-succeeds
+
+new-armed : (l : Lifecycle) (n i : ℕ) → i < n → n ≤ 248 → armed (boot l (newHandler n) .handler) i ≡ true
+new-armed l n = new-boots l n .arms
+
+-- ── from the boot of a new handler in PROD or PROD_END to the last tick of any list: ticks numbered from any first number ──
+
+module _ (l : Lifecycle) (n : ℕ) (xs : List Input) (c : locks l ≡ true) (a : 58 ≤ n) (b : n ≤ 248) where
+  abbrev booted : Handler
+  booted = boot l (newHandler n) .handler
+
+  -- after i ticks, the input of tick i, class A as it reads it, and whether class A starts in it
+  abbrev after : ℕ → Handler
+  after i = run booted (take i xs)
+
+  abbrev input : ℕ → Input
+  input i = getD xs i noInput
+
+  abbrev read : ℕ → Class
+  read i = classAt (acted (after i) (input i .access)) 0
+
+  abbrev starting : ℕ → Bool
+  starting i = starts (signalsIn (after i) (input i) 0) (read i)
+
+  abbrev idle : ℕ → Type 0
+  idle i = stateOf (classAt (after i) 0 .state) ≡ Idle
+
+  -- an alert marked A has an event in tick i, and no clear of class A is accepted
+  abbrev Event : ℕ → ℕ → Type 0
+  Event i j = (j < 58) × (isA (markAt l j) ≡ true) × (happensIn (after i) (input i) j ≡ true) × (clears (after i) (input i .access) 0 ≡ false)
+
+  -- a start, locked with EN and LOCK
+  abbrev Started : ℕ → Type 0
+  Started i = (starting i ≡ true) × (read i .regwen ≡ 0) × (bit (read i .ctrl) 0 ≡ true) × (bit (read i .ctrl) 1 ≡ true)
+
+  started : (i : ℕ) → Starts (after i) (input i) 0 → Started i
+  started i s = (s .is-start, s .is-locked, s .has-en, s .has-lock)
+
+  at-first : (stateOf (classAt booted 0 .state) ≡ Idle) × Demand3 booted xs
+  at-first = let f = from-boot l n xs c a b in (f .idle, f .demand3)
+
+  stays-idle : (i : ℕ) → i ≤ length xs → ((j : ℕ) → j < i → starting j ≡ false) → idle i
+  stays-idle = until-first l n c a b xs .stays-idle
+
+  module _ (first s i : ℕ) (from : first ≤ s) (to : s < first + length xs) (e : Event (s - first) i) where
+    -- from Idle
+    module _ (d : idle (s - first)) where
+      first-event : FirstEvent l (after (s - first)) (input (s - first)) i
+      first-event = record { idle = d; is-alert = e .0; marked = e .1; occurs = e .2; unclear = e .3 }
+
+      from-idle : Started (s - first)
+      from-idle = started (s - first) (from-boot l n xs c a b .start first s i (record { from = from; to = to }) first-event)
+
+      escalates : (t : ℕ) → s ≤ t → first ≤ t → t < first + length xs → Escalated (read (s - first)) s t (getD (ticks booted xs) (t - first) noTick) 0
+      escalates t m p q =
+          from-boot l n xs c a b .escalation first s i (record { from = from; to = to }) first-event t m (record { from = p; to = q })
+
+    -- where class A did not start before
+    module _ (d : (j : ℕ) → j < s - first → starting j ≡ false) where
+      in-list : FirstInList l booted xs first s i
+      in-list = record { is-tick = record { from = from; to = to }; unstarted = d; is-alert = e .0; marked = e .1; occurs = e .2; unclear = e .3 }
+
+      first-starts : Started (s - first)
+      first-starts = started (s - first) (until-first l n c a b xs .first-starts first s i in-list)
+
+      first-escalates : (t : ℕ) → s ≤ t → first ≤ t → t < first + length xs → Escalated (read (s - first)) s t (getD (ticks booted xs) (t - first) noTick) 0
+      first-escalates t m p q = until-first l n c a b xs .first-escalates first s i in-list t m (record { from = p; to = q })

@@ -1,0 +1,54 @@
+-- Request (vi), "Boot policy": what comes of any boot, one that succeeds, one that stops and one that does not begin. proofs/Boots.antt proves it of
+-- every lifecycle and state.
+-- Assumes nothing.
+use Prim.Native.Nat.{ℕ, _≤_, _<_}
+use mathlib.Core.Path.{_≡_}
+use mathlib.Core.Logic.{_⊎_}
+use mathlib.Core.Bool.{true, false}
+use lib.IntN.{pos, negsuc}
+use Rattle.laws.specs.Above.{SameAbove}
+use Rattle.rules.specs.Run.{run}
+use Rattle.rules.specs.State.{most, armed, newHandler}
+use Rattle.rules.specs.Valid.{valid}
+use Rattle.rules.specs.declared.Handler.{Handler}
+use Rattle.policy.specs.Install.{asks}
+use Rattle.policy.specs.Plan.{planOf, boot}
+use Rattle.policy.specs.Sound.{free}
+use Rattle.policy.specs.Table.{alertCount}
+use Rattle.policy.specs.declared.Installed.{Installed}
+use Rattle.policy.specs.declared.Lifecycle.{Lifecycle}
+use Rattle.policy.specs.declared.Progress.{Progress}
+use Rattle.boot_laws.specs.Ran.{inputs, StoppedAt}
+use Rattle.boot_laws.specs.Stands.{Success, Stands, Untouched, Unlocked, Eventless}
+
+-- what a success gives: register 0, answer 0 and the state after all ticks of the plan
+abbrev pub booted : Lifecycle → Handler → Installed
+booted l h = record { handler = run h (inputs (asks (planOf l))); answer = pos 0; register = 0 }
+
+-- "It stops at the first refusal or difference and returns that register number, the answer and the state reached": a boot that begins comes to
+-- its end, or stopped at the first answer that is not wanted, with what that tick gave
+abbrev pub Either : Lifecycle → Handler → Type 0
+Either l h = (boot l h ≡ booted l h) ⊎ ((s : Progress) × StoppedAt h (asks (planOf l)) s × (boot l h ≡ s .reached))
+
+pub record Boots (l : Lifecycle) (h : Handler) : Type 0 where
+  -- "It needs N of at least 58, else 13 and an unchanged state; 7 comes before", each with register 0
+  pub bad-state : valid h ≡ false → boot l h ≡ record { handler = h; answer = negsuc 6; register = 0 }
+  pub few-alerts : valid h ≡ true → h .n < alertCount → boot l h ≡ record { handler = h; answer = negsuc 12; register = 0 }
+  pub either : valid h ≡ true → alertCount ≤ h .n → Either l h
+  -- it comes to its end where no register of the plan is locked or has another stage open, whatever the thresholds
+  pub succeeds : valid h ≡ true → alertCount ≤ h .n → free h (planOf l) ≡ true → boot l h ≡ booted l h
+  -- "register 0 on success, .. success answers 0": both only after all ticks of the plan
+  pub success : Success l h → (valid h ≡ true) × (alertCount ≤ h .n) × (boot l h ≡ booted l h)
+  -- "and after a success each of the 58 alerts is proved to stand as the table says"
+  pub stands : Success l h → Stands l (boot l h .handler)
+  pub eventless : Success l h → Eventless h (boot l h .handler)
+  pub untouched : Untouched l h (boot l h .handler)
+  pub unlocked : Unlocked l h (boot l h .handler)
+  -- "States that calls produce never get it", and "Stored entries at N and above are no registers: .. no call changes them"
+  pub keeps-valid : valid h ≡ true → valid (boot l h .handler) ≡ true
+  pub keeps-above : SameAbove h (boot l h .handler)
+
+-- "On a new handler so large it always succeeds", and every alert is then re-armed
+pub record NewBoots (l : Lifecycle) (n : ℕ) : Type 0 where
+  pub new-succeeds : alertCount ≤ n → n ≤ most → boot l (newHandler n) ≡ booted l (newHandler n)
+  pub arms : (i : ℕ) → i < n → n ≤ most → armed (boot l (newHandler n) .handler) i ≡ true
