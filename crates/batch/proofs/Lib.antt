@@ -1,3 +1,4 @@
 pub mod Running
 pub mod BatchOutcomes
 pub mod WordLines
+pub mod WholeBatch

@@ -1,1 +1,2 @@
 pub mod CaseList
+pub mod WholeCases

@@ -5,6 +5,7 @@ pub mod ListTicks
 pub mod LockLaws
 pub mod Escalation
 pub mod Demand3
+pub mod WholeEscalation
 pub mod StartExamples
 pub mod P7Examples
 pub mod LockedExamples
@@ -13,4 +14,4 @@ pub mod Demand3PartExamples
 pub mod Waiting
 pub mod Locking
 pub mod Threshold
-pub mod ThresholdExamples
+pub mod WholeThreshold

@@ -6,9 +6,9 @@ pub mod Shared
 pub mod Tenant
 pub mod Undisturbed
 pub mod Traces
-pub mod TwoStations
-pub mod Needed
 pub mod WholeIsolation
 pub mod WholeOwner
+pub mod TwoStations
+pub mod Needed
 pub mod TenantBits
 pub mod OwnerExamples

@@ -1,7 +1,7 @@
 -- The whole of request (x) once more, taken from the theorem over every class, number, state and list, and said of lists that are computed of each run
 -- by itself. A claim that says less, or asks for more (fewer classes, shorter lists, fewer alerts, the last tick left out), does not give it.
 -- Assumes nothing.
-use Prim.Native.Nat.{ℕ, suc, _<_}
+use Prim.Native.Nat.{ℕ, suc, _+_, _≤_, _<_}
 use mathlib.Core.Path.{_≡_, refl, sym, ap, ap₂, _∙_}
 use mathlib.Core.Bool.{Bool, true, cond, xor}
 use mathlib.Core.List.{List, [], _∷_}
@@ -15,9 +15,9 @@ use Rattle.escalation.proofs.ListTicks.{input}
 use Rattle.escalation.specs.List.{IsTick, before, inputAt, givenAt, noInput, noTick}
 use Rattle.laws.proofs.Tick.Runs.{ticks-at}
 use Rattle.laws.specs.Block.{ofBlock}
-use Rattle.rules.specs.Access.{named, acted}
+use Rattle.rules.specs.Access.{value, named, acted}
 use Rattle.rules.specs.Run.{run, ticks}
-use Rattle.rules.specs.Stages.{classStages}
+use Rattle.rules.specs.Stages.{classStages, stage}
 use Rattle.rules.specs.State.{classAt}
 use Rattle.rules.specs.Tick.{ticked, eventIn}
 use Rattle.rules.specs.Valid.{valid}
@@ -25,6 +25,8 @@ use Rattle.rules.specs.declared.Access.{Access}
 use Rattle.rules.specs.declared.ClassStages.{ClassStages}
 use Rattle.rules.specs.declared.Handler.{Handler}
 use Rattle.rules.specs.declared.Input.{Input}
+use Rattle.rules.specs.declared.Register.the-variants.{Block}
+use Rattle.rules.specs.declared.Setting.{Setting}
 use Rattle.rules.specs.declared.Ticked.{Ticked}
 use Rattle.isolation.specs.Isolation.{Alike, SameClass}
 use Rattle.isolation.proofs.Isolated.{isolation, by-index}
@@ -104,10 +106,20 @@ module _ (k first : ℕ) (h : Handler) (xs : List Input) (f : Handler) (ys : Lis
   every-tick =
       in-each (shown k) (λ t m. shown-same k (givenAt first h xs t) (givenAt first f ys t) (isolation k first h xs f ys l v w n .class alike t m))
 
+  -- and of each tick: every register of its block, the stage of each, and every line
+  pub every-register : (t : ℕ) → first ≤ t → t < first + length xs → (s : Setting)
+      → (value (givenAt first h xs t .handler) (Block s k) ≡ value (givenAt first f ys t .handler) (Block s k))
+      × (stage (givenAt first h xs t .handler) (Block s k) ≡ stage (givenAt first f ys t .handler) (Block s k))
+  every-register t a b s = let c = isolation k first h xs f ys l v w n .class alike t (record { from = a; to = b }) in (c .registers s, c .staged s)
+
+  pub every-line : (t e : ℕ) → first ≤ t → t < first + length xs
+      → drives (classAt (givenAt first h xs t .handler) k) e ≡ drives (classAt (givenAt first f ys t .handler) k) e
+  every-line t e a b = isolation k first h xs f ys l v w n .class alike t (record { from = a; to = b }) .lines e
+
   -- the answers to accesses of its own block
-  pub every-answer : (t : ℕ) → IsTick first xs t → ofBlock k (named (before first h xs t) (inputAt first xs t .access)) ≡ true
+  pub every-answer : (t : ℕ) → first ≤ t → t < first + length xs → ofBlock k (named (before first h xs t) (inputAt first xs t .access)) ≡ true
       → givenAt first h xs t .answer ≡ givenAt first f ys t .answer
-  every-answer = isolation k first h xs f ys l v w n .answer alike
+  every-answer t a b = isolation k first h xs f ys l v w n .answer alike t (record { from = a; to = b })
 
   -- its interrupt, where its bit of INTR_ENABLE and the changes of that by software are the same
   module _ (changes-same : along (λ g x. xor (bit (g .interrupts .enable) k) (bit (acted g (x .access) .interrupts .enable) k)) h xs
@@ -117,3 +129,8 @@ module _ (k first : ℕ) (h : Handler) (xs : List Input) (f : Handler) (ys : Lis
     every-interrupt =
         in-each (λ o. bit (o .output .interrupts) k)
         (λ t m. isolation k first h xs f ys l v w n .interrupt alike (enable-by k first h xs f ys changes-same enable-same) t m .interrupt)
+
+    pub every-enable : along (λ g x. bit (ticked g x .handler .interrupts .enable) k) h xs ≡ along (λ g x. bit (ticked g x .handler .interrupts .enable) k) f ys
+    every-enable =
+        in-each (λ o. bit (o .handler .interrupts .enable) k)
+        (λ t m. isolation k first h xs f ys l v w n .interrupt alike (enable-by k first h xs f ys changes-same enable-same) t m .enable-bit)

@@ -1,7 +1,7 @@
 -- The owner's corollary once more, taken from the theorem over every class, tenant, state and list: what the tenant leaves alone, in raw registers and
 -- bits, and what is then equal. A corollary that says less, or asks the tenant or the station for more, does not give it.
 -- Assumes nothing.
-use Prim.Native.Nat.{ℕ, _<_}
+use Prim.Native.Nat.{ℕ, _+_, _≤_, _<_}
 use mathlib.Core.Path.{_≡_, refl, sym, ap, ap₂}
 use mathlib.Core.Logic.{_⊎_, inl, inr}
 use mathlib.Core.Bool.{Bool, true, false, not, _&&_, xor}
@@ -10,13 +10,15 @@ use borrow.Author.Tests.{eqb-true, ne-eqb}
 use lib.Dec.{eqb}
 use lib.ListN.{length}
 use Rattle.bits.specs.Bits.{bit}
+use Rattle.class_rules.specs.Class.{drives}
 use Rattle.class_rules.specs.Step.{starts}
 use Rattle.escalation.specs.List.{IsTick, before, inputAt, givenAt, classRead}
 use Rattle.laws.proofs.Map.Cases.{by-kind, by-single}
 use Rattle.laws.specs.Block.{ofBlock}
-use Rattle.rules.specs.Access.{named, acted}
+use Rattle.rules.specs.Access.{value, named, acted}
 use Rattle.rules.specs.Samples.{positive, negative}
-use Rattle.rules.specs.State.{local, alert}
+use Rattle.rules.specs.Stages.{stage}
+use Rattle.rules.specs.State.{local, alert, classAt}
 use Rattle.rules.specs.Tick.{signalsIn}
 use Rattle.rules.specs.Valid.{valid}
 use Rattle.rules.specs.declared.Access.{Access}
@@ -110,7 +112,10 @@ module _ (k : ℕ) (his : ℕ → Bool) (first : ℕ) (h : Handler) (xs ys : Lis
   claim : Undisturbed k first h xs ys
   claim = undisturbed k his first h xs ys l v n only
 
-  module _ (t : ℕ) (m : IsTick first xs t) where
+  module _ (t : ℕ) (from : first ≤ t) (to : t < first + length xs) where
+    m : IsTick first xs t
+    m = record { from = from; to = to }
+
     starts-alike : starts (signalsIn (before first h xs t) (inputAt first xs t) k) (classRead (before first h xs t) (inputAt first xs t) k)
         ≡ starts (signalsIn (before first h ys t) (inputAt first ys t) k) (classRead (before first h ys t) (inputAt first ys t) k)
     starts-alike = claim .start t m
@@ -118,8 +123,17 @@ module _ (k : ℕ) (his : ℕ → Bool) (first : ℕ) (h : Handler) (xs ys : Lis
     shows-alike : shown k (givenAt first h xs t) ≡ shown k (givenAt first h ys t)
     shows-alike = shown-same k (givenAt first h xs t) (givenAt first h ys t) (claim .class t m)
 
-    interrupts-alike : bit (givenAt first h xs t .output .interrupts) k ≡ bit (givenAt first h ys t .output .interrupts) k
-    interrupts-alike = claim .interrupt t m .interrupt
+    registers-alike : (s : Setting)
+        → (value (givenAt first h xs t .handler) (Block s k) ≡ value (givenAt first h ys t .handler) (Block s k))
+        × (stage (givenAt first h xs t .handler) (Block s k) ≡ stage (givenAt first h ys t .handler) (Block s k))
+    registers-alike s = (claim .class t m .registers s, claim .class t m .staged s)
+
+    lines-alike : (e : ℕ) → drives (classAt (givenAt first h xs t .handler) k) e ≡ drives (classAt (givenAt first h ys t .handler) k) e
+    lines-alike = claim .class t m .lines
+
+    interrupts-alike : (bit (givenAt first h xs t .output .interrupts) k ≡ bit (givenAt first h ys t .output .interrupts) k)
+        × (bit (givenAt first h xs t .handler .interrupts .enable) k ≡ bit (givenAt first h ys t .handler .interrupts .enable) k)
+    interrupts-alike = (claim .interrupt t m .interrupt, claim .interrupt t m .enable-bit)
 
     answers-alike : ofBlock k (named (before first h xs t) (inputAt first xs t .access)) ≡ true
         → givenAt first h xs t .answer ≡ givenAt first h ys t .answer

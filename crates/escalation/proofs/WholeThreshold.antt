@@ -1,4 +1,5 @@
--- Request (vii)'s two laws at work, each hypothesis written out: a claim that said less would not do here.
+-- Request (vii)'s two laws once more, taken from the theorem over every N, class and list, in raw numbers: a claim that says less, or asks for more, does
+-- not give them.
 -- Assumes nothing.
 use Prim.Native.Nat.{ℕ, zero, suc, _+_, _≤_, _<_}
 use mathlib.Core.Path.{_≡_, refl}
@@ -42,7 +43,7 @@ module _ (n k i : ℕ) (small : k < 4) (xs : List Input) where
 
   -- from Idle as from Timeout
   starts-in-time : (d : ℕ) → classAt (at i) k .regwen ≡ 0 → (stateIn (at i) k ≡ Idle) ⊎ (stateIn (at i) k ≡ Timeout) → i + d ≤ length xs
-      → ((j : ℕ) → i ≤ j → j < i + d → clears (at j) (input j .access) k ≡ false) → events d ≡ 65535
+      → ((j : ℕ) → i ≤ j → j < i + d → clears (at j) (input j .access) k ≡ false) → 65535 ≤ events d
       → (j : ℕ) × (i ≤ j) × (j < i + d) × (starts (signalsIn (at j) (input j) k) (classRead (at j) (input j) k) ≡ true)
   starts-in-time d shut unstarted l none many =
       threshold n xs .start k i d (record { is-class = small; locked = shut; unstarted = unstarted }) l none (omega (arith, counted d, many))
