@@ -12,14 +12,16 @@ stands() {
   [ -f "$built" ] && [ -z "$(find "$@" -type f -newer "$built" | head -n 1)" ]
 }
 
+# rust_stands BUILT SOURCE...: the same of what cargo builds over the library.
+rust_stands() {
+  library_stands || return
+  stands "$@" "$library" "$here/tools/handler" "$here/Cargo.toml" "$here/Cargo.lock"
+}
+
 program_stands() { stands "$program" "$here/crates" "$here/crates.txt"; }
 library_stands() { stands "$library" "$here/crates" "$here/crates.txt"; }
-tools_stands() {
-  library_stands || return
-  for tool in "$cli" "$harness"; do
-    stands "$tool" "$library" "$here/tools" "$here/launcher/help" "$here/reference" "$here/Cargo.toml" "$here/Cargo.lock" || return
-  done
-}
+tool_stands() { rust_stands "$cli" "$here/tools/tarravane" "$here/launcher/help"; }
+harness_stands() { rust_stands "$harness" "$here/tools/harness" "$here/reference"; }
 
 # need TOOL...: names all that are missing at once.
 need() {
@@ -29,6 +31,7 @@ need() {
     case $tool in
       rt) from='the Rattle kit' ;;
       cc) from='Debian package gcc' ;;
+      flock) from='Debian package util-linux' ;;
       *) from="Debian package $tool" ;;
     esac
     case $missing in *"$tool ("*) ;; *) missing="$missing${missing:+, }$tool ($from)" ;; esac
@@ -36,35 +39,74 @@ need() {
   [ -z "$missing" ] || fail "the build needs what is not on the path: $missing"
 }
 
-# prepare PART...: builds what does not stand. What that needs is looked for first, before anything slow.
-prepare() {
-  stale='' needed=''
+# find_stale PART...: which of them do not stand, what building them needs, and what it writes in target/.
+find_stale() {
+  stale='' needed='' written='' parts=0
   for part in "$@"; do
-    "${part}_stands" && continue
-    stale="$stale $part"
+    is_unfinished "$part" || ! "${part}_stands" || continue
+    stale="$stale $part" parts=$((parts + 1))
     case $part in
-      tools) needed="$needed cargo cc" ;;
-      *) needed="$needed rt" ;;
+      tool | harness) needed="$needed cargo cc" written="$written cargo" ;;
+      *) needed="$needed rt" written="$written log rlib stamp obj bin staticlib" ;;
     esac
   done
-  # shellcheck disable=SC2086 # words on purpose
-  need $needed
-  for part in $stale; do "build_$part"; done
 }
 
+# prepare PART...: builds what does not stand. What that needs and writes is looked at first, before anything slow; and once
+# more after waiting for another build, which may have made what is asked for.
+prepare() {
+  find_stale "$@"
+  [ -n "$stale" ] || return 0
+  # shellcheck disable=SC2086 # words on purpose
+  need $needed flock
+  # shellcheck disable=SC2086
+  check_writable $written
+  lock
+  find_stale "$@"
+  # shellcheck disable=SC2086
+  check_writable $written
+  at=0
+  for part in $stale; do
+    at=$((at + 1))
+    begun "$part"
+    "build_$part"
+    ended "$part"
+  done
+  unlock
+}
+
+# announce WORDS: what is built now, and which of how many parts that is.
+announce() {
+  which=''
+  [ "$parts" -eq 1 ] || which="$at of $parts: "
+  printf 'tarravane: %s%s\n' "$which" "$1" >&2
+}
+
+# The kit makes a program anew only where its crates have changed, or where it does not know that it proved them.
 build_program() {
+  [ -f "$program" ] || rm -f "$here/target/stamp/replay"
   prove check replay "the program"
-  touch "$program"
+  finished "$program"
 }
 
 build_library() {
   prove staticlib boundary "the library"
-  touch "$library"
+  finished "$library"
 }
 
-# Touched, as cargo leaves a tool as it is where only the other one's source is newer.
-build_tools() {
-  printf 'tarravane: building the tools, once\n' >&2
-  (cd "$here" && cargo build --release --offline) </dev/null >&2 || fail "the tools were not built"
-  touch "$cli" "$harness"
+# run_cargo PACKAGE WHAT: the lock stays with the launcher; cargo has one of its own.
+run_cargo() {
+  announce "building $2, once"
+  (cd "$here" && cargo build --release --offline --package "$1") </dev/null >&2 9<&- || fail "$2 was not built"
+}
+
+# Each alone, so that an error in the harness stops no command but its own.
+build_tool() {
+  run_cargo tarravane-cli "the tool"
+  finished "$cli"
+}
+
+build_harness() {
+  run_cargo harness "the harness"
+  finished "$harness"
 }

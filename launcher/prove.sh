@@ -38,9 +38,38 @@ show_progress() {
   return "$status"
 }
 
+# running MARK: the crates that rt checks now. It makes target/log/NAME.say when it begins with one, and the verdict is its last line.
+running() {
+  # shellcheck disable=SC2016 # for the inner shell
+  find "$here/target/log" -name '*.say' -newer "$1" -exec sh -c 'grep -q "^logic=" "$1" || echo "${1##*/}"' sh {} \; 2>/dev/null |
+    sed 's/\.say$//' | sort | tr '\n' ' '
+}
+
+# Says every few seconds what is being checked and for how long, while the launcher lives. Crates that are checked side by side began together.
+show_running() {
+  known='' began=0 due=5
+  while sleep 1 >/dev/null 2>&1 && kill -0 $$ 2>/dev/null; do
+    now=$(date +%s) names=$(running "$1")
+    for name in $names; do
+      case " $known" in *" $name "*) ;; *) began=$now due=5 ;; esac
+    done
+    known=$names took=$((now - began))
+    [ -n "$names" ] && [ "$took" -ge "$due" ] || continue
+    due=$((took + 5))
+    printf 'tarravane: checking %sfor %s s\n' "$names" "$took" >&2
+  done
+}
+
 # prove VERB NAME WHAT: runs rt VERB NAME.
 prove() {
   total=$(crates_of "$2")
-  printf 'tarravane: proving and building %s, once: %s crates, a few minutes\n' "$3" "$total" >&2
-  { (cd "$here" && rt "$1" "$2") </dev/null 2>&1; echo "ended: $?"; } | show_progress "$total" || fail "$3 was not built"
+  announce "proving and building $3, once: $total crates, a few minutes"
+  forget_verdicts
+  show_running "$here/target/$part.unfinished" 9<&- &
+  clock=$!
+  { (cd "$here" && rt "$1" "$2") </dev/null 2>&1; echo "ended: $?"; } | show_progress "$total"
+  status=$?
+  kill "$clock" 2>/dev/null
+  wait "$clock" 2>/dev/null
+  [ "$status" -eq 0 ] || fail "$3 was not built"
 }

@@ -70,7 +70,9 @@ impl Edition {
     }
 }
 
+// `./tarravane --version` names the editions from these lines, one for each.
 const _: () = {
+    assert!(Edition::ALL.len() == 2);
     assert!(Alerts64.bytes() == 24);
     assert!(Alerts248.bytes() == 70);
 };

@@ -1,4 +1,5 @@
 //! `wave`: a trace as a dump for wave viewers, or as a picture.
+mod made;
 mod opened;
 mod svg;
 mod vcd;

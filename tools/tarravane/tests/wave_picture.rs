@@ -63,6 +63,8 @@ fn a_part_of_a_trace() {
     }
     let seal = picture(&trace("broken-seal"), &["--from", "12", "--to", "20"]);
     assert!(texts(&seal, "about")[0].ends_with("; ticks 1 to 20, shown from 12 to 20"));
+    let made = format!("tarravane {}, edition 24", env!("CARGO_PKG_VERSION"));
+    assert_eq!(texts(&seal, "about")[1..], [made]);
     let numbers: Vec<String> = (12..=20).map(|tick| tick.to_string()).collect();
     assert_eq!(texts(&seal, "number level"), numbers);
 }

@@ -16,6 +16,7 @@ mod style;
 mod weight;
 mod xml;
 
+use super::made::made_by;
 use super::opened::{shown_name, Opened};
 use crate::facts::{tick::Tick, ticks::Ticks};
 use crate::output::Failure;
@@ -57,6 +58,7 @@ fn drawn(
     Ok(Drawn {
         name: shown_name(trace.name),
         title: title(edition, handler.n),
+        made: made_by(edition),
         cells: folds.fitted(),
         told: summary.short_lines(),
         ticks: ticks.number(),
@@ -78,7 +80,9 @@ pub fn write(
         }
         Err(why) => {
             let why = format!("refused: {why}");
-            (draw_refused(&shown_name(trace.name), &why), Some(why))
+            let made = made_by(trace.start.edition);
+            let picture = draw_refused(&shown_name(trace.name), &why, &made);
+            (picture, Some(why))
         }
     };
     out.write_all(picture.as_bytes())?;

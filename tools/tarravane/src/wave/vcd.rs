@@ -8,6 +8,7 @@ mod moved;
 mod signal;
 mod value;
 
+use super::made::made_by;
 use super::opened::{shown_name, Opened};
 use crate::facts::{tick::Tick, ticks::Ticks};
 use crate::output::Failure;
@@ -16,6 +17,7 @@ use crate::trace::title;
 use again::{changed, Again};
 use dump::Dump;
 use handler::Handler;
+use head::Head;
 use moved::Moved;
 use signal::scopes;
 use std::io::{Read, Write};
@@ -26,6 +28,15 @@ struct Looked {
     moved: Moved,
     ticks: u64,
     cut: Option<String>,
+}
+
+/// The head of a trace's dump, with these comments after its name.
+fn head(trace: &Opened, more: Vec<String>) -> Head {
+    let name = format!("trace: {}", shown_name(trace.name));
+    Head {
+        comments: [vec![name], more].concat(),
+        made: made_by(trace.start.edition),
+    }
 }
 
 /// A trace that replays.
@@ -60,12 +71,10 @@ impl Played<'_> {
         })
     }
 
-    fn comments(&self) -> [String; 3] {
-        [
-            format!("trace: {}", shown_name(self.trace.name)),
-            title(self.trace.start.edition, self.handler.n),
-            "tick t is the time t; 0: a new handler, all wires at rest".to_string(),
-        ]
+    fn head(&self) -> Head {
+        let title = title(self.trace.start.edition, self.handler.n);
+        let time = "tick t is the time t; 0: a new handler, all wires at rest".to_string();
+        head(self.trace, vec![title, time])
     }
 
     /// Writes the dump of what was looked at; of all ticks and alerts where nothing was. Tells how a cut trace ends.
@@ -78,7 +87,7 @@ impl Played<'_> {
         let all = Moved::all(self.handler.n);
         let moved = looked.map_or(&all, |looked| &looked.moved);
         let zero = Tick::before_first(self.trace.start.edition, self.handler);
-        let mut dump = Dump::begin(out, &self.comments(), &scopes(moved), &zero)?;
+        let mut dump = Dump::begin(out, &self.head(), &scopes(moved), &zero)?;
         let mut ticks = self.ticks(from);
         let mut progress = Progress::new("tick", self.trace.records());
         let to = looked.map_or(u64::MAX, |looked| looked.ticks);
@@ -107,8 +116,7 @@ pub fn write(
         Ok(handler) => handler,
         Err(why) => {
             let why = format!("refused: {why}");
-            let comments = [format!("trace: {}", shown_name(trace.name))];
-            dump::refused(out, &comments, &why)?;
+            dump::refused(out, &head(trace, vec![]), &why)?;
             return Ok(Some(why));
         }
     };

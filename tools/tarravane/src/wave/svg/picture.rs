@@ -11,6 +11,8 @@ use super::page::Page;
 pub struct Drawn {
     pub name: String,
     pub title: String,
+    /// What made the picture.
+    pub made: String,
     pub cells: Vec<Cell>,
     /// What happened.
     pub told: Vec<String>,
@@ -34,6 +36,11 @@ fn heading(page: &mut Page, name: &str) {
 fn about(page: &mut Page, drawn: &Drawn) {
     let words = format!("{}; {}", drawn.title, ticks(drawn));
     page.text("about", RIGHT, page.y, &words);
+}
+
+/// What made the picture, at the right of its last line.
+fn foot(page: &mut Page, made: &str) {
+    page.text("about", RIGHT, page.y - 9.0, made);
 }
 
 fn line(page: &mut Page, class: &str, words: &str) {
@@ -72,14 +79,16 @@ pub fn draw(drawn: &Drawn) -> String {
         lanes::draw(&mut page, &axis, drawn.cut.is_some());
         legend::draw(&mut page);
     }
+    foot(&mut page, &drawn.made);
     page.finished(&format!("{}: {}", drawn.name, drawn.told.join("; ")))
 }
 
 /// The picture of a trace without ticks, which says why.
-pub fn draw_refused(name: &str, why: &str) -> String {
+pub fn draw_refused(name: &str, why: &str, made: &str) -> String {
     let mut page = Page::new(22.0);
     heading(&mut page, name);
     line(&mut page, "bad", why);
     page.y += 12.0;
+    foot(&mut page, made);
     page.finished(&format!("{name}: {why}"))
 }

@@ -1,6 +1,6 @@
 //! A dump that is written tick by tick: after its head only what changes.
 use super::alerts::Last;
-use super::head;
+use super::head::{self, Head};
 use super::id::id;
 use super::signal::{Scope, Signal};
 use super::value::Value;
@@ -19,7 +19,7 @@ struct Shown {
 impl Shown {
     /// Can the signal be another one, where these alerts changed?
     fn may_change(&self, alerts: &AlertBits) -> bool {
-        self.signal.alert().is_none_or(|i| is_set(alerts, i))
+        self.signal.alert().map_or(true, |i| is_set(alerts, i))
     }
 }
 
@@ -38,11 +38,11 @@ impl<'a> Dump<'a> {
     /// Writes the head, and at #0 what there is before the first tick.
     pub fn begin(
         out: &'a mut dyn Write,
-        comments: &[String],
+        head: &Head,
         scopes: &[Scope],
         zero: &Tick,
     ) -> io::Result<Dump<'a>> {
-        head::write(out, comments, scopes)?;
+        head::write(out, head, scopes)?;
         let signals = scopes.iter().flat_map(|scope| &scope.signals);
         let shown = signals.enumerate().map(|(number, signal)| Shown {
             signal: *signal,
@@ -110,8 +110,8 @@ impl<'a> Dump<'a> {
 }
 
 /// The dump of a trace without ticks, which says why.
-pub fn refused(out: &mut dyn Write, comments: &[String], why: &str) -> io::Result<()> {
-    head::write(out, comments, &[])?;
+pub fn refused(out: &mut dyn Write, head: &Head, why: &str) -> io::Result<()> {
+    head::write(out, head, &[])?;
     let mut line = String::new();
     Value::text(why.to_string()).add_line(&id(0), &mut line);
     write!(out, "#0\n{line}#1\n")

@@ -20,12 +20,19 @@ fn variable(kind: Kind, id: &str, name: &str) -> String {
     }
 }
 
+/// What is said before the signals.
+pub struct Head {
+    pub comments: Vec<String>,
+    /// What made it.
+    pub made: String,
+}
+
 /// The signals are numbered as they stand; after them comes the one of the trace's end.
-pub fn write(out: &mut dyn Write, comments: &[String], scopes: &[Scope]) -> io::Result<()> {
-    for words in comments {
+pub fn write(out: &mut dyn Write, head: &Head, scopes: &[Scope]) -> io::Result<()> {
+    for words in &head.comments {
         writeln!(out, "$comment {} $end", comment(words))?;
     }
-    writeln!(out, "$version tarravane wave $end\n$timescale 1 s $end")?;
+    writeln!(out, "$version {} $end\n$timescale 1 s $end", head.made)?;
     let mut number = 0;
     for Scope { name, signals } in scopes {
         writeln!(out, "$scope module {name} $end")?;
