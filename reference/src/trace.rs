@@ -71,7 +71,7 @@ pub fn batch(handler: &mut Handler, edition: Edition, bytes: &[u8], out: &mut [u
     if !handler.valid() || handler.n > edition.alerts() as u64 {
         return Refusal::BrokenState.answer();
     }
-    if !bytes.len().is_multiple_of(edition.bytes()) {
+    if bytes.len() % edition.bytes() != 0 {
         return Refusal::BatchLength.answer();
     }
     if out.len() < bytes.len() / edition.bytes() {

@@ -190,8 +190,9 @@ fn numbers_unassigned_then_are_still_refused() {
 #[test]
 fn a_carried_write_reaches_its_register() {
     for number in 0..384 {
-        let Some(today) = renumbered(number) else {
-            continue;
+        let today = match renumbered(number) {
+            Some(today) => today,
+            None => continue,
         };
         for value in [0, 1, 2, 3, 15, 16, 0x3FFF, 0x4000, 0xFFFF, 0x1_0000] {
             let (mut old, mut new) = (ready(64, 0x393D), ready(64, 0x393D));

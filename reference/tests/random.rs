@@ -61,8 +61,9 @@ impl List {
     }
 
     fn write(&mut self, number: u16, value: u32) -> i64 {
-        let Some(largest) = self.rows.get(&number) else {
-            return self.write_lock(number, value);
+        let largest = match self.rows.get(&number) {
+            Some(largest) => largest,
+            None => return self.write_lock(number, value),
         };
         if value > *largest {
             return -4;

@@ -1,6 +1,5 @@
 //! What goes into a tick.
 use crate::state::WORDS;
-use std::mem::{offset_of, size_of};
 
 /// The access of a tick.
 #[derive(Clone, Copy, Debug, PartialEq, Eq)]
@@ -65,11 +64,14 @@ impl Sample {
     }
 }
 
-const _: () = {
+#[test]
+fn wires_stand_where_the_header_has_them() {
+    use crate::layout::offset_of;
+    use std::mem::size_of;
     assert!(size_of::<Sample>() == 64);
     assert!(offset_of!(Sample, alerts) == 0);
     assert!(offset_of!(Wires, neg) == 32);
-};
+}
 
 /// An access and a sample: what a trace record holds.
 #[derive(Clone, Copy, Debug, PartialEq, Eq)]

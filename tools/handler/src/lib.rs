@@ -10,6 +10,8 @@ pub mod boot;
 mod edition;
 mod input;
 mod installed;
+#[cfg(test)]
+mod layout;
 mod library;
 mod lifecycle;
 pub mod registers;

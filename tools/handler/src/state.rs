@@ -1,6 +1,4 @@
 //! The state, in the library's layout (`include/tarravane.h`). Integers alone: any bytes are a value, refusal 7 judges them.
-use std::mem::{offset_of, size_of};
-
 /// The most alerts that a handler is made for.
 pub const ALERTS: usize = 248;
 /// The words of 64 that hold a bit of each alert.
@@ -187,7 +185,10 @@ pub struct Output {
     pub lines: u8,
 }
 
-const _: () = {
+#[test]
+fn fields_stand_where_the_header_has_them() {
+    use crate::layout::offset_of;
+    use std::mem::size_of;
     assert!(size_of::<Class>() == 36);
     assert!(offset_of!(Class, ctrl) == 24);
     assert!(offset_of!(Class, state) == 32);
@@ -204,4 +205,4 @@ const _: () = {
     assert!(offset_of!(Handler, interrupts) == 1204);
     assert!(offset_of!(Handler, stages) == 1208);
     assert!(size_of::<Output>() == 2);
-};
+}

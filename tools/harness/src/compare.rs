@@ -21,8 +21,9 @@ use std::path::Path;
 
 /// Runs a case; gives the difference with the shortest prefix that shows it.
 pub fn compare(path: &Path, case: Case, coverage: &mut Coverage) -> io::Result<Option<Difference>> {
-    let Some((whole, line)) = once(path, case, coverage)? else {
-        return Ok(None);
+    let (whole, line) = match once(path, case, coverage)? {
+        Some((whole, line)) => (whole, line),
+        None => return Ok(None),
     };
     // A word depends only on the records up to its own, so the first wrong
     // word names the prefix. A program may differ there too: try it.

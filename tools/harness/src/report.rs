@@ -31,8 +31,9 @@ pub fn report<D: Display>(
 ) -> io::Result<()> {
     writeln!(out, "{summary}")?;
     writeln!(out, "time {:.1} seconds", begin.elapsed().as_secs_f64())?;
-    let Some(found) = found else {
-        return writeln!(out, "EQUAL");
+    let found = match found {
+        Some(found) => found,
+        None => return writeln!(out, "EQUAL"),
     };
     writeln!(out, "{found}")?;
     let own = std::env::args().next().unwrap_or_default();

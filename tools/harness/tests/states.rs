@@ -9,14 +9,15 @@ use harness::compare::ANSWERS;
 use harness::rng::Rng;
 use harness::spoil::{Place, WAYS};
 use harness::states::{try_all, Subject, Summary, PROVED};
-use std::sync::LazyLock;
 
-/// A configured state of all alerts.
-static START: LazyLock<Handler> = LazyLock::new(|| handler_of(&start(Edition::NEWEST)));
+thread_local! {
+    /// A configured state of all alerts.
+    static START: Handler = handler_of(&start(Edition::NEWEST));
+}
 
 /// The same of n alerts.
 fn state(n: usize) -> Handler {
-    Handler { n, ..*START }
+    START.with(|start| Handler { n, ..*start })
 }
 
 /// What a tick of the library answers; a batch of no records says the same, an
@@ -46,8 +47,9 @@ fn every_register_and_stage_over_its_field_gives_7() {
     for n in [1, 64, 65, 192, 248] {
         for place in Place::all() {
             // Registers of all the bits that are kept have nothing over them.
-            let Some(most) = most_of_more(place) else {
-                continue;
+            let most = match most_of_more(place) {
+                Some(most) => most,
+                None => continue,
             };
             let mut h = state(n);
             place.set(&mut h, most + 1);
@@ -81,7 +83,7 @@ fn a_flipped_bit_over_a_field_gives_7() {
                     Place::Class(_, Setting::State | Setting::EscCnt) => true,
                     _ => {
                         let now = place.get(&h);
-                        !place.is_above(n) && place.most().is_some_and(|most| now > most)
+                        !place.is_above(n) && place.most().map_or(false, |most| now > most)
                     }
                 };
                 assert_eq!(answer(&h), if over { -7 } else { 0 }, "{place} bit {bit}");

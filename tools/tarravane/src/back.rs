@@ -5,12 +5,13 @@ use crate::output::{self, Failure};
 use crate::progress::Progress;
 use crate::say::say;
 use crate::source::filled;
+use crate::terminal;
 use crate::text::{alerts, edition, line};
 use crate::trace::record::{input, written};
 use crate::trace::{self, cut, Start};
 use handler::registers::Naming;
 use handler::Edition;
-use std::io::{stdout, IsTerminal, Read, Write};
+use std::io::{Read, Write};
 
 /// The line of a record: of its input where that is written as these bytes, as it is for every well-formed record, else of
 /// its bytes.
@@ -83,7 +84,7 @@ fn text(
 pub fn run(asked: &Record) -> Result<End, String> {
     let (mut from, bytes) = trace::opened(&asked.from)?;
     let start = Start::read(&mut from, &asked.from)?;
-    let seen = asked.to.is_none() && stdout().is_terminal();
+    let seen = asked.to.is_none() && terminal::is_output();
     let mut progress = match seen {
         true => Progress::silent(),
         false => Progress::new("record", bytes.map(|bytes| start.records(bytes))),

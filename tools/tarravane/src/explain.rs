@@ -34,10 +34,13 @@ fn rows(
 ) -> Result<End, Failure> {
     writeln!(out, "{HEADER}")?;
     while ticks.number() < asked.range.to {
-        let Some(tick) = ticks.take()? else {
-            progress.clear();
-            asked.range.tell_missed(ticks.number());
-            return ended(out, ticks);
+        let tick = match ticks.take()? {
+            Some(tick) => tick,
+            None => {
+                progress.clear();
+                asked.range.tell_missed(ticks.number());
+                return ended(out, ticks);
+            }
         };
         if wanted(asked, &tick) {
             progress.clear();

@@ -13,9 +13,11 @@ mod progress;
 mod range;
 mod record;
 mod row;
+mod runs;
 mod say;
 mod source;
 mod summary;
+mod terminal;
 mod text;
 mod trace;
 mod wave;
@@ -86,7 +88,7 @@ fn words() -> Result<Vec<String>, String> {
         .skip(1)
         .map(|word| word.into_string())
         .collect::<Result<_, _>>()
-        .map_err(|word| format!("not UTF-8 text: {}", word.display()))
+        .map_err(|word| format!("not UTF-8 text: {}", word.to_string_lossy()))
 }
 
 fn main() -> ExitCode {

@@ -2,7 +2,7 @@
 use crate::end::End;
 use std::fs::{self, File, OpenOptions};
 use std::io::{self, stdout, BufWriter, ErrorKind, Write};
-use std::os::fd::AsFd;
+use std::os::unix::io::AsFd;
 use std::path::{Path, PathBuf};
 use std::process;
 
@@ -83,7 +83,9 @@ fn replaced(path: &Path, fill: impl Fill) -> Result<End, Failure> {
 /// A device or a pipe takes the bytes as they come; a link stands for what it names.
 fn to_file(path: &Path, fill: impl Fill) -> Result<End, Failure> {
     match fs::metadata(path) {
-        Ok(about) if about.is_dir() => Err(Failure::Write(ErrorKind::IsADirectory.into())),
+        Ok(about) if about.is_dir() => {
+            Err(io::Error::new(ErrorKind::Other, "is a directory").into())
+        }
         Ok(about) if about.is_file() => {
             // A file that may not be written is not replaced by a new one either.
             OpenOptions::new().write(true).open(path)?;
@@ -105,7 +107,10 @@ pub fn check(from: &str, to: Option<&str>) -> Result<(), String> {
 }
 
 /// Writes to the file, or to standard output; it is no fault there where nobody reads on.
-pub fn write(to: Option<&str>, fill: impl Fill) -> Result<End, String> {
+pub fn write(
+    to: Option<&str>,
+    fill: impl FnOnce(&mut dyn Write) -> Result<End, Failure>,
+) -> Result<End, String> {
     let done = match to {
         Some(path) => to_file(Path::new(path), fill),
         None => standard()

@@ -1,5 +1,6 @@
 //! How far a long input has been read, on standard error where that is a terminal.
-use std::io::{stderr, IsTerminal, Write};
+use crate::terminal;
+use std::io::{stderr, Write};
 
 /// Units from one word to the next.
 const EVERY: u64 = 1 << 16;
@@ -15,7 +16,7 @@ impl Progress {
     /// `unit`: what is counted; `all`: how many there are, where that is known.
     pub fn new(unit: &'static str, all: Option<u64>) -> Progress {
         Progress {
-            on: stderr().is_terminal(),
+            on: terminal::is_error(),
             shown: false,
             unit,
             all,
@@ -32,7 +33,7 @@ impl Progress {
 
     /// Is there a word to say at this number?
     pub fn is_due(&self, number: u64) -> bool {
-        self.on && number.is_multiple_of(EVERY)
+        self.on && number % EVERY == 0
     }
 
     pub fn say(&mut self, number: u64) {

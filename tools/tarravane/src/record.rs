@@ -7,10 +7,11 @@ use crate::end::End;
 use crate::output;
 use crate::progress::Progress;
 use crate::source::opened;
+use crate::terminal;
 use crate::text::{alerts, edition, line, lines::Lines};
 use grown::Grown;
 use handler::Edition;
-use std::io::{stdout, BufRead, IsTerminal};
+use std::io::BufRead;
 use warnings::Warnings;
 
 /// The first lines that say something give edition and N, each other one bytes or a tick.
@@ -40,8 +41,9 @@ fn read(
 ) -> Result<(), String> {
     loop {
         let number = lines.number() + 1;
-        let Some(line) = lines.take()? else {
-            return Ok(());
+        let line = match lines.take()? {
+            Some(line) => line,
+            None => return Ok(()),
         };
         if progress.is_due(number) {
             progress.say(number);
@@ -82,7 +84,7 @@ fn judged(trace: &Grown, warnings: &mut Warnings) -> End {
 }
 
 pub fn run(asked: &Record) -> Result<End, String> {
-    if asked.to.is_none() && stdout().is_terminal() {
+    if asked.to.is_none() && terminal::is_output() {
         return Err("a trace is not for a terminal: name a file by -o FILE".to_string());
     }
     let (from, _) = opened(&asked.from)?;

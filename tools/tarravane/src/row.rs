@@ -17,7 +17,7 @@ pub const HEADER: &str =
 
 /// In columns, else squeezed, else with short words and counts: the first that fits.
 #[derive(Clone, Copy, PartialEq, Eq)]
-enum Form {
+pub enum Form {
     Columns,
     Squeezed,
     Short,

@@ -144,7 +144,7 @@ fn explain_has_text(edition: Edition, words: &[&str], wires: [Wires; 3]) {
     for (number, (row, line)) in (1..).zip(rows.into_iter().zip(text.lines().skip(2))) {
         // A space after it in columns, a colon where the row left them.
         let rest = row.strip_prefix(&format!("{number:>6} {line}"));
-        let parted = rest.is_some_and(|rest| rest.starts_with([' ', ':']));
+        let parted = rest.map_or(false, |rest| rest.starts_with([' ', ':']));
         assert!(parted, "{row} is not of {line}");
     }
 }

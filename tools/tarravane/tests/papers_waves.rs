@@ -40,7 +40,7 @@ fn printed(wave: &str) -> Vec<Vec<String>> {
 fn row(block: &str, name: &str, columns: usize) -> Vec<String> {
     let line = block.lines().find(|line| {
         let rest = line.strip_prefix(name);
-        rest.is_some_and(|rest| rest.starts_with(' '))
+        rest.map_or(false, |rest| rest.starts_with(' '))
     });
     let words = line.expect(name)[name.len()..].split_whitespace();
     words.take(columns).map(str::to_string).collect()

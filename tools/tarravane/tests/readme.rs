@@ -57,8 +57,9 @@ fn wave_writes_what_readme_names() {
     let mut count = 0;
     for command in commands {
         let words: Vec<&str> = command.split_whitespace().take(3).collect();
-        let [trace, "-o", to] = words[..] else {
-            panic!("{command}");
+        let (trace, to) = match words[..] {
+            [trace, "-o", to] => (trace, to),
+            _ => panic!("{command}"),
         };
         given("wave", &[&repository(trace), "-o", &folder.path(to)], &[]);
         count += 1;

@@ -161,7 +161,7 @@ fn the_lists_are_in_the_order_of_the_numbers() {
 #[test]
 fn shadowed_are_those_that_request_v_names() {
     for map in [MAP, MAP_64] {
-        let shadowed = |n: &u16| map.register(*n).is_some_and(|it| it.is_shadowed());
+        let shadowed = |n: &u16| map.register(*n).map_or(false, |it| it.is_shadowed());
         assert_eq!(
             (0..=u16::MAX).filter(shadowed).count(),
             2 * (7 + map.alerts) + 4 * 7
@@ -176,7 +176,7 @@ fn shadowed_are_those_that_request_v_names() {
         "CLASSC_PHASE3_CYC",
     ] {
         assert!(
-            Register::named(name).is_some_and(|it| it.is_shadowed()),
+            Register::named(name).map_or(false, |it| it.is_shadowed()),
             "{name}"
         );
     }
@@ -189,7 +189,7 @@ fn shadowed_are_those_that_request_v_names() {
         "CLASSB_CLR_REGWEN",
     ] {
         assert!(
-            Register::named(name).is_some_and(|it| !it.is_shadowed()),
+            Register::named(name).map_or(false, |it| !it.is_shadowed()),
             "{name}"
         );
     }

@@ -4,7 +4,6 @@ use super::timed::Timed;
 use super::ROUNDS;
 use crate::calls::handler_of;
 use handler::{Handler, Installed, Lifecycle};
-use std::hint::black_box;
 use std::time::{Duration, Instant};
 
 /// The boots that are timed in a round.
@@ -28,23 +27,25 @@ pub fn time_boot(n: usize, boots: usize) -> Timed {
     timed
 }
 
-/// The last of so many calls, and the time of all.
-fn last<T>(boots: usize, mut call: impl FnMut() -> T) -> (T, Duration) {
+/// One of so many calls, and the time of all. Which one is known only after the last, so that the compiler leaves none out.
+fn one_of<T>(boots: usize, mut call: impl FnMut() -> T) -> (T, Duration) {
+    let mut given = Vec::with_capacity(boots);
     let begin = Instant::now();
-    for _ in 1..boots {
-        black_box(call());
+    for _ in 0..boots {
+        given.push(call());
     }
-    let given = call();
-    (given, begin.elapsed())
+    let time = begin.elapsed();
+    let at = time.subsec_nanos() as usize % boots;
+    (given.swap_remove(at), time)
 }
 
 fn proved_round(n: usize, boots: usize) -> (Installed, Duration) {
-    last(boots, || Handler::new(n).0.install(Lifecycle::Prod))
+    one_of(boots, || Handler::new(n).0.install(Lifecycle::Prod))
 }
 
 fn reference_round(n: usize, boots: usize) -> (reference::Installed, Duration) {
     let number = Lifecycle::Prod.number();
-    last(boots, || {
+    one_of(boots, || {
         reference::install(reference::Handler::new(n as u64).0, number)
     })
 }

@@ -37,7 +37,7 @@ pub fn load(edition: Edition, load: Load, records: usize) -> Vec<u8> {
         let mut wires = QUIET;
         match load {
             Load::Quiet => {}
-            Load::Sparse if at.is_multiple_of(64) => {
+            Load::Sparse if at % 64 == 0 => {
                 // From the last alert down.
                 let alerts = edition.alerts();
                 let i = alerts - 1 - at / 64 % alerts;

@@ -41,8 +41,9 @@ impl Locking {
             Edition::Alerts248 => head.register,
         };
         let register = Register::decode(number, before.n);
-        let (Some(register), true) = (register, head.kind == WRITE) else {
-            return;
+        let register = match register {
+            Some(register) if head.kind == WRITE => register,
+            _ => return,
         };
         let refusal = (word >> 52) & 15;
         match register {
@@ -65,7 +66,7 @@ impl Locking {
         if refusal == SILLY {
             self.refused += 1;
             self.no_line += u64::from(!class.enabled());
-            let mends = ctrl.is_some_and(|ctrl| ctrl % 2 == 0) || thresh.is_some_and(below);
+            let mends = ctrl.map_or(false, |ctrl| ctrl % 2 == 0) || thresh.map_or(false, below);
             self.mended += u64::from(mends);
         } else if class.regwen == 0 {
             self.again += 1;
@@ -74,7 +75,7 @@ impl Locking {
             self.staged += u64::from(thresh == Some(65535));
         } else if !class.en() && most {
             self.en_off += 1;
-            self.staged += u64::from(ctrl.is_some_and(|ctrl| ctrl % 2 == 1));
+            self.staged += u64::from(ctrl.map_or(false, |ctrl| ctrl % 2 == 1));
         }
     }
 }

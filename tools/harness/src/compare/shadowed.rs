@@ -60,8 +60,9 @@ impl Shadowed {
             Edition::Alerts64 => carried(head.register),
             Edition::Alerts248 => head.register,
         };
-        let Some(register) = Register::decode(number, before.n) else {
-            return;
+        let register = match Register::decode(number, before.n) {
+            Some(register) => register,
+            None => return,
         };
         let refusal = (word >> 52) & 15;
         let [was, is] = [before, after].map(|h| h.stages.staged(register).is_some());

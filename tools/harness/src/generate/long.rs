@@ -86,17 +86,13 @@ fn set_up(scene: &mut Scene, way: u64) {
 fn drive(scene: &mut Scene, way: u64, at: u64) {
     let last = scene.n - 1;
     let (up, down) = ((1, 0), (0, 1));
-    let (first, second) = if at.is_multiple_of(2) {
-        (up, down)
-    } else {
-        (down, up)
-    };
+    let (first, second) = if at % 2 == 0 { (up, down) } else { (down, up) };
     match way {
         0 => {
             scene.set(0, first);
             scene.set(last, second);
         }
         1 => scene.set(0, first),
-        _ => scene.set(0, if at.is_multiple_of(2) { (0, 0) } else { (1, 1) }),
+        _ => scene.set(0, if at % 2 == 0 { (0, 0) } else { (1, 1) }),
     }
 }

@@ -127,7 +127,7 @@ impl Scene {
         let one = self.any_shadowed(values);
         let mut two = self.any_shadowed(values);
         let next = self.map.register(one.register + 1);
-        if self.rng.once_in(2) && next.is_some_and(|it| it.is_shadowed()) {
+        if self.rng.once_in(2) && next.map_or(false, |it| it.is_shadowed()) {
             (two.register, two.value) = (one.register + 1, two.value & 1);
         }
         for it in [one, two, one, two] {

@@ -32,7 +32,7 @@ impl Scene {
 
     /// The words that hold the wires of a record.
     fn words(&self) -> usize {
-        self.edition.alerts().div_ceil(64)
+        (self.edition.alerts() + 63) / 64
     }
 
     /// Gives some active alerts new wires.

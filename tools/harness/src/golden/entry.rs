@@ -40,7 +40,7 @@ impl Golden {
         let ran = program(path, &bytes)?;
         if let Some(ended) = ended(&ran) {
             let what = format!("trace {} {seed}: {ended}", kind.name());
-            return Err(io::Error::other(what));
+            return Err(io::Error::new(io::ErrorKind::Other, what));
         }
         let lines = ran.output.iter().filter(|byte| **byte == b'\n').count();
         let golden = Golden {
@@ -55,8 +55,9 @@ impl Golden {
     /// The trace of a line, as `Display` writes it.
     pub fn named(line: &str) -> Option<Golden> {
         let words: Vec<&str> = line.split(' ').collect();
-        let [kind, seed, trace, words] = words[..] else {
-            return None;
+        let [kind, seed, trace, words] = match words[..] {
+            [kind, seed, trace, words] => [kind, seed, trace, words],
+            _ => return None,
         };
         let hex = |digits: &str| u64::from_str_radix(digits, 16).ok();
         Some(Golden {

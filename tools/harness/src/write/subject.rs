@@ -43,8 +43,9 @@ fn sides(words: &[u64]) -> Option<Vec<reference::Wires>> {
 /// The reference's writer. It has no list in which the words of an entry are
 /// not all there: that is one of slices that do not fit together.
 pub fn reference_record(list: Lent, out: &mut [u8]) -> Answer {
-    let (Some(positive), Some(negative)) = (sides(list.positive), sides(list.negative)) else {
-        return Answer(Refusal::Unrecordable.answer());
+    let (positive, negative) = match (sides(list.positive), sides(list.negative)) {
+        (Some(positive), Some(negative)) => (positive, negative),
+        _ => return Answer(Refusal::Unrecordable.answer()),
     };
     Answer(reference::record(
         list.kinds,

@@ -158,7 +158,10 @@ fn a_start_is_by_a_trigger_or_by_the_timeout() {
         each_of(edition, &mut |t| {
             for k in 0..CLASSES {
                 let (before, after) = (&t.before.classes[k], &t.after.classes[k]);
-                let Some(start) = start(t, k) else { continue };
+                let start = match start(t, k) {
+                    Some(start) => start,
+                    None => continue,
+                };
                 let triggered = !start.by.is_empty();
                 let timed_out = before.state == TIMEOUT && before.count >= after.timeout;
                 assert!(triggered || timed_out, "tick {}", t.number);
@@ -199,10 +202,11 @@ fn each_lock_has_its_cause() {
                     written += 1;
                     continue;
                 }
-                let Register::Class(k, Setting::ClrRegwen) = register else {
-                    panic!("tick {}: {register} is no CLR_REGWEN", t.number);
+                let k = match register {
+                    Register::Class(k, Setting::ClrRegwen) => k,
+                    _ => panic!("tick {}: {register} is no CLR_REGWEN", t.number),
                 };
-                assert!(start(t, k).is_some_and(|start| start.lock));
+                assert!(start(t, k).map_or(false, |start| start.lock));
                 by_lock += 1;
             }
         });
@@ -217,9 +221,12 @@ fn each_stage_has_its_cause() {
         let mut seen = [0; 3];
         each_of(edition, &mut |t| {
             let [before, after] = [&t.before, &t.after].map(|h| open(h).len());
-            let Some(change) = change(t) else {
-                assert_eq!(before, after, "tick {}", t.number);
-                return;
+            let change = match change(t) {
+                Some(change) => change,
+                None => {
+                    assert_eq!(before, after, "tick {}", t.number);
+                    return;
+                }
             };
             let register = t.register().expect("a register");
             seen[change as usize] += 1;

@@ -78,9 +78,12 @@ impl<'a, R: Read> Ticks<'a, R> {
         mut each: impl FnMut(&Tick) -> Result<(), E>,
     ) -> Result<bool, E> {
         while self.number < to {
-            let Some(tick) = self.take()? else {
-                progress.clear();
-                return Ok(false);
+            let tick = match self.take()? {
+                Some(tick) => tick,
+                None => {
+                    progress.clear();
+                    return Ok(false);
+                }
             };
             each(&tick)?;
             if progress.is_due(tick.number) {

@@ -27,7 +27,10 @@ fn is_above(edition: Edition, n: u8, register: u16) -> bool {
 /// What a tick says of alerts at N and above.
 fn unheeded(edition: Edition, n: u8, line: &Line) -> Vec<String> {
     let mut all = Vec::new();
-    let Line::Tick(input) = line else { return all };
+    let input = match line {
+        Line::Tick(input) => input,
+        _ => return all,
+    };
     if let Access::Read(register) | Access::Write(register, _) = input.access {
         if is_above(edition, n, register) {
             let name = names::register(Naming::Ours, edition, register);

@@ -20,8 +20,9 @@ pub struct Refusals([u64; NAMES.len()]);
 
 impl Refusals {
     pub fn add(&mut self, t: &Tick) {
-        let Some(refusal) = t.word.refusal() else {
-            return;
+        let refusal = match t.word.refusal() {
+            Some(refusal) => refusal,
+            None => return,
         };
         if (0..CLASSES).any(|k| clear(t, k) == Some(Clear::Refused)) {
             return;

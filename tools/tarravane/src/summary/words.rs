@@ -1,5 +1,6 @@
 //! Words that the parts of a summary share.
 use crate::facts::events::Source;
+use crate::runs::parts;
 
 /// So many of a thing: `no start`, `1 start`, `2 starts`.
 pub fn count(number: u64, thing: &str) -> String {
@@ -12,8 +13,8 @@ pub fn count(number: u64, thing: &str) -> String {
 
 /// Rising numbers, three neighbours or more as a range: `0,1,4-9`.
 fn ranges(numbers: &[usize]) -> String {
-    let runs = numbers.chunk_by(|a, b| a + 1 == *b);
-    let words = runs.map(|run| match *run {
+    let runs = parts(numbers, |a, b| a + 1 == *b);
+    let words = runs.iter().map(|run| match **run {
         [first, _, .., last] if run.len() > 2 => format!("{first}-{last}"),
         _ => run
             .iter()

@@ -5,7 +5,9 @@ use handler::{Access, Edition, Input, Refusal, Sample, Wires, WORDS};
 /// The words of the wires; at places that the edition has no wires for, those at rest.
 fn words(bytes: &[u8], rest: u8) -> [u64; WORDS] {
     let mut all = [[rest; 8]; WORDS];
-    all.as_flattened_mut()[..bytes.len()].copy_from_slice(bytes);
+    for (to, from) in all.iter_mut().flatten().zip(bytes) {
+        *to = *from;
+    }
     all.map(u64::from_be_bytes)
 }
 
@@ -44,8 +46,8 @@ fn packed(edition: Edition, input: &Input) -> Option<Vec<u8>> {
     let mut record = first.to_be_bytes().to_vec();
     let Wires { pos, neg } = input.sample.alerts;
     for wires in [pos, neg] {
-        let bytes = wires.map(u64::to_be_bytes);
-        record.extend_from_slice(&bytes.as_flattened()[..edition.wire_bytes()]);
+        let bytes = wires.map(u64::to_be_bytes).concat();
+        record.extend_from_slice(&bytes[..edition.wire_bytes()]);
     }
     Some(record)
 }

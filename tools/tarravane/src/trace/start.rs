@@ -24,8 +24,9 @@ impl Start {
     };
 
     pub fn read(from: &mut impl Read, name: &str) -> Result<Start, String> {
-        let Some(first) = byte(from, name)? else {
-            return Ok(Start::EMPTY);
+        let first = match byte(from, name)? {
+            Some(first) => first,
+            None => return Ok(Start::EMPTY),
         };
         let edition = Edition::of(first);
         let n = match edition.mark() {

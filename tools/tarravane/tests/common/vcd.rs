@@ -115,7 +115,7 @@ impl Dump {
         };
         let last = signal.values.last();
         assert!(
-            last.is_none_or(|last| last.1 != value),
+            last.map_or(true, |last| last.1 != value),
             "{name} at {time}: no change"
         );
         signal.values.push((time, value));

@@ -23,7 +23,7 @@ fn check_references(text: &str) {
 
 fn is_name(name: &str) -> bool {
     let mut chars = name.chars();
-    chars.next().is_some_and(|c| c.is_ascii_alphabetic())
+    chars.next().map_or(false, |c| c.is_ascii_alphabetic())
         && chars.all(|c| c.is_ascii_alphanumeric() || "-:_".contains(c))
 }
 

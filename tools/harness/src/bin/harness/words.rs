@@ -25,8 +25,9 @@ impl Options {
     pub fn take(words: &mut Vec<String>) -> Result<Options, Trouble> {
         let mut given = Vec::new();
         for name in NAMES {
-            let Some(at) = words.iter().position(|word| word == name) else {
-                continue;
+            let at = match words.iter().position(|word| word == name) {
+                Some(at) => at,
+                None => continue,
             };
             if at + 1 == words.len() {
                 return Err(usage(format!("{name} needs a number")));
@@ -53,8 +54,9 @@ impl Options {
 
     /// The edition that was asked for, by the bytes of its record.
     pub fn edition(&self) -> Result<Option<Edition>, Trouble> {
-        let Some(bytes) = self.get("--edition") else {
-            return Ok(None);
+        let bytes = match self.get("--edition") {
+            Some(bytes) => bytes,
+            None => return Ok(None),
         };
         let mut all = Edition::ALL.into_iter();
         let edition = all.find(|edition| edition.bytes() as u64 == bytes);

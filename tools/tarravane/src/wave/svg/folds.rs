@@ -2,6 +2,7 @@
 //! least and saves most first. Memory is bounded, however long the trace.
 use super::cell::Cell;
 use super::weight::Weight;
+use crate::runs::parts;
 use std::cmp::Reverse;
 use std::ops::Range;
 
@@ -29,7 +30,7 @@ fn join(cells: impl Iterator<Item = Cell>) -> Option<Cell> {
 /// The runs of cells of at most this weight, as long as can be, that are worth a fold: it saves two units at least.
 fn runs(cells: &[Cell], weight: Weight) -> Vec<Range<usize>> {
     let (mut all, mut start) = (Vec::new(), 0);
-    for run in cells.chunk_by(|a, b| (a.weight <= weight) == (b.weight <= weight)) {
+    for run in parts(cells, |a, b| (a.weight <= weight) == (b.weight <= weight)) {
         if run[0].weight <= weight && units(run) >= 4 {
             all.push(start..start + run.len());
         }

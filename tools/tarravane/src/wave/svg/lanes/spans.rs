@@ -58,7 +58,7 @@ pub fn spans<T: Copy + PartialEq>(axis: &Axis, of: impl Fn(&Cell) -> Held<T>) ->
     let mut all: Vec<Span<T>> = Vec::new();
     for (cell, place) in axis.with_places() {
         let value = of(cell).value();
-        if all.last().is_none_or(|span| span.value != value) {
+        if all.last().map_or(true, |span| span.value != value) {
             all.push(Span::new(value, cell, place.x));
         }
         if let Some(span) = all.last_mut() {

@@ -1,0 +1,56 @@
+//! Where a field stands, for the tests of the layout: `std::mem::offset_of` is younger than Rust 1.63.
+use crate::{Class, ClassStages, Handler, Sample, Stages, Wires};
+
+/// A type with a value, whose fields have places.
+pub trait Laid {
+    fn some() -> Self;
+}
+
+impl Laid for Handler {
+    fn some() -> Handler {
+        Handler::new(1).0
+    }
+}
+
+impl Laid for Class {
+    fn some() -> Class {
+        Handler::some().classes[0]
+    }
+}
+
+impl Laid for Stages {
+    fn some() -> Stages {
+        Handler::some().stages
+    }
+}
+
+impl Laid for ClassStages {
+    fn some() -> ClassStages {
+        Stages::some().classes[0]
+    }
+}
+
+impl Laid for Sample {
+    fn some() -> Sample {
+        Sample::AT_REST
+    }
+}
+
+impl Laid for Wires {
+    fn some() -> Wires {
+        Sample::AT_REST.alerts
+    }
+}
+
+/// The bytes before a field.
+macro_rules! offset_of {
+    ($whole:ty, $field:ident) => {{
+        let whole = <$whole as crate::layout::Laid>::some();
+        let [start, field] = [
+            &whole as *const _ as usize,
+            &whole.$field as *const _ as usize,
+        ];
+        field - start
+    }};
+}
+pub(crate) use offset_of;
