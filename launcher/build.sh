@@ -86,12 +86,12 @@ announce() {
 build_program() {
   [ -f "$program" ] || rm -f "$here/target/stamp/replay"
   prove check replay "the program"
-  finished "$program"
+  finished program "$program"
 }
 
 build_library() {
   prove staticlib boundary "the library"
-  finished "$library"
+  finished library "$library"
 }
 
 # run_cargo PACKAGE WHAT: the lock stays with the launcher; cargo has one of its own.
@@ -103,10 +103,10 @@ run_cargo() {
 # Each alone, so that an error in the harness stops no command but its own.
 build_tool() {
   run_cargo tarravane-cli "the tool"
-  finished "$cli"
+  finished tool "$cli"
 }
 
 build_harness() {
   run_cargo harness "the harness"
-  finished "$harness"
+  finished harness "$harness"
 }

@@ -53,8 +53,8 @@ begun() { touch "$here/target/$1.unfinished" 2>/dev/null || fail "cannot write $
 ended() { rm "$here/target/$1.unfinished" 2>/dev/null || fail "cannot remove $here/target/$1.unfinished"; }
 is_unfinished() { [ -e "$here/target/$1.unfinished" ]; }
 
-# finished FILE: it is newer than its sources from now on.
+# finished PART FILE: it is as old as the beginning of its build, so that a source that was changed meanwhile is newer.
 finished() {
-  [ -f "$1" ] || fail "the build left no $1"
-  touch "$1" 2>/dev/null || fail "cannot write $1"
+  [ -f "$2" ] || fail "the build left no $2"
+  touch -r "$here/target/$1.unfinished" "$2" 2>/dev/null || fail "cannot write $2"
 }

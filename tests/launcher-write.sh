@@ -67,7 +67,7 @@ says '*the build left no *target/bin/replay'
 cp target/bin/replay "$tree/target/bin/replay"
 touch -d 2000-01-01 "$tree/target/bin/replay"
 stand_in touch <<<"#!/bin/sh
-case \$1 in */replay) exit 1 ;; esac
+case \$* in */replay) exit 1 ;; esac
 exec $(command -v touch) \"\$@\""
 ends 2 2 env -i "PATH=$work/stand-ins:$work/plain" "$tree/tarravane" replay examples/broken-seal.trace
 says '*tarravane: cannot write *target/bin/replay'
@@ -81,6 +81,21 @@ exit 1'
 ends 2 3 env -i "PATH=$work/stand-ins:$work/plain" "$tree/tarravane" replay examples/broken-seal.trace
 says '*the program was not built'
 
+# A source that is changed while the build runs is newer than what was built of it.
+rm -rf "$tree/target"
+stand_in rt <<TXT
+#!/bin/sh
+echo called >>"$work/calls"
+mkdir -p target/bin
+cp /bin/cat target/bin/replay
+sleep 0.05
+touch crates/bits/src/lib.rt
+TXT
+lines one two >"$work/input"
+for _ in first second; do ends 0 1 env -i "PATH=$work/stand-ins:$work/plain" "$tree/tarravane" replay "$work/input"; done
+expect 'a source that changed meanwhile' "$(lines called called)" "$(cat "$work/calls")"
+rm "$work/calls"
+
 # Two first builds at once: the second waits and says for what, then runs what the first one built.
 rm -rf "$tree/target"
 mkfifo "$work/go_on"
@@ -91,14 +106,13 @@ mkdir -p target/bin
 read -r line <"$work/go_on"
 cp /bin/cat target/bin/replay
 TXT
-lines one two >"$work/input"
 two=("PATH=$work/stand-ins:$work/plain" "$tree/tarravane" replay "$work/input")
 timeout 60 env -i "${two[@]}" >"$work/first" 2>"$work/first.said" &
 first=$!
 await test -s "$work/calls"
 timeout 60 env -i "${two[@]}" >"$work/second" 2>"$work/second.said" &
 second=$!
-await grep -q "^tarravane: waiting for another build in $tree to end$" "$work/second.said"
+await grep -qs "^tarravane: waiting for another build in $tree to end$" "$work/second.said"
 expect 'the second does not build beside the first' called "$(cat "$work/calls")"
 echo >"$work/go_on"
 wait $first
@@ -117,7 +131,7 @@ kill -s KILL $first
 wait $first 2>/dev/null || true
 timeout 60 env -i "${two[@]}" >"$work/second" 2>"$work/second.said" &
 second=$!
-await grep -q '^tarravane: waiting for another build' "$work/second.said"
+await grep -qs '^tarravane: waiting for another build' "$work/second.said"
 echo >"$work/go_on"
 called_again() { [ "$(wc -l <"$work/calls")" -eq 2 ]; }
 await called_again
