@@ -1,27 +1,30 @@
-/* Tarravane: the proved alert handler, for C. Link target/staticlib/libboundary.a. It is built for x86-64 Linux alone (ELF,
- * System V ABI), as the kit's back end gives it, and needs memcpy.
+/* Tarravane: the proved alert handler, for C. Link target/staticlib/libtarravane.a. It is built for x86-64 Linux alone (ELF,
+ * System V ABI), as the kit's back end gives it.
+ * It needs of the C library: memcpy, memset.
  *
- * Every function answers one signed 64-bit number: a read gives 0 to 4294967295, the writer the bytes written, anything
- * else accepted gives 0, and a refusal gives the negated refusal number. No function has a precondition on the state:
- * any bytes are a state, and refusal 7 judges them. No function keeps anything between calls, allocates, or fails in
- * another way.
+ * Every function answers one signed 64-bit number: a read gives 0 to 4294967295, the writer the bytes written, a boot that
+ * stops where a register does not read what was written what it reads, anything else accepted gives 0, and a refusal gives
+ * the negated refusal number. No function has a precondition on the state: any bytes are a state, and refusal 7 judges them.
+ * No function keeps anything between calls, allocates, or fails in another way.
+ *
+ * No struct has padding: equal states are equal bytes, memcmp tells them apart, and nothing else of a caller's memory leaves
+ * in one.
  *
  * The promises are proved for the functions of crates/boundary. Trusted: the compiler's back end, the C ABI, this header.
  *
  * The stack that a call takes below its caller's frame, argument and result included, whatever the lengths of its lists:
- *   tarravane_new 4856 bytes
- *   tarravane_tick 29112 bytes
- *   tarravane_batch_24 35304 bytes
- *   tarravane_batch_70 35304 bytes
+ *   tarravane_new 3064 bytes
+ *   tarravane_tick 29688 bytes
+ *   tarravane_batch_24 36024 bytes
+ *   tarravane_batch_70 36024 bytes
  *   tarravane_record 96 bytes
- *   tarravane_install 40776 bytes
+ *   tarravane_install 43576 bytes
  * Measured, not proved (tests/stack, the gate): each call ran on a stack filled with a pattern, with accesses of every kind
  * and lists of 0 to 300 entries, linked with -z now. Else the dynamic loader binds memcpy within the first call and takes
- * stack there: with it the first tarravane_new took 6600 bytes on the machine that was measured, the other calls no more. */
+ * stack there: with it the first tarravane_new took 6216 bytes on the machine that was measured, the other calls no more. */
 #ifndef TARRAVANE_H
 #define TARRAVANE_H
 
-#include <assert.h>
 #include <stddef.h>
 #include <stdint.h>
 
@@ -30,6 +33,30 @@ extern "C" {
 #define TARRAVANE_ASSERT(fact) static_assert(fact, #fact)
 #else
 #define TARRAVANE_ASSERT(fact) _Static_assert(fact, #fact)
+#endif
+
+/* ---- The layout's number ---- */
+
+/* It rises with each change of the structs or of a function's parameters. In the library it is part of each function's name,
+ * so that what was compiled against another layout does not link. */
+#define TARRAVANE_LAYOUT 1
+
+#define TARRAVANE_JOINED(name, layout) name##_layout_##layout
+#define TARRAVANE_NAMED(name, layout) TARRAVANE_JOINED(name, layout)
+#define tarravane_new TARRAVANE_NAMED(tarravane_new, TARRAVANE_LAYOUT)
+#define tarravane_tick TARRAVANE_NAMED(tarravane_tick, TARRAVANE_LAYOUT)
+#define tarravane_batch_24 TARRAVANE_NAMED(tarravane_batch_24, TARRAVANE_LAYOUT)
+#define tarravane_batch_70 TARRAVANE_NAMED(tarravane_batch_70, TARRAVANE_LAYOUT)
+#define tarravane_record TARRAVANE_NAMED(tarravane_record, TARRAVANE_LAYOUT)
+#define tarravane_install TARRAVANE_NAMED(tarravane_install, TARRAVANE_LAYOUT)
+
+/* A result that is dropped gives a warning: the state after a call is in it. */
+#if (defined(__cplusplus) && __cplusplus >= 201703L) || (defined(__STDC_VERSION__) && __STDC_VERSION__ > 201710L)
+#define TARRAVANE_RESULT [[nodiscard]]
+#elif defined(__GNUC__)
+#define TARRAVANE_RESULT __attribute__((warn_unused_result))
+#else
+#define TARRAVANE_RESULT
 #endif
 
 /* ---- Sizes ---- */
@@ -47,7 +74,9 @@ extern "C" {
 #define TARRAVANE_RECORD_24 24
 #define TARRAVANE_RECORD_70 70
 
-/* ---- The state. Read and copy it freely; change it by ticks. ---- */
+/* ---- The state. Read, copy and compare it freely; change it by ticks. ---- */
+
+/* Some fields are wider than their registers, so that there is no padding. Refusal 7 judges each by its register's bits. */
 
 /* The registers of a class's block. */
 struct tarravane_class {
@@ -59,7 +88,7 @@ struct tarravane_class {
     uint16_t thresh;                    /* ACCUM_THRESH */
     uint8_t regwen;                     /* class REGWEN */
     uint8_t clrwen;                     /* CLR_REGWEN */
-    uint8_t state;                      /* STATE: TARRAVANE_IDLE .. */
+    uint32_t state;                     /* STATE: TARRAVANE_IDLE .. */
 };
 
 /* Alert i is re-armed if bit 63 - i % 64 of word i / 64 is 1. Places at n and above are no alert's: no call changes them. */
@@ -89,8 +118,8 @@ struct tarravane_locals {
 
 /* INTR_STATE and INTR_ENABLE: class 0 is the lowest bit. */
 struct tarravane_interrupts {
-    uint8_t state;
-    uint8_t enable;
+    uint16_t state;
+    uint16_t enable;
 };
 
 /* Stages: what the first of two equal writes left at a shadowed register. 0 for none, else the staged value plus 1, so they
@@ -109,8 +138,8 @@ struct tarravane_alert_stages {
 };
 
 struct tarravane_local_stages {
-    uint8_t en[TARRAVANE_LOCALS];
-    uint8_t class_of[TARRAVANE_LOCALS]; /* CLASS */
+    uint32_t en[TARRAVANE_LOCALS];
+    uint32_t class_of[TARRAVANE_LOCALS]; /* CLASS */
 };
 
 struct tarravane_stages {
@@ -164,6 +193,7 @@ struct tarravane_answered {
     struct tarravane_handler handler;
     int64_t answer;
     struct tarravane_output output;
+    uint8_t spare[6]; /* 0 */
 };
 
 struct tarravane_batched {
@@ -175,6 +205,7 @@ struct tarravane_installed {
     struct tarravane_handler handler;
     int64_t answer;
     uint16_t register_number; /* where it stopped, else 0 */
+    uint8_t spare[6];         /* 0 */
 };
 
 /* ---- Refusal numbers: an answer of -number ---- */
@@ -186,7 +217,7 @@ struct tarravane_installed {
 #define TARRAVANE_BAD_RECORD 5    /* trace record malformed, or a kind over 2 */
 #define TARRAVANE_BAD_COUNT 6     /* n is 0 or over 248 */
 #define TARRAVANE_BAD_STATE 7     /* n over 248, a register or staged value over its bits, a STATE of 2, a count that its state
-                                     rules out */
+                                     rules out; by tarravane_batch_24 also n over 64 */
 #define TARRAVANE_BAD_LENGTH 8    /* batch length not a multiple of its record's bytes */
 #define TARRAVANE_SHORT_LIST 9    /* output list shorter than the records */
 #define TARRAVANE_NO_RECORD 10    /* an access that no well-formed record holds */
@@ -216,30 +247,37 @@ struct tarravane_installed {
  * class's EN, bit 0 of CTRL, is 1, whatever its line enables, and its ACCUM_THRESH is 65535. It changes nothing. What is
  * staged does not count. Set the threshold to 65534 or less, by two writes, and lock again. */
 
+/* A register number, whatever the type of an index. */
+#ifdef __cplusplus
+#define TARRAVANE_NUMBER(number) static_cast<uint16_t>(number)
+#else
+#define TARRAVANE_NUMBER(number) ((uint16_t)(number))
+#endif
+
 #define TARRAVANE_INTR_STATE 0  /* 4 bits, a 1 clears */
 #define TARRAVANE_INTR_ENABLE 1 /* 4 bits */
 #define TARRAVANE_INTR_TEST 2   /* 4 bits, write only, a 1 sets INTR_STATE */
 
-#define TARRAVANE_LOC_ALERT_REGWEN(j) (16 + (j)) /* 1 bit, a 0 locks */
-#define TARRAVANE_LOC_ALERT_EN(j) (24 + (j))     /* 1 bit, twice */
-#define TARRAVANE_LOC_ALERT_CLASS(j) (32 + (j))  /* 2 bits, twice */
-#define TARRAVANE_LOC_ALERT_CAUSE(j) (40 + (j))  /* 1 bit, a 1 clears */
+#define TARRAVANE_LOC_ALERT_REGWEN(j) TARRAVANE_NUMBER(16 + (j)) /* 1 bit, a 0 locks */
+#define TARRAVANE_LOC_ALERT_EN(j) TARRAVANE_NUMBER(24 + (j))     /* 1 bit, twice */
+#define TARRAVANE_LOC_ALERT_CLASS(j) TARRAVANE_NUMBER(32 + (j))  /* 2 bits, twice */
+#define TARRAVANE_LOC_ALERT_CAUSE(j) TARRAVANE_NUMBER(40 + (j))  /* 1 bit, a 1 clears */
 
-#define TARRAVANE_ALERT_REGWEN(i) (256 + (i)) /* 1 bit, a 0 locks */
-#define TARRAVANE_ALERT_EN(i) (512 + (i))     /* 1 bit, twice */
-#define TARRAVANE_ALERT_CLASS(i) (768 + (i))  /* 2 bits, twice */
-#define TARRAVANE_ALERT_CAUSE(i) (1024 + (i)) /* 1 bit, a 1 clears */
+#define TARRAVANE_ALERT_REGWEN(i) TARRAVANE_NUMBER(256 + (i)) /* 1 bit, a 0 locks */
+#define TARRAVANE_ALERT_EN(i) TARRAVANE_NUMBER(512 + (i))     /* 1 bit, twice */
+#define TARRAVANE_ALERT_CLASS(i) TARRAVANE_NUMBER(768 + (i))  /* 2 bits, twice */
+#define TARRAVANE_ALERT_CAUSE(i) TARRAVANE_NUMBER(1024 + (i)) /* 1 bit, a 1 clears */
 
-#define TARRAVANE_CLASS_REGWEN(k) (1280 + 16 * (k))             /* 1 bit, a 0 locks, or gets -14 */
-#define TARRAVANE_CLASS_CTRL(k) (1281 + 16 * (k))               /* 14 bits: EN, LOCK, four line enables, four maps; twice */
-#define TARRAVANE_CLASS_CLR_REGWEN(k) (1282 + 16 * (k))         /* 1 bit, a 0 locks */
-#define TARRAVANE_CLASS_CLR(k) (1283 + 16 * (k))                /* 1 bit, write only */
-#define TARRAVANE_CLASS_ACCUM_CNT(k) (1284 + 16 * (k))          /* 16 bits, read only */
-#define TARRAVANE_CLASS_ACCUM_THRESH(k) (1285 + 16 * (k))       /* 16 bits, twice */
-#define TARRAVANE_CLASS_TIMEOUT_CYC(k) (1286 + 16 * (k))        /* 32 bits, twice */
-#define TARRAVANE_CLASS_PHASE_CYC(k, p) (1287 + 16 * (k) + (p)) /* 32 bits, twice */
-#define TARRAVANE_CLASS_ESC_CNT(k) (1291 + 16 * (k))            /* 32 bits, read only */
-#define TARRAVANE_CLASS_STATE(k) (1292 + 16 * (k))              /* 3 bits, read only */
+#define TARRAVANE_CLASS_REGWEN(k) TARRAVANE_NUMBER(1280 + 16 * (k))          /* 1 bit, a 0 locks, or gets -14 */
+#define TARRAVANE_CLASS_CTRL(k) TARRAVANE_NUMBER(1281 + 16 * (k))            /* 14 bits, twice: EN, LOCK, line enables, maps */
+#define TARRAVANE_CLASS_CLR_REGWEN(k) TARRAVANE_NUMBER(1282 + 16 * (k))      /* 1 bit, a 0 locks */
+#define TARRAVANE_CLASS_CLR(k) TARRAVANE_NUMBER(1283 + 16 * (k))             /* 1 bit, write only */
+#define TARRAVANE_CLASS_ACCUM_CNT(k) TARRAVANE_NUMBER(1284 + 16 * (k))       /* 16 bits, read only */
+#define TARRAVANE_CLASS_ACCUM_THRESH(k) TARRAVANE_NUMBER(1285 + 16 * (k))    /* 16 bits, twice */
+#define TARRAVANE_CLASS_TIMEOUT_CYC(k) TARRAVANE_NUMBER(1286 + 16 * (k))     /* 32 bits, twice */
+#define TARRAVANE_CLASS_PHASE_CYC(k, p) TARRAVANE_NUMBER(1287 + 16 * TARRAVANE_NUMBER(k) + TARRAVANE_NUMBER(p)) /* 32 bits, twice */
+#define TARRAVANE_CLASS_ESC_CNT(k) TARRAVANE_NUMBER(1291 + 16 * (k))         /* 32 bits, read only */
+#define TARRAVANE_CLASS_STATE(k) TARRAVANE_NUMBER(1292 + 16 * (k))           /* 3 bits, read only */
 
 /* What STATE reads. */
 #define TARRAVANE_IDLE 0
@@ -269,6 +307,7 @@ struct tarravane_installed {
 /* Makes a handler for n alerts, 1 to 248: all REGWEN and CLR_REGWEN at 1, all CTRL at 0x393C, every other register at 0,
  * classes Idle, alerts re-armed, no stage, and so the entries at n and above; answers 0.
  * -6: n is 0 or over 248. It leaves a handler of no alerts, otherwise as new. */
+TARRAVANE_RESULT
 struct tarravane_made tarravane_new(size_t n);
 
 /* Runs one tick of the state h, with the access and the sample, and gives the state after it, the answer to the access, and
@@ -278,6 +317,7 @@ struct tarravane_made tarravane_new(size_t n);
  * -7: the state breaks its rule. State unchanged, tick not run, interrupts and lines 0.
  * -5 (kind over 2), -1, -2, -4, -14, -3, -12, in this order: no register is changed by the access; the tick runs with its
  * sample. -3 and -12 drop the stage of the register that is named, the others touch none. */
+TARRAVANE_RESULT
 struct tarravane_answered tarravane_tick(struct tarravane_handler h, uint8_t kind, uint16_t register_number,
                                          uint32_t value, struct tarravane_sample sample);
 
@@ -289,12 +329,14 @@ struct tarravane_answered tarravane_tick(struct tarravane_handler h, uint8_t kin
  * each leaves state and list unchanged.
  * The caller owes: bytes points to length readable bytes, out to words writable words, aligned; they do not overlap;
  * neither is null, also where its length is 0. */
+TARRAVANE_RESULT
 struct tarravane_batched tarravane_batch_70(struct tarravane_handler h, const uint8_t *bytes, size_t length, uint64_t *out,
                                             size_t words);
 
 /* The same for records of 24 bytes, with 24 in place of 70. Their register numbers are document 01's and carried over: a
  * number that was unassigned then gets refusal 1, also where it names a register now. They have wires for 64 alerts.
  * -7 also for a state of more than 64 alerts, though it keeps its rule, and with no bytes too. */
+TARRAVANE_RESULT
 struct tarravane_batched tarravane_batch_24(struct tarravane_handler h, const uint8_t *bytes, size_t length, uint64_t *out,
                                             size_t words);
 
@@ -310,6 +352,7 @@ struct tarravane_batched tarravane_batch_24(struct tarravane_handler h, const ui
  * -11: length is less than 70 times the entries. In this order; each leaves bytes as they were.
  * The caller owes: each list points to as many readable entries as its length says, aligned, and bytes to length writable
  * bytes that overlap none of them; no pointer is null, also where its length is 0. */
+TARRAVANE_RESULT
 int64_t tarravane_record(const uint8_t *kinds, size_t kinds_length, const uint16_t *registers, size_t registers_length,
                          const uint32_t *values, size_t values_length, const uint64_t *positive, size_t positive_length,
                          const uint64_t *negative, size_t negative_length, uint8_t *bytes, size_t length);
@@ -322,16 +365,32 @@ int64_t tarravane_record(const uint8_t *kinds, size_t kinds_length, const uint16
  * A and B in PROD, PROD_END and DEV, and with LOCK for A in PROD and PROD_END. Alerts marked A and class A are locked there
  * alone. Local alerts and alerts from 58 up are not written.
  * A lifecycle over 5 is none: PROD_END is installed then, the strictest.
- * Answers 0 with register_number 0 where all of it is installed and read back; a new handler of 58 alerts or more always
- * gets there. Else it stops, register_number names the register, and the state is the one reached: what was written stays.
- * It stops at the first refusal and answers -number, or at the first register that does not read what was written and
- * answers what it reads. -3: the register is locked, as after an earlier boot. -12: a stage that differs was left open; it
- * is dropped.
+ * All of it is installed and read back where the answer AND register_number are 0 (tarravane_all_installed); a new handler of
+ * 58 alerts or more always gets there. Look at both: -7 and -13 have register_number 0 too, and a boot that stops where a
+ * register reads a 0 that was not written answers 0.
+ * Else it stops, register_number names the register, and the state is the one reached: what was written stays. It stops at
+ * the first refusal and answers -number, or at the first register that does not read what was written and answers what it
+ * reads. -3: the register is locked, as after an earlier boot. -12: a stage that differs was left open; it is dropped.
  * -7: the state breaks its rule. -13: n is under 58. In this order; either leaves the state unchanged, runs no tick and has
- * register_number 0. */
+ * register_number 0.
+ * A whole boot is 432 ticks, 474 in PROD and PROD_END, whose interrupts and lines nobody sees. A class that runs moves on in
+ * them, its lines included; a stop by -12 raises local alert 5 where that is enabled, and so can start a class. */
+TARRAVANE_RESULT
 struct tarravane_installed tarravane_install(struct tarravane_handler h, uint8_t lifecycle);
 
-/* ---- The layout that the library has ---- */
+/* Whether a boot installed all of it. */
+static inline int tarravane_all_installed(const struct tarravane_installed *boot)
+{
+    return boot->answer == 0 && boot->register_number == 0;
+}
+
+/* ---- The layout that the library has: each size is the sum of its fields ---- */
+
+#ifdef __cplusplus
+#define TARRAVANE_SIZE(name, field) sizeof(tarravane_##name::field)
+#else
+#define TARRAVANE_SIZE(name, field) sizeof(((struct tarravane_##name *)0)->field)
+#endif
 
 TARRAVANE_ASSERT(sizeof(size_t) == 8);
 TARRAVANE_ASSERT(sizeof(struct tarravane_class) == 36);
@@ -355,8 +414,8 @@ TARRAVANE_ASSERT(sizeof(struct tarravane_locals) == 28);
 TARRAVANE_ASSERT(offsetof(struct tarravane_locals, en) == 7);
 TARRAVANE_ASSERT(offsetof(struct tarravane_locals, class_of) == 14);
 TARRAVANE_ASSERT(offsetof(struct tarravane_locals, cause) == 21);
-TARRAVANE_ASSERT(sizeof(struct tarravane_interrupts) == 2);
-TARRAVANE_ASSERT(offsetof(struct tarravane_interrupts, enable) == 1);
+TARRAVANE_ASSERT(sizeof(struct tarravane_interrupts) == 4);
+TARRAVANE_ASSERT(offsetof(struct tarravane_interrupts, enable) == 2);
 TARRAVANE_ASSERT(sizeof(struct tarravane_class_stages) == 48);
 TARRAVANE_ASSERT(offsetof(struct tarravane_class_stages, lengths) == 0);
 TARRAVANE_ASSERT(offsetof(struct tarravane_class_stages, timeout) == 32);
@@ -364,13 +423,13 @@ TARRAVANE_ASSERT(offsetof(struct tarravane_class_stages, ctrl) == 40);
 TARRAVANE_ASSERT(offsetof(struct tarravane_class_stages, thresh) == 44);
 TARRAVANE_ASSERT(sizeof(struct tarravane_alert_stages) == 496);
 TARRAVANE_ASSERT(offsetof(struct tarravane_alert_stages, class_of) == 248);
-TARRAVANE_ASSERT(sizeof(struct tarravane_local_stages) == 14);
-TARRAVANE_ASSERT(offsetof(struct tarravane_local_stages, class_of) == 7);
-TARRAVANE_ASSERT(sizeof(struct tarravane_stages) == 704);
+TARRAVANE_ASSERT(sizeof(struct tarravane_local_stages) == 56);
+TARRAVANE_ASSERT(offsetof(struct tarravane_local_stages, class_of) == 28);
+TARRAVANE_ASSERT(sizeof(struct tarravane_stages) == 744);
 TARRAVANE_ASSERT(offsetof(struct tarravane_stages, classes) == 0);
 TARRAVANE_ASSERT(offsetof(struct tarravane_stages, alerts) == 192);
 TARRAVANE_ASSERT(offsetof(struct tarravane_stages, locals) == 688);
-TARRAVANE_ASSERT(sizeof(struct tarravane_handler) == 1912);
+TARRAVANE_ASSERT(sizeof(struct tarravane_handler) == 1952);
 TARRAVANE_ASSERT(offsetof(struct tarravane_handler, n) == 0);
 TARRAVANE_ASSERT(offsetof(struct tarravane_handler, links) == 8);
 TARRAVANE_ASSERT(offsetof(struct tarravane_handler, classes) == 40);
@@ -384,16 +443,53 @@ TARRAVANE_ASSERT(sizeof(struct tarravane_sample) == 64);
 TARRAVANE_ASSERT(offsetof(struct tarravane_sample, alerts) == 0);
 TARRAVANE_ASSERT(sizeof(struct tarravane_output) == 2);
 TARRAVANE_ASSERT(offsetof(struct tarravane_output, lines) == 1);
-TARRAVANE_ASSERT(sizeof(struct tarravane_made) == 1920);
-TARRAVANE_ASSERT(offsetof(struct tarravane_made, answer) == 1912);
-TARRAVANE_ASSERT(sizeof(struct tarravane_answered) == 1928);
-TARRAVANE_ASSERT(offsetof(struct tarravane_answered, answer) == 1912);
-TARRAVANE_ASSERT(offsetof(struct tarravane_answered, output) == 1920);
-TARRAVANE_ASSERT(sizeof(struct tarravane_batched) == 1920);
-TARRAVANE_ASSERT(offsetof(struct tarravane_batched, answer) == 1912);
-TARRAVANE_ASSERT(sizeof(struct tarravane_installed) == 1928);
-TARRAVANE_ASSERT(offsetof(struct tarravane_installed, answer) == 1912);
-TARRAVANE_ASSERT(offsetof(struct tarravane_installed, register_number) == 1920);
+TARRAVANE_ASSERT(sizeof(struct tarravane_made) == 1960);
+TARRAVANE_ASSERT(offsetof(struct tarravane_made, answer) == 1952);
+TARRAVANE_ASSERT(sizeof(struct tarravane_answered) == 1968);
+TARRAVANE_ASSERT(offsetof(struct tarravane_answered, answer) == 1952);
+TARRAVANE_ASSERT(offsetof(struct tarravane_answered, output) == 1960);
+TARRAVANE_ASSERT(offsetof(struct tarravane_answered, spare) == 1962);
+TARRAVANE_ASSERT(sizeof(struct tarravane_batched) == 1960);
+TARRAVANE_ASSERT(offsetof(struct tarravane_batched, answer) == 1952);
+TARRAVANE_ASSERT(sizeof(struct tarravane_installed) == 1968);
+TARRAVANE_ASSERT(offsetof(struct tarravane_installed, answer) == 1952);
+TARRAVANE_ASSERT(offsetof(struct tarravane_installed, register_number) == 1960);
+TARRAVANE_ASSERT(offsetof(struct tarravane_installed, spare) == 1962);
+
+TARRAVANE_ASSERT(sizeof(struct tarravane_class) == TARRAVANE_SIZE(class, lengths) + TARRAVANE_SIZE(class, timeout) +
+                 TARRAVANE_SIZE(class, count) + TARRAVANE_SIZE(class, ctrl) + TARRAVANE_SIZE(class, accum) +
+                 TARRAVANE_SIZE(class, thresh) + TARRAVANE_SIZE(class, regwen) + TARRAVANE_SIZE(class, clrwen) +
+                 TARRAVANE_SIZE(class, state));
+TARRAVANE_ASSERT(sizeof(struct tarravane_receivers) == TARRAVANE_SIZE(receivers, armed));
+TARRAVANE_ASSERT(sizeof(struct tarravane_links) == TARRAVANE_SIZE(links, receivers));
+TARRAVANE_ASSERT(sizeof(struct tarravane_alerts) == TARRAVANE_SIZE(alerts, regwen) + TARRAVANE_SIZE(alerts, en) +
+                 TARRAVANE_SIZE(alerts, class_of) + TARRAVANE_SIZE(alerts, cause));
+TARRAVANE_ASSERT(sizeof(struct tarravane_locals) == TARRAVANE_SIZE(locals, regwen) + TARRAVANE_SIZE(locals, en) +
+                 TARRAVANE_SIZE(locals, class_of) + TARRAVANE_SIZE(locals, cause));
+TARRAVANE_ASSERT(sizeof(struct tarravane_interrupts) == TARRAVANE_SIZE(interrupts, state) +
+                 TARRAVANE_SIZE(interrupts, enable));
+TARRAVANE_ASSERT(sizeof(struct tarravane_class_stages) == TARRAVANE_SIZE(class_stages, lengths) +
+                 TARRAVANE_SIZE(class_stages, timeout) + TARRAVANE_SIZE(class_stages, ctrl) +
+                 TARRAVANE_SIZE(class_stages, thresh));
+TARRAVANE_ASSERT(sizeof(struct tarravane_alert_stages) == TARRAVANE_SIZE(alert_stages, en) +
+                 TARRAVANE_SIZE(alert_stages, class_of));
+TARRAVANE_ASSERT(sizeof(struct tarravane_local_stages) == TARRAVANE_SIZE(local_stages, en) +
+                 TARRAVANE_SIZE(local_stages, class_of));
+TARRAVANE_ASSERT(sizeof(struct tarravane_stages) == TARRAVANE_SIZE(stages, classes) + TARRAVANE_SIZE(stages, alerts) +
+                 TARRAVANE_SIZE(stages, locals));
+TARRAVANE_ASSERT(sizeof(struct tarravane_handler) == TARRAVANE_SIZE(handler, n) + TARRAVANE_SIZE(handler, links) +
+                 TARRAVANE_SIZE(handler, classes) + TARRAVANE_SIZE(handler, alerts) + TARRAVANE_SIZE(handler, locals) +
+                 TARRAVANE_SIZE(handler, interrupts) + TARRAVANE_SIZE(handler, stages));
+TARRAVANE_ASSERT(sizeof(struct tarravane_wires) == TARRAVANE_SIZE(wires, pos) + TARRAVANE_SIZE(wires, neg));
+TARRAVANE_ASSERT(sizeof(struct tarravane_sample) == TARRAVANE_SIZE(sample, alerts));
+TARRAVANE_ASSERT(sizeof(struct tarravane_output) == TARRAVANE_SIZE(output, interrupts) + TARRAVANE_SIZE(output, lines));
+TARRAVANE_ASSERT(sizeof(struct tarravane_made) == TARRAVANE_SIZE(made, handler) + TARRAVANE_SIZE(made, answer));
+TARRAVANE_ASSERT(sizeof(struct tarravane_answered) == TARRAVANE_SIZE(answered, handler) + TARRAVANE_SIZE(answered, answer) +
+                 TARRAVANE_SIZE(answered, output) + TARRAVANE_SIZE(answered, spare));
+TARRAVANE_ASSERT(sizeof(struct tarravane_batched) == TARRAVANE_SIZE(batched, handler) + TARRAVANE_SIZE(batched, answer));
+TARRAVANE_ASSERT(sizeof(struct tarravane_installed) == TARRAVANE_SIZE(installed, handler) +
+                 TARRAVANE_SIZE(installed, answer) + TARRAVANE_SIZE(installed, register_number) +
+                 TARRAVANE_SIZE(installed, spare));
 
 #ifdef __cplusplus
 }

@@ -1,7 +1,8 @@
 # What the commands run: the proved program, the proved library, and the tools that ask it. Each is built on first use and
 # where a source is newer; what stands is run as it is, without rt or cargo, and nothing is written then.
 program=$here/target/bin/replay
-library=$here/target/staticlib/libboundary.a
+archive=$here/target/staticlib/libboundary.a
+library=$here/target/staticlib/libtarravane.a
 cli=$here/target/cargo/release/tarravane-cli
 harness=$here/target/cargo/release/harness
 
@@ -19,7 +20,7 @@ rust_stands() {
 }
 
 program_stands() { stands "$program" "$here/crates" "$here/crates.txt"; }
-library_stands() { stands "$library" "$here/crates" "$here/crates.txt"; }
+library_stands() { stands "$archive" "$here/crates" "$here/crates.txt" && stands "$library" "$archive" "$here/include" "$here/launcher/library"; }
 tool_stands() { rust_stands "$cli" "$here/tools/tarravane" "$here/launcher/help"; }
 harness_stands() { rust_stands "$harness" "$here/tools/harness" "$here/reference"; }
 
@@ -32,6 +33,7 @@ need() {
       rt) from='the Rattle kit' ;;
       cc) from='Debian package gcc' ;;
       flock) from='Debian package util-linux' ;;
+      objcopy) from='Debian package binutils' ;;
       *) from="Debian package $tool" ;;
     esac
     case $missing in *"$tool ("*) ;; *) missing="$missing${missing:+, }$tool ($from)" ;; esac
@@ -47,6 +49,7 @@ find_stale() {
     stale="$stale $part" parts=$((parts + 1))
     case $part in
       tool | harness) needed="$needed cargo cc" written="$written cargo" ;;
+      library) needed="$needed rt objcopy" written="$written log rlib stamp obj bin staticlib" ;;
       *) needed="$needed rt" written="$written log rlib stamp obj bin staticlib" ;;
     esac
   done
@@ -89,8 +92,11 @@ build_program() {
   finished program "$program"
 }
 
+# Proved in any case, so that no part of an archive is taken: where nothing has changed, the kit says so at once.
 build_library() {
   prove staticlib boundary "the library"
+  finished library "$archive"
+  "$here/launcher/library" </dev/null || fail "the library was not built"
   finished library "$library"
 }
 

@@ -6,7 +6,7 @@ static void stops(handler h, int l, int e, int refusal) {
     handler wanted = booted(h, l, e);
     struct tarravane_installed given = tarravane_install(h, (uint8_t)l);
     CHECK(given.answer == -refusal);
-    CHECK(given.register_number == boot_entry(l, e).number);
+    CHECK(given.register_number == boot_entry(l, e).number && !tarravane_all_installed(&given));
     CHECK(same(&given.handler, &wanted));
 }
 
@@ -74,12 +74,35 @@ static void before_it_begins(int l) {
             if (damaged) h.locals.cause[6] = 2;
             struct tarravane_installed given = tarravane_install(h, (uint8_t)l);
             CHECK(given.answer == (damaged ? -TARRAVANE_BAD_STATE : -TARRAVANE_FEW_ALERTS));
-            CHECK(given.register_number == 0 && same(&given.handler, &h));
+            CHECK(given.register_number == 0 && same(&given.handler, &h) && !tarravane_all_installed(&given));
         }
     handler h = new_handler(TARRAVANE_ALERTS);
     h.n = TARRAVANE_ALERTS + 1;
     struct tarravane_installed given = tarravane_install(h, (uint8_t)l);
     CHECK(given.answer == -TARRAVANE_BAD_STATE && given.register_number == 0 && same(&given.handler, &h));
+}
+
+/* A boot whose answer alone is 0 is not whole, nor is one whose register alone is. */
+static void by_both(void) {
+    struct tarravane_installed given = tarravane_install(new_handler(TARRAVANE_ALERTS_BOOT), TARRAVANE_LIFECYCLE_DEV);
+    CHECK(tarravane_all_installed(&given));
+    given.register_number = TARRAVANE_ALERT_EN(6);
+    CHECK(!tarravane_all_installed(&given));
+    given.register_number = 0;
+    given.answer = 1;
+    CHECK(!tarravane_all_installed(&given));
+}
+
+/* The stop by a stage that differs raises local alert 5, where that is enabled, and so starts its class. */
+static void starts_a_class(int l) {
+    handler h = new_handler(TARRAVANE_ALERTS);
+    CHECK(configure(&h, TARRAVANE_CLASS_CTRL(1), 0x393D) == 0);
+    CHECK(configure(&h, TARRAVANE_LOC_ALERT_CLASS(5), 1) == 0);
+    CHECK(configure(&h, TARRAVANE_LOC_ALERT_EN(5), 1) == 0);
+    CHECK(write_of(&h, TARRAVANE_ALERT_CLASS(0), boot_entry(l, 0).value ^ 1) == 0);
+    struct tarravane_installed given = tarravane_install(h, (uint8_t)l);
+    CHECK(given.answer == -TARRAVANE_DIFFERS && given.register_number == TARRAVANE_ALERT_CLASS(0));
+    CHECK(given.handler.locals.cause[5] == 1 && given.handler.classes[1].state == TARRAVANE_PHASE(0));
 }
 
 /* The theft: an earlier caller left EN and a threshold of 65535. It is written over and read back, so the lock is taken. */
@@ -94,11 +117,13 @@ static void theft(int l) {
 }
 
 void test_boot_stops(void) {
+    by_both();
     for (int l = 0; l < LIFECYCLES; l++) {
         at_locks(l);
         at_stages(l);
         before_it_begins(l);
         theft(l);
+        starts_a_class(l);
         for (int second = 0; second < LIFECYCLES; second++) second_boots(l, second);
     }
 }

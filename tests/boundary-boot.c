@@ -83,7 +83,7 @@ static void installs(int number, size_t n) {
     int l = number < LIFECYCLES ? number : TARRAVANE_LIFECYCLE_PROD_END;
     handler fresh = new_handler(n), wanted = booted(fresh, l, boot_entries(l));
     struct tarravane_installed given = tarravane_install(fresh, (uint8_t)number);
-    CHECK(given.answer == 0 && given.register_number == 0);
+    CHECK(given.answer == 0 && given.register_number == 0 && tarravane_all_installed(&given));
     CHECK(same(&given.handler, &wanted));
     for (int e = 0; e < boot_entries(l); e++) {
         struct boot_entry entry = boot_entry(l, e);

@@ -18,8 +18,8 @@ static void add_sources(void) {
         add(TARRAVANE_ALERT_CLASS(i), TARRAVANE_ALERT_REGWEN(i), 2, STAGE(alerts.class_of) + (size_t)i, 1);
     }
     for (int j = 0; j < TARRAVANE_LOCALS; j++) {
-        add(TARRAVANE_LOC_ALERT_EN(j), TARRAVANE_LOC_ALERT_REGWEN(j), 1, STAGE(locals.en) + (size_t)j, 1);
-        add(TARRAVANE_LOC_ALERT_CLASS(j), TARRAVANE_LOC_ALERT_REGWEN(j), 2, STAGE(locals.class_of) + (size_t)j, 1);
+        add(TARRAVANE_LOC_ALERT_EN(j), TARRAVANE_LOC_ALERT_REGWEN(j), 1, STAGE(locals.en) + 4 * (size_t)j, 4);
+        add(TARRAVANE_LOC_ALERT_CLASS(j), TARRAVANE_LOC_ALERT_REGWEN(j), 2, STAGE(locals.class_of) + 4 * (size_t)j, 4);
     }
 }
 

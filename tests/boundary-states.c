@@ -22,6 +22,17 @@ static void accepted(const handler *h) {
     CHECK(tarravane_tick(*h, TARRAVANE_NONE, 0, 0, at_rest).answer == 0);
 }
 
+/* An interrupt register of 4 bits in 16: each bit above them is refused, what fits is not. */
+static void narrow_interrupts(handler *h, uint16_t *field) {
+    uint16_t old = *field;
+    for (int b = 0; b < 16; b++) {
+        *field = (uint16_t)(old | 1u << b);
+        if (b < 4) accepted(h);
+        else refused(h);
+    }
+    *field = old;
+}
+
 /* A register of 8 bits that fits its first `bits`: each bit above them is refused, what fits is not. */
 static void narrow(handler *h, uint8_t *field, int bits) {
     uint8_t old = *field;
@@ -48,7 +59,7 @@ static void damage_place(handler *h, struct tarravane_class *c) {
     for (unsigned state = 0; state < 256; state++) {
         bool still = state == TARRAVANE_IDLE || state == TARRAVANE_TERMINAL;
         bool known = state < 8 && state != 2;
-        c->state = (uint8_t)state;
+        c->state = state;
         c->count = 0;
         if (known && still) accepted(h);
         else refused(h);
@@ -57,6 +68,15 @@ static void damage_place(handler *h, struct tarravane_class *c) {
             if (known && !still) accepted(h);
             else refused(h);
         }
+    }
+    /* Bits above the 3 of STATE, over a state that its count suits. */
+    for (int b = 3; b < 32; b++) {
+        c->count = 0;
+        c->state = TARRAVANE_IDLE | UINT32_C(1) << b;
+        refused(h);
+        c->count = 1;
+        c->state = TARRAVANE_PHASE(0) | UINT32_C(1) << b;
+        refused(h);
     }
     *c = old;
 }
@@ -105,8 +125,8 @@ static void damages(void) {
     damage_columns(&h, l->regwen, l->en, l->class_of, l->cause, TARRAVANE_LOCALS);
     for (int k = 0; k < TARRAVANE_CLASSES; k++) damage_class(&h, &h.classes[k]);
     for (int i = 0; i < SHADOWED; i++) damage_stage(&h, &all_shadowed()[i]);
-    narrow(&h, &h.interrupts.state, 4);
-    narrow(&h, &h.interrupts.enable, 4);
+    narrow_interrupts(&h, &h.interrupts.state);
+    narrow_interrupts(&h, &h.interrupts.enable);
     for (size_t i = 0; i < sizeof over / sizeof *over; i++) {
         h.n = over[i];
         refused(&h);
@@ -140,8 +160,10 @@ static void patterns(void) {
         h.n = TARRAVANE_ALERTS;
         if (byte == 0) accepted(&h);
         else refused(&h);
-        /* Bytes of 1 are in every field but the wide ones of the stages. */
+        /* Without stages, and with the byte alone where a field is wider than its register: a 1 fits everywhere. */
         memset(&h.stages, 0, sizeof h.stages);
+        h.interrupts.state = h.interrupts.enable = (uint16_t)byte;
+        for (int k = 0; k < TARRAVANE_CLASSES; k++) h.classes[k].state = (uint32_t)byte;
         if (byte <= 1) accepted(&h);
         else refused(&h);
     }

@@ -1,5 +1,5 @@
-/* The boundary from C's side: every field crosses to its register and back, a damaged field gets refusal 7, shadowed registers
- * take two equal writes, a class that waits for 65,536 events is not locked, a boot installs each lifecycle's policy or stops
+/* The boundary from C's side: every field crosses to its register and back, equal states are equal bytes, a damaged field gets
+ * refusal 7, shadowed registers take two equal writes, a class that waits for 65,536 events is not locked, a boot installs each lifecycle's policy or stops
  * where it must, a batch and the writer stay in their buffers, example traces give the same words by batch, by single ticks
  * and by the replay program, and the writer gives their bytes again.
  * usage: boundary [TRACE WORDS]...   WORDS: what the replay program printed of TRACE, or - for none */
@@ -48,24 +48,8 @@ struct tarravane_sample raised(int i) {
     return s;
 }
 
-static bool same_class(const struct tarravane_class *a, const struct tarravane_class *b) {
-    return memcmp(a->lengths, b->lengths, sizeof a->lengths) == 0 && a->timeout == b->timeout && a->count == b->count &&
-           a->ctrl == b->ctrl && a->accum == b->accum && a->thresh == b->thresh && a->regwen == b->regwen &&
-           a->clrwen == b->clrwen && a->state == b->state;
-}
-
-static bool same_stages(const struct tarravane_stages *a, const struct tarravane_stages *b) {
-    return memcmp(a->classes, b->classes, sizeof a->classes) == 0 && memcmp(&a->alerts, &b->alerts, sizeof a->alerts) == 0 &&
-           memcmp(&a->locals, &b->locals, sizeof a->locals) == 0;
-}
-
 bool same(const handler *a, const handler *b) {
-    for (int k = 0; k < TARRAVANE_CLASSES; k++)
-        if (!same_class(&a->classes[k], &b->classes[k])) return false;
-    return a->n == b->n && memcmp(&a->links, &b->links, sizeof a->links) == 0 &&
-           memcmp(&a->alerts, &b->alerts, sizeof a->alerts) == 0 && memcmp(&a->locals, &b->locals, sizeof a->locals) == 0 &&
-           a->interrupts.state == b->interrupts.state && a->interrupts.enable == b->interrupts.enable &&
-           same_stages(&a->stages, &b->stages);
+    return memcmp(a, b, sizeof *a) == 0;
 }
 
 handler new_handler(size_t n) {
@@ -93,6 +77,7 @@ int64_t configure(handler *h, int number, uint32_t value) {
 
 int main(int argc, char **argv) {
     test_accesses();
+    test_bytes();
     test_states();
     test_stages();
     test_threshold();

@@ -34,7 +34,7 @@ struct tarravane_sample raised(int i);
 
 /* ---- States and ticks ---- */
 
-/* Field by field: padding is no field. */
+/* Byte by byte: there is no padding. */
 bool same(const handler *a, const handler *b);
 
 handler new_handler(size_t n);
@@ -99,6 +99,7 @@ int64_t written(const struct access *a, uint8_t record[TARRAVANE_RECORD_70]);
 /* ---- The parts ---- */
 
 void test_accesses(void);
+void test_bytes(void);
 void test_states(void);
 void test_stages(void);
 void test_threshold(void);

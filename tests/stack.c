@@ -24,8 +24,9 @@ static uint32_t values[RECORDS];
 static uint64_t positive[RECORDS * TARRAVANE_WORDS], negative[RECORDS * TARRAVANE_WORDS];
 static struct tarravane_sample sample = TARRAVANE_SAMPLE_AT_REST;
 static size_t entries;
+static int64_t recorded; /* what the writer answered */
 
-/* A call takes its argument of 1912 bytes and its result from the caller's frame: both are counted. */
+/* A call takes its argument of 1952 bytes and its result from the caller's frame: both are counted. */
 #define NOTE_FRAME() frame = __builtin_frame_address(0)
 
 static void call_new(void)
@@ -56,8 +57,8 @@ static void call_record(void)
 {
     NOTE_FRAME();
     size_t wire_words = entries * TARRAVANE_WORDS;
-    tarravane_record(kinds, entries, registers, entries, values, entries, positive, wire_words, negative, wire_words, bytes,
-                     sizeof bytes);
+    recorded = tarravane_record(kinds, entries, registers, entries, values, entries, positive, wire_words, negative,
+                                wire_words, bytes, sizeof bytes);
 }
 
 static void call_install(void)

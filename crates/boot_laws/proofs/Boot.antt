@@ -10,7 +10,7 @@ use native.Mathlib.Nat.{le-of-suc-le-suc, not-suc-le-zero}
 use borrow.Author.Tests.{le-ltb, ltb-false}
 use lib.Dec.{eqb, ltb}
 use lib.IntN.{ℤ, pos}
-use lib.ListN.{getD, length}
+use lib.ListN.{getD, length, replicate}
 use Rattle.bits.proofs.IndexLaws.{and-true, true-and}
 use Rattle.laws.proofs.Valid.KeepsValid.{new-stage}
 use Rattle.laws.proofs.Map.MapLaws.{number-eq}

@@ -6,6 +6,7 @@ use mathlib.Core.Bool.{true, false}
 use native.Mathlib.Omega.{arith}
 use borrow.Author.Tests.{lt-ltb}
 use lib.IntN.{negsuc}
+use lib.ListN.{replicate}
 use Rattle.rules.specs.Valid.{valid}
 use Rattle.rules.specs.declared.Handler.{Handler}
 use Rattle.policy.specs.Plan.{boot}
@@ -19,11 +20,11 @@ use Rattle.boot_laws.proofs.Ready.{boot-arms}
 use Rattle.boot_laws.proofs.Unlocked.{boot-unlocked}
 
 -- one that does not begin
-bad-state : (l : Lifecycle) (h : Handler) → valid h ≡ false → boot l h ≡ record { handler = h; answer = negsuc 6; register = 0 }
+bad-state : (l : Lifecycle) (h : Handler) → valid h ≡ false → boot l h ≡ record { handler = h; answer = negsuc 6; register = 0; spare = replicate 6 0 }
 unfolding boot
 bad-state l h e = rw e
 
-few-alerts : (l : Lifecycle) (h : Handler) → valid h ≡ true → h .n < alertCount → boot l h ≡ record { handler = h; answer = negsuc 12; register = 0 }
+few-alerts : (l : Lifecycle) (h : Handler) → valid h ≡ true → h .n < alertCount → boot l h ≡ record { handler = h; answer = negsuc 12; register = 0; spare = replicate 6 0 }
 unfolding boot
 few-alerts l h e m = rw (e, lt-ltb (h .n) alertCount m)
 

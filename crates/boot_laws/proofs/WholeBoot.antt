@@ -8,7 +8,7 @@ use mathlib.Core.Bool.{Bool, true, false, _&&_}
 use mathlib.Core.List.{List, map}
 use lib.Dec.{eqb}
 use lib.IntN.{pos, negsuc}
-use lib.ListN.{getD, length, take}
+use lib.ListN.{getD, length, take, replicate}
 use Rattle.bits.specs.Bits.{bit}
 use Rattle.class_rules.specs.Class.{stateOf}
 use Rattle.class_rules.specs.Step.{starts}
@@ -58,8 +58,8 @@ module _ (l : Lifecycle) (h : Handler) where
   abbrev end : Handler
   end = boot l h .handler
 
-  not-begun : (valid h ≡ false → boot l h ≡ record { handler = h; answer = negsuc 6; register = 0 })
-      × (valid h ≡ true → h .n < 58 → boot l h ≡ record { handler = h; answer = negsuc 12; register = 0 })
+  not-begun : (valid h ≡ false → boot l h ≡ record { handler = h; answer = negsuc 6; register = 0; spare = replicate 6 0 })
+      × (valid h ≡ true → h .n < 58 → boot l h ≡ record { handler = h; answer = negsuc 12; register = 0; spare = replicate 6 0 })
   not-begun = let b = boots l h in (b .bad-state, b .few-alerts)
 
   left-alone : (end .n ≡ h .n)
@@ -105,7 +105,7 @@ module _ (l : Lifecycle) (h : Handler) (r : boot l h .register ≡ 0) (a : boot 
   -- the state was accepted and so large, and all ticks of the plan ran
   ran : (valid h ≡ true)
       × (58 ≤ h .n)
-      × (boot l h ≡ record { handler = run h (map (λ (x : Ask). rest (x .access)) (asks (planOf l))); answer = pos 0; register = 0 })
+      × (boot l h ≡ record { handler = run h (map (λ (x : Ask). rest (x .access)) (asks (planOf l))); answer = pos 0; register = 0; spare = replicate 6 0 })
   ran = boots l h .success success
 
   each-alert : (i : ℕ) → i < 58 → (value g (Alert Field.Class i) ≡ classOf (markAt l i)) × (value g (Alert Field.En i) ≡ enOf (markAt l i))
@@ -173,10 +173,10 @@ module _ (l : Lifecycle) (h : Handler) (t : valid h ≡ true) (n : 58 ≤ h .n) 
     inside : i < length (asks (planOf l))
     earlier : (j : ℕ) → j < i → wanted j ≡ true
     here : wanted i ≡ false
-    result : boot l h ≡ record { handler = gives i .handler; answer = number (gives i .answer); register = at i .register }
+    result : boot l h ≡ record { handler = gives i .handler; answer = number (gives i .answer); register = at i .register; spare = replicate 6 0 }
 
   abbrev Went : Type 0
-  Went = boot l h ≡ record { handler = run h (map (λ (x : Ask). rest (x .access)) (asks (planOf l))); answer = pos 0; register = 0 }
+  Went = boot l h ≡ record { handler = run h (map (λ (x : Ask). rest (x .access)) (asks (planOf l))); answer = pos 0; register = 0; spare = replicate 6 0 }
 
   either : Went ⊎ ((i : ℕ) × Stop i)
   either = go (boots l h .either t n)
@@ -193,7 +193,7 @@ module _ (l : Lifecycle) (h : Handler) (t : valid h ≡ true) (n : 58 ≤ h .n) 
 -- ── a new handler ──
 
 new-goes : (l : Lifecycle) (n : ℕ) → 58 ≤ n → n ≤ 248
-    → boot l (newHandler n) ≡ record { handler = run (newHandler n) (map (λ (x : Ask). rest (x .access)) (asks (planOf l))); answer = pos 0; register = 0 }
+    → boot l (newHandler n) ≡ record { handler = run (newHandler n) (map (λ (x : Ask). rest (x .access)) (asks (planOf l))); answer = pos 0; register = 0; spare = replicate 6 0 }
 new-goes l n = new-boots l n .new-succeeds
 
 new-armed : (l : Lifecycle) (n i : ℕ) → i < n → n ≤ 248 → armed (boot l (newHandler n) .handler) i ≡ true

@@ -6,6 +6,7 @@ use mathlib.Core.Path.{_≡_}
 use mathlib.Core.Logic.{_⊎_}
 use mathlib.Core.Bool.{true, false}
 use lib.IntN.{pos, negsuc}
+use lib.ListN.{replicate}
 use Rattle.laws.specs.Above.{SameAbove}
 use Rattle.rules.specs.Run.{run}
 use Rattle.rules.specs.State.{most, armed, newHandler}
@@ -23,7 +24,7 @@ use Rattle.boot_laws.specs.Stands.{Success, Stands, Untouched, Unlocked,
 
 -- what a success gives: register 0, answer 0 and the state after all ticks of the plan
 abbrev pub booted : Lifecycle → Handler → Installed
-booted l h = record { handler = run h (inputs (asks (planOf l))); answer = pos 0; register = 0 }
+booted l h = record { handler = run h (inputs (asks (planOf l))); answer = pos 0; register = 0; spare = replicate 6 0 }
 
 -- "It stops at the first refusal or difference and returns that register number, the answer and the state reached": a boot that begins comes to
 -- its end, or stopped at the first answer that is not wanted, with what that tick gave
@@ -32,8 +33,8 @@ Either l h = (boot l h ≡ booted l h) ⊎ ((s : Progress) × StoppedAt h (asks 
 
 pub record Boots (l : Lifecycle) (h : Handler) : Type 0 where
   -- "It needs N of at least 58, else 13 and an unchanged state; 7 comes before", each with register 0
-  pub bad-state : valid h ≡ false → boot l h ≡ record { handler = h; answer = negsuc 6; register = 0 }
-  pub few-alerts : valid h ≡ true → h .n < alertCount → boot l h ≡ record { handler = h; answer = negsuc 12; register = 0 }
+  pub bad-state : valid h ≡ false → boot l h ≡ record { handler = h; answer = negsuc 6; register = 0; spare = replicate 6 0 }
+  pub few-alerts : valid h ≡ true → h .n < alertCount → boot l h ≡ record { handler = h; answer = negsuc 12; register = 0; spare = replicate 6 0 }
   pub either : valid h ≡ true → alertCount ≤ h .n → Either l h
   -- it comes to its end where no register of the plan is locked or has another stage open, whatever the thresholds
   pub succeeds : valid h ≡ true → alertCount ≤ h .n → free h (planOf l) ≡ true → boot l h ≡ booted l h

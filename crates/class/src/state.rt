@@ -4,7 +4,7 @@ ghost use mathlib.Core.Path.{_≡_};
 ghost use Rattle.class_rules.specs.Class.{stateOf, stateNumber};
 
 // The state of a number; 2 and numbers over 7 are no state's and give Idle.
-pub fn state_of(s: u8) -> ClassState
+pub fn state_of(s: u32) -> ClassState
     ensures { λ r. ⌜ r ≡ stateOf s ⌝ }
 {
     match s {
@@ -19,7 +19,7 @@ pub fn state_of(s: u8) -> ClassState
 }
 
 // The number that STATE reads.
-pub fn number(m: ClassState) -> u8
+pub fn number(m: ClassState) -> u32
     ensures { λ r. ⌜ r ≡ stateNumber m ⌝ }
 {
     match m {

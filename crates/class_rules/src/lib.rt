@@ -11,7 +11,8 @@ pub enum ClassState {
     Terminal,
 }
 
-// The registers of a class's block. STATE is held as its number, since any number may come in.
+// The registers of a class's block. STATE is held as its number, since any number may come in, and in 32 bits, so that a class has no
+// padding; refusal 7 judges it by its 3 bits.
 #[repr(C)]
 pub struct Class {
     // PHASE0_CYC to PHASE3_CYC
@@ -31,7 +32,7 @@ pub struct Class {
     // CLR_REGWEN
     pub clrwen: u8,
     // STATE
-    pub state: u8,
+    pub state: u32,
 }
 
 // What a class meets in a tick.

@@ -4,6 +4,7 @@ use mathlib.Core.Path.{_≡_, sym, ap, _∙_}
 use mathlib.Core.Bool.{true, false}
 use native.Mathlib.Omega.{arith}
 use lib.IntN.{ℤ, pos, negsuc}
+use lib.ListN.{replicate}
 use mir.Facts.{toZ-ofZ}
 use mir.Syntax.{w64}
 use mir.Val.{SFits, toZ, ofZ}
@@ -32,16 +33,16 @@ read-back a z p = toZ-ofZ (number-fits a z (p .0) (p .1)) ∙ p .0
 
 -- a valid state
 pub answered-good : (h : Handler) (x : Input) (t : Ticked) (z : ℤ) → valid h ≡ true → t ≡ tick h x → (z ≡ number (t .answer)) × Meaning (t .answer)
-    → _≡_ {A = Answered} (record { handler = t .handler; answer = toZ w64 (ofZ w64 z); output = t .output }) (answered (ticked h x))
+    → _≡_ {A = Answered} (record { handler = t .handler; answer = toZ w64 (ofZ w64 z); output = t .output; spare = replicate 6 0 }) (answered (ticked h x))
 unfolding answered
 answered-good h x t z v e p =
-    ap (λ (y : ℤ). record { handler = t .handler; answer = y; output = t .output }) (read-back (t .answer) z p)
+    ap (λ (y : ℤ). record { handler = t .handler; answer = y; output = t .output; spare = replicate 6 0 }) (read-back (t .answer) z p)
     ∙ ap answered (e ∙ sym (ticked-good h x v))
 
 -- any other
 pub answered-bad : (h : Handler) (x : Input) (z : ℤ) → valid h ≡ false → (z ≡ number (Answer.Refused BadState)) × Meaning (Answer.Refused BadState)
-    → _≡_ {A = Answered} (record { handler = h; answer = toZ w64 (ofZ w64 z); output = noOutput }) (answered (ticked h x))
+    → _≡_ {A = Answered} (record { handler = h; answer = toZ w64 (ofZ w64 z); output = noOutput; spare = replicate 6 0 }) (answered (ticked h x))
 unfolding answered
 answered-bad h x z v p =
-    ap (λ (y : ℤ). record { handler = h; answer = y; output = noOutput }) (read-back (Answer.Refused BadState) z p)
+    ap (λ (y : ℤ). record { handler = h; answer = y; output = noOutput; spare = replicate 6 0 }) (read-back (Answer.Refused BadState) z p)
     ∙ ap answered (sym (ticked-bad h x v))

@@ -1,8 +1,9 @@
 -- What a tick gives, its answer as one signed number.
 -- Assumes nothing.
+use lib.ListN.{replicate}
 use Rattle.rules.specs.Answer.{number}
 use Rattle.rules.specs.declared.Ticked.{Ticked}
 use Rattle.handler.specs.declared.tick.Answered.{Answered}
 
 unfoldable pub answered : Ticked → Answered
-answered t = record { handler = t .handler; answer = number (t .answer); output = t .output }
+answered t = record { handler = t .handler; answer = number (t .answer); output = t .output; spare = replicate 6 0 }

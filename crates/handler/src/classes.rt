@@ -12,15 +12,15 @@ ghost use Rattle.class_rules.specs.Step.{classStep};
 ghost use Rattle.handler.specs.Classes.{interruptBy, metBy, classesBy, interruptsBy};
 
 // The interrupt bit of class k now: an event sets it, after any clearing in step 1.
-fn interrupt(c: Class, k: u32, state: u8, assigned: u8) -> bool
+fn interrupt(c: Class, k: u32, state: u16, assigned: u8) -> bool
     requires { ⌜ k < 4 ⌝ }
     ensures { λ r. ⌜ r ≡ interruptBy c k state assigned ⌝ }
 {
-    is_set(state as u16, k) | event(is_set(assigned as u16, k), c)
+    is_set(state, k) | event(is_set(assigned as u16, k), c)
 }
 
 // What class k meets in this tick.
-fn meet(c: Class, k: u32, state: u8, assigned: u8, clears: u8) -> Signals
+fn meet(c: Class, k: u32, state: u16, assigned: u8, clears: u8) -> Signals
     requires { ⌜ k < 4 ⌝ }
     ensures { λ r. ⌜ r ≡ metBy c k state assigned clears ⌝ }
 {
@@ -32,7 +32,7 @@ fn meet(c: Class, k: u32, state: u8, assigned: u8, clears: u8) -> Signals
 }
 
 // Class k after steps 3 and 4.
-fn class_after(c: Class, k: u32, state: u8, assigned: u8, clears: u8) -> Class
+fn class_after(c: Class, k: u32, state: u16, assigned: u8, clears: u8) -> Class
     requires { ⌜ k < 4 ⌝ }
     ensures { λ r. ⌜ r ≡ classStep (metBy c k state assigned clears) c ⌝ }
 {
@@ -41,7 +41,7 @@ fn class_after(c: Class, k: u32, state: u8, assigned: u8, clears: u8) -> Class
 }
 
 // The four classes after steps 3 and 4.
-pub fn classes_after(classes: [Class; 4], state: u8, assigned: u8, clears: u8) -> [Class; 4]
+pub fn classes_after(classes: [Class; 4], state: u16, assigned: u8, clears: u8) -> [Class; 4]
     ensures { λ r. ⌜ r ≡ classesBy classes state assigned clears ⌝ }
 {
     let a = class_after(classes[0], 0, state, assigned, clears);
@@ -52,15 +52,15 @@ pub fn classes_after(classes: [Class; 4], state: u8, assigned: u8, clears: u8) -
 }
 
 // The interrupt bit of class k now, as a number.
-fn interrupt_bit(c: Class, k: u32, state: u8, assigned: u8) -> u8
+fn interrupt_bit(c: Class, k: u32, state: u16, assigned: u8) -> u16
     requires { ⌜ k < 4 ⌝ }
     ensures { λ r. ⌜ (r ≡ num (interruptBy c k state assigned)) × (r ≤ 1) ⌝ }
 {
-    num(interrupt(c, k, state, assigned))
+    num(interrupt(c, k, state, assigned)) as u16
 }
 
 // INTR_STATE after step 3.
-pub fn interrupts_after(classes: [Class; 4], state: u8, assigned: u8) -> u8
+pub fn interrupts_after(classes: [Class; 4], state: u16, assigned: u8) -> u16
     ensures { λ r. ⌜ r ≡ interruptsBy classes state assigned ⌝ }
 {
     let a = interrupt_bit(classes[0], 0, state, assigned);

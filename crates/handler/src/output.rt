@@ -6,10 +6,10 @@ ghost use mathlib.Core.Path.{_≡_};
 ghost use Rattle.handler.specs.OutputMasks.{interruptsOn, linesOn};
 
 // Interrupts are INTR_STATE and INTR_ENABLE, bit by bit.
-pub fn interrupts_on(state: u8, enable: u8) -> u8
+pub fn interrupts_on(state: u16, enable: u16) -> u8
     ensures { λ r. ⌜ r ≡ interruptsOn state enable ⌝ }
 {
-    (state & enable) % 16
+    ((state & enable) % 16) as u8
 }
 
 // A line is on if any class drives it.
@@ -24,7 +24,7 @@ pub fn lines_on(classes: [Class; 4]) -> u8
 }
 
 // The outputs of the classes, INTR_STATE and INTR_ENABLE.
-pub fn output(classes: [Class; 4], state: u8, enable: u8) -> Output
+pub fn output(classes: [Class; 4], state: u16, enable: u16) -> Output
     ensures { λ r. ⌜ r ≡ record { interrupts = interruptsOn state enable; lines = linesOn classes } ⌝ }
 {
     Output {

@@ -29,7 +29,7 @@ pub struct Quiet {
 // What it moves beside the links, the classes and INTR_STATE, and the interrupts and lines that it puts out.
 pub struct Moved {
     pub classes: [Class; 4],
-    pub state: u8,
+    pub state: u16,
     pub interrupts: u8,
     pub lines: u8,
 }

@@ -21,12 +21,13 @@ ghost use Rattle.rules.specs.State.{most};
 ghost use Rattle.rules.specs.Tick.{tick, ticked};
 ghost use Rattle.handler.specs.Answered.{answered};
 
-// What a tick gives: the state, the answer as one signed number, and the outputs.
+// What a tick gives: the state, the answer as one signed number, and the outputs. The spare bytes are 0: they are where padding would be.
 #[repr(C)]
 pub struct Answered {
     pub handler: Handler,
     pub answer: i64,
     pub output: Output,
+    pub spare: [u8; 6],
 }
 
 // Steps 1 to 5, of a state that was found valid.
@@ -78,6 +79,7 @@ pub fn tick(h: Handler, x: Input) -> Answered
             handler,
             answer: signed(answer),
             output: out,
+            spare: [0; 6],
         }
     } else {
         Answered {
@@ -87,6 +89,7 @@ pub fn tick(h: Handler, x: Input) -> Answered
                 interrupts: 0,
                 lines: 0,
             },
+            spare: [0; 6],
         }
     }
 }

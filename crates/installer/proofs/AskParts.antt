@@ -6,6 +6,7 @@ use mathlib.Core.Bool.{Bool, true, false, cond, _&&_}
 use mathlib.Core.List.{List, [], _∷_, _++_}
 use lib.Dec.{eqb, ltb}
 use lib.IntN.{ℤ, pos, negℤ}
+use lib.ListN.{replicate}
 use mir.Syntax.{w64}
 use mir.Val.{toZ, ofZ}
 use Rattle.policy.proofs.Asks.{install-append, asks-append}
@@ -104,9 +105,9 @@ bar-word BadState = refl
 bar-word FewAlerts = refl
 
 pub bar-is : (h : Handler) (b : Bar) (z : ℤ) → z ≡ negℤ (pos (barNumber b))
-    → _≡_ {A = Installed} (record { handler = h; answer = toZ w64 (ofZ w64 z); register = 0 }) (barred h b)
+    → _≡_ {A = Installed} (record { handler = h; answer = toZ w64 (ofZ w64 z); register = 0; spare = replicate 6 0 }) (barred h b)
 bar-is h b z e =
-    ap (λ (y : ℤ). record { handler = h; answer = y; register = 0 }) (ap (λ (y : ℤ). toZ w64 (ofZ w64 y)) e ∙ bar-word b)
+    ap (λ (y : ℤ). record { handler = h; answer = y; register = 0; spare = replicate 6 0 }) (ap (λ (y : ℤ). toZ w64 (ofZ w64 y)) e ∙ bar-word b)
 
 module _ (l : Lifecycle) (h : Handler) where
   pub boot-is : (a b : Bool) → valid h ≡ a → ltb (h .n) 58 ≡ b

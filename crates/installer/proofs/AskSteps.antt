@@ -4,6 +4,7 @@ use Prim.Native.Nat.{ℕ}
 use mathlib.Core.Path.{_≡_, sym, ap, _∙_}
 use mathlib.Core.Bool.{Bool, true, false, cond}
 use lib.IntN.{ℤ}
+use lib.ListN.{replicate}
 use mir.Facts.{toZ-ofZ}
 use mir.Syntax.{w64}
 use mir.Val.{SFits, toZ, ofZ}
@@ -20,7 +21,7 @@ abbrev word : ℤ → ℤ
 word z = toZ w64 (ofZ w64 z)
 
 abbrev pub halt : Handler → ℕ → ℤ → Progress
-halt h r z = record { reached = record { handler = h; answer = z; register = r }; going = false }
+halt h r z = record { reached = record { handler = h; answer = z; register = r; spare = replicate 6 0 }; going = false }
 
 module _ (h : Handler) (a : Ask) (x : Input) (t : Answered) (f : SFits w64 (t .answer)) (ex : x ≡ rest (a .access)) (et : t ≡ answered (ticked h x)) where
   -- what was given, in the words of the definition

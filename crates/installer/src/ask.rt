@@ -9,6 +9,7 @@ use rules::Sample;
 use rules::Wires;
 ghost use mathlib.Core.Path.{_≡_};
 ghost use mathlib.Core.Bool.{false};
+ghost use lib.ListN.{replicate};
 ghost use Rattle.policy.specs.Install.{rest, is, under, asked, ask, once, twice, install};
 
 fn rest(x: Access) -> Input
@@ -45,19 +46,21 @@ pub fn go_on(h: Handler) -> Progress
             handler: h,
             answer: 0,
             register: 0,
+            spare: [0; 6],
         },
         going: true,
     }
 }
 
 fn stop(h: Handler, r: u16, a: i64) -> Progress
-    ensures { λ s. ⌜ s ≡ record { reached = record { handler = h; answer = a; register = r }; going = false } ⌝ }
+    ensures { λ s. ⌜ s ≡ record { reached = record { handler = h; answer = a; register = r; spare = replicate 6 0 }; going = false } ⌝ }
 {
     Progress {
         reached: Installed {
             handler: h,
             answer: a,
             register: r,
+            spare: [0; 6],
         },
         going: false,
     }

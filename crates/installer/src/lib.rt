@@ -50,6 +50,7 @@ fn bar(h: Handler, b: Bar) -> Installed
         handler: h,
         answer: bar_answer(b),
         register: 0,
+        spare: [0; 6],
     }
 }
 

@@ -117,7 +117,7 @@ atOnce = (refl, refl)
 -- ── it does not begin ──
 
 abbrev barred : Handler → ℤ → Installed
-barred h a = record { handler = h; answer = a; register = 0 }
+barred h a = record { handler = h; answer = a; register = 0; spare = replicate 6 0 }
 
 -- a state that breaks the rule
 abbrev damaged : ℕ → Handler

@@ -29,7 +29,7 @@ Stops l h r z = (boot l h .register ≡ r) × (boot l h .answer ≡ z)
 -- ── it does not begin ──
 
 -- N = 57: 13, and the state unchanged
-few-alerts : boot Prod (newHandler 57) ≡ record { handler = newHandler 57; answer = negsuc 12; register = 0 }
+few-alerts : boot Prod (newHandler 57) ≡ record { handler = newHandler 57; answer = negsuc 12; register = 0; spare = replicate 6 0 }
 unfolding policy
 few-alerts = refl
 
@@ -39,8 +39,8 @@ damaged n =
     withClasses (set (replicate 4 resetClass) 3
     (record { lengths = replicate 4 0; timeout = 0; count = 0; ctrl = 0x393C; accum = 0; thresh = 0; regwen = 1; clrwen = 1; state = 2 })) (newHandler n)
 
-bad-state : (boot Prod (damaged 58) ≡ record { handler = damaged 58; answer = negsuc 6; register = 0 })
-    × (boot Prod (damaged 57) ≡ record { handler = damaged 57; answer = negsuc 6; register = 0 })
+bad-state : (boot Prod (damaged 58) ≡ record { handler = damaged 58; answer = negsuc 6; register = 0; spare = replicate 6 0 })
+    × (boot Prod (damaged 57) ≡ record { handler = damaged 57; answer = negsuc 6; register = 0; spare = replicate 6 0 })
 unfolding policy
 bad-state = (refl, refl)
 

@@ -5,6 +5,7 @@ use mathlib.Core.Bool.{Bool, true, false, cond}
 use mathlib.Core.List.{List, [], _∷_, _++_}
 use lib.Dec.{eqb}
 use lib.IntN.{ℤ, pos, negsuc}
+use lib.ListN.{replicate}
 use Rattle.rules.specs.Answer.{number}
 use Rattle.rules.specs.Map.{numberOf, isShadowed}
 use Rattle.rules.specs.Samples.{atRest}
@@ -36,10 +37,10 @@ is (negsuc m) v = false
 
 -- under way, and stopped at register r by what a tick gave: its answer, and the state that it reached
 abbrev pub under : Handler → Progress
-under h = record { reached = record { handler = h; answer = pos 0; register = 0 }; going = true }
+under h = record { reached = record { handler = h; answer = pos 0; register = 0; spare = replicate 6 0 }; going = true }
 
 abbrev pub stopped : ℕ → Ticked → Progress
-stopped r t = record { reached = record { handler = t .handler; answer = number (t .answer); register = r }; going = false }
+stopped r t = record { reached = record { handler = t .handler; answer = number (t .answer); register = r; spare = replicate 6 0 }; going = false }
 
 -- one tick: it goes on with the answer that is wanted, and stops at any other
 unfoldable pub asked : Handler → Ask → Progress

@@ -5,6 +5,7 @@ use mathlib.Core.Bool.{Bool, true, false, cond, _&&_}
 use mathlib.Core.List.{List, [], _∷_, _++_}
 use lib.Dec.{eqb, ltb}
 use lib.IntN.{pos, negℤ}
+use lib.ListN.{replicate}
 use Rattle.rules.specs.State.{classCount}
 use Rattle.rules.specs.Valid.{valid}
 use Rattle.rules.specs.declared.Field.{Field}
@@ -128,7 +129,7 @@ barNumber FewAlerts = 13
 
 -- it gives register 0 and an unchanged state
 abbrev pub barred : Handler → Bar → Installed
-barred h b = record { handler = h; answer = negℤ (pos (barNumber b)); register = 0 }
+barred h b = record { handler = h; answer = negℤ (pos (barNumber b)); register = 0; spare = replicate 6 0 }
 
 -- 7 comes before 13
 unfoldable pub boot : Lifecycle → Handler → Installed

@@ -26,11 +26,13 @@ pub enum Bar {
 }
 
 // What a boot gives: the state reached, the answer as one signed number, and the register at which it stopped, 0 where at none.
+// The spare bytes are 0: they are where padding would be.
 #[repr(C)]
 pub struct Installed {
     pub handler: Handler,
     pub answer: i64,
     pub register: u16,
+    pub spare: [u8; 6],
 }
 
 // How far a boot came, and whether it goes on.

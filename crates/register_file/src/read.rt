@@ -93,7 +93,7 @@ fn setting_value(s: Setting, c: Class) -> u32
             length_at(lengths, p)
         }
         Setting::EscCnt => c.count,
-        Setting::State => c.state as u32,
+        Setting::State => c.state,
     }
 }
 

@@ -16,23 +16,34 @@ ghost use Rattle.rules.specs.Map.{settingBits, bits};
 ghost use Rattle.rules.specs.Stages.{localStages, alertStages, noClassStages, withLocalStages, withAlertStages, withSettingStage, withStage, staged, dropped};
 ghost use Rattle.rules.specs.State.{most, localCount, classCount, withStages, put};
 
+// A column of the local alerts' with the code c for local alert j.
+fn set_code(codes: [u32; 7], j: usize, c: u32) -> [u32; 7]
+    ensures { λ r. ⌜ r ≡ put localCount codes 0 j c ⌝ }
+{
+    let mut out = codes;
+    if j < 7 {
+        out[j] = c;
+    }
+    out
+}
+
 // The local alerts' stages with the code c at register f of local alert j, if that is shadowed.
-fn set_local(l: LocalStages, f: Field, j: usize, c: u8) -> LocalStages
+fn set_local(l: LocalStages, f: Field, j: usize, c: u32) -> LocalStages
     ensures { λ r. ⌜ r ≡ withLocalStages f (put localCount (localStages f l) 0 j c) l ⌝ }
 {
     let mut out = l;
     match f {
         Field::Regwen => l,
         Field::En => {
-            let mut xs = l.en;
-            set_entry(&mut xs, j, c);
-            out.en = xs;
+            let codes = l.en;
+            let put = set_code(codes, j, c);
+            out.en = put;
             out
         }
         Field::Class => {
-            let mut xs = l.class;
-            set_entry(&mut xs, j, c);
-            out.class = xs;
+            let codes = l.class;
+            let put = set_code(codes, j, c);
+            out.class = put;
             out
         }
         Field::Cause => l,
@@ -130,7 +141,7 @@ fn with_stage(s: Stages, q: Register, c: u64) -> Stages
     match q {
         Register::Only(_) => s,
         Register::Local(f, j) => {
-            let locals = set_local(s.locals, f, j, c as u8);
+            let locals = set_local(s.locals, f, j, c as u32);
             out.locals = locals;
             out
         }

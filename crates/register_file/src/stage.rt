@@ -11,19 +11,26 @@ ghost use mathlib.Core.Path.{_≡_};
 ghost use lib.ListN.{getD};
 ghost use Rattle.rules.specs.Stages.{localStages, alertStages, settingStage, noClassStages, stage};
 
+// Of local alert j in a column, and 0 past the seven.
+fn local_code(codes: [u32; 7], j: usize) -> u32
+    ensures { λ r. ⌜ r ≡ getD codes j 0 ⌝ }
+{
+    if j < 7 { codes[j] } else { 0 }
+}
+
 // Of register f of local alert j.
-fn local_stage(l: LocalStages, f: Field, j: usize) -> u8
+fn local_stage(l: LocalStages, f: Field, j: usize) -> u32
     ensures { λ r. ⌜ r ≡ getD (localStages f l) j 0 ⌝ }
 {
     match f {
         Field::Regwen => 0,
         Field::En => {
-            let xs = l.en;
-            entry(&xs, j)
+            let codes = l.en;
+            local_code(codes, j)
         }
         Field::Class => {
-            let xs = l.class;
-            entry(&xs, j)
+            let codes = l.class;
+            local_code(codes, j)
         }
         Field::Cause => 0,
     }

@@ -21,7 +21,7 @@ ghost use Rattle.rules.specs.State.{most, localCount, classCount, localColumn, 
 ghost use Rattle.rules.specs.Access.{fieldStored, withSingle, withSetting, store};
 
 // INTR_STATE: a 1 clears.
-fn cleared(state: u8, v: u8) -> u8
+fn cleared(state: u16, v: u16) -> u16
     requires { ⌜ v < 2 ^ 4 ⌝ }
     ensures { λ r. ⌜ r ≡ bitsOf 4 (λ k. bit state k && not (bit v k)) ⌝ }
 {
@@ -29,7 +29,7 @@ fn cleared(state: u8, v: u8) -> u8
 }
 
 // INTR_TEST: a 1 sets INTR_STATE.
-fn raised(state: u8, v: u8) -> u8
+fn raised(state: u16, v: u16) -> u16
     requires { ⌜ v < 2 ^ 4 ⌝ }
     ensures { λ r. ⌜ r ≡ bitsOf 4 (λ k. bit state k || bit v k) ⌝ }
 {
@@ -195,18 +195,18 @@ fn set_single(o: Single, v: u32, i: Interrupts) -> Interrupts
 {
     match o {
         Single::IntrState => Interrupts {
-            state: cleared(i.state, v as u8),
+            state: cleared(i.state, v as u16),
             enable: i.enable,
         },
         Single::IntrEnable => {
-            let enable = v as u8;
+            let enable = v as u16;
             Interrupts {
                 state: i.state,
                 enable,
             }
         }
         Single::IntrTest => Interrupts {
-            state: raised(i.state, v as u8),
+            state: raised(i.state, v as u16),
             enable: i.enable,
         },
     }

@@ -3,7 +3,7 @@
 use Prim.Native.Nat.{ℕ, _+_, _-_, _^_}
 use mathlib.Core.Path.{_≡_, refl}
 use mathlib.Core.Bool.{true, false}
-use mathlib.Core.List.{[], _∷_, map}
+use mathlib.Core.List.{List, [], _∷_, map}
 use lib.ListN.{set, replicate}
 use Rattle.bits.specs.Index.{each}
 use Rattle.class_rules.specs.declared.Class.{Class}
@@ -11,12 +11,13 @@ use Rattle.rules.specs.Map.{decode}
 use Rattle.rules.specs.Stages.{stageIn, withStage, dropped}
 use Rattle.rules.specs.State.{newHandler, noStages, withStages}
 use Rattle.rules.specs.Valid.{valid}
+use Rattle.rules.specs.declared.Access.the-variants.{Write}
 use Rattle.rules.specs.declared.ClassStages.{ClassStages}
 use Rattle.rules.specs.declared.Handler.{Handler}
 use Rattle.rules.specs.declared.Register.the-variants.{Only, Unassigned}
 use Rattle.rules.specs.declared.Single.the-variants.{IntrState, IntrEnable, IntrTest}
 use Rattle.rules.specs.declared.Stages.{Stages}
-use Rattle.rules.proofs.Scenes.{rules}
+use Rattle.rules.proofs.Scenes.{rules, acts}
 
 -- ── one code for each register, all different ──
 
@@ -81,6 +82,21 @@ drops : (dropped (decode 248 1333) every .classes ≡ classCodes 3000 ∷ classC
     × (map (λ r. stageIn (dropped (decode 248 512) every) (decode 248 r)) (512 ∷ 513 ∷ 768 ∷ 24 ∷ []) ≡ 0 ∷ 1001 ∷ 2000 ∷ 100 ∷ [])
 unfolding rules
 drops = (refl, refl, refl)
+
+-- ── a lock leaves the stages of what it locks, and a write leaves every stage but its register's: EN of alerts 246 and 247, CLASS of 247, a threshold ──
+
+abbrev staged : Handler
+staged = acts (newHandler 248) (Write 758 1 ∷ Write 759 1 ∷ Write 1015 3 ∷ Write 1285 7 ∷ [])
+
+abbrev codes : Handler → List ℕ
+codes h = map (λ r. stageIn (h .stages) (decode 248 r)) (758 ∷ 759 ∷ 1015 ∷ 1285 ∷ [])
+
+others-stay : (codes staged ≡ 2 ∷ 2 ∷ 4 ∷ 8 ∷ [])
+    × (codes (acts staged (Write 503 0 ∷ Write 1280 0 ∷ [])) ≡ 2 ∷ 2 ∷ 4 ∷ 8 ∷ [])
+    × (codes (acts staged (Write 758 1 ∷ [])) ≡ 0 ∷ 2 ∷ 4 ∷ 8 ∷ [])
+    × (codes (acts staged (Write 759 1 ∷ [])) ≡ 2 ∷ 0 ∷ 4 ∷ 8 ∷ [])
+unfolding rules
+others-stay = (refl, refl, refl, refl)
 
 -- ── request (v): "7 also covers a staged value over its field", of local alerts, classes and alerts below N ──
 

@@ -6,13 +6,14 @@ pub const MOST: usize = 248;
 
 pub const WORDS: usize = 4;
 
-// ---- The state. Integers alone, so that any bytes that come in are a value and refusal 7 judges them. ----
+// ---- The state. Integers alone, so that any bytes that come in are a value and refusal 7 judges them. Wide enough that no struct has
+// padding, so that equal states are equal bytes and none of a caller's old bytes leave in one; 7 judges each register by its own bits. ----
 
 #[repr(C)]
 pub struct Interrupts {
     // INTR_STATE and INTR_ENABLE: class 0 is the lowest bit
-    pub state: u8,
-    pub enable: u8,
+    pub state: u16,
+    pub enable: u16,
 }
 
 #[repr(C)]
@@ -61,8 +62,8 @@ pub struct AlertStages {
 
 #[repr(C)]
 pub struct LocalStages {
-    pub en: [u8; 7],
-    pub class: [u8; 7],
+    pub en: [u32; 7],
+    pub class: [u32; 7],
 }
 
 #[repr(C)]

@@ -56,13 +56,22 @@ fn largest(xs: &[u8], n: usize) -> u8
     r
 }
 
+// No code of the local alerts is over this one.
+fn within(xs: [u32; 7], code: u32) -> bool
+    ensures { λ r. ⌜ r ≡ allTo (λ j. leb (getD xs j 0) code) localCount ⌝ }
+{
+    ((((((xs[0] <= code) & (xs[1] <= code)) & (xs[2] <= code)) & (xs[3] <= code)) & (xs[4] <= code))
+        & (xs[5] <= code))
+        & (xs[6] <= code)
+}
+
 // EN and CLASS of the local alerts.
 fn locals_fit(l: LocalStages) -> bool
     ensures { λ r. ⌜ r ≡ fieldStagesFit (λ f. localStages f l) localCount ⌝ }
 {
     let en = l.en;
     let class = l.class;
-    (largest(&en, 7) <= 2) & (largest(&class, 7) <= 4)
+    within(en, 2) & within(class, 4)
 }
 
 // EN and CLASS of the alerts below n; entries at n and above are not looked at.

@@ -52,7 +52,7 @@ fn alerts_fit(a: Alerts, n: usize) -> bool
 }
 
 // A count is 0 in Idle or Terminal and is not 0 in Timeout or a phase.
-fn count_fits(s: u8, n: u32) -> bool
+fn count_fits(s: u32, n: u32) -> bool
     ensures { λ r. ⌜ r ≡ countFits (stateOf s) n ⌝ }
 {
     match s {

@@ -1,4 +1,5 @@
-//! The functions of `libboundary.a`. The only unsafe lines of the tools.
+//! The functions of `libtarravane.a`. The only unsafe lines of the tools. Their names there carry the layout's number: these
+//! structs are of layout 1, and a library of another one does not link.
 use crate::edition::Edition;
 use crate::input::Sample;
 use crate::state::{Handler, Output};
@@ -15,6 +16,7 @@ pub struct Answered {
     pub handler: Handler,
     pub answer: i64,
     pub output: Output,
+    pub _spare: [u8; 6],
 }
 
 #[repr(C)]
@@ -28,11 +30,15 @@ pub struct Installed {
     pub handler: Handler,
     pub answer: i64,
     pub register: u16,
+    pub _spare: [u8; 6],
 }
 
 extern "C" {
+    #[link_name = "tarravane_new_layout_1"]
     fn tarravane_new(n: usize) -> Made;
+    #[link_name = "tarravane_tick_layout_1"]
     fn tarravane_tick(h: Handler, kind: u8, register: u16, value: u32, sample: Sample) -> Answered;
+    #[link_name = "tarravane_batch_24_layout_1"]
     fn tarravane_batch_24(
         h: Handler,
         bytes: *const u8,
@@ -40,6 +46,7 @@ extern "C" {
         out: *mut Word,
         words: usize,
     ) -> Batched;
+    #[link_name = "tarravane_batch_70_layout_1"]
     fn tarravane_batch_70(
         h: Handler,
         bytes: *const u8,
@@ -47,6 +54,7 @@ extern "C" {
         out: *mut Word,
         words: usize,
     ) -> Batched;
+    #[link_name = "tarravane_record_layout_1"]
     fn tarravane_record(
         kinds: *const u8,
         kinds_length: usize,
@@ -61,6 +69,7 @@ extern "C" {
         bytes: *mut u8,
         length: usize,
     ) -> i64;
+    #[link_name = "tarravane_install_layout_1"]
     fn tarravane_install(h: Handler, lifecycle: u8) -> Installed;
 }
 

@@ -31,7 +31,7 @@ pub struct Class {
     /// CLR_REGWEN
     pub clrwen: u8,
     /// STATE: Idle 0, Timeout 1, Terminal 3, phases 4 to 7
-    pub state: u8,
+    pub state: u32,
 }
 
 /// What the wires have left.
@@ -83,9 +83,9 @@ pub struct Locals {
 #[derive(Clone, Copy, Debug, PartialEq, Eq)]
 pub struct Interrupts {
     /// INTR_STATE
-    pub state: u8,
+    pub state: u16,
     /// INTR_ENABLE
-    pub enable: u8,
+    pub enable: u16,
 }
 
 /// The stages of a class's shadowed registers. A stage is what the first of two equal writes left: 0 for none, else the
@@ -118,9 +118,9 @@ pub struct AlertStages {
 #[derive(Clone, Copy, Debug, PartialEq, Eq)]
 pub struct LocalStages {
     /// EN
-    pub en: [u8; LOCALS],
+    pub en: [u32; LOCALS],
     /// CLASS
-    pub class: [u8; LOCALS],
+    pub class: [u32; LOCALS],
 }
 
 /// The stages of all shadowed registers, one for each.
@@ -194,10 +194,10 @@ fn fields_stand_where_the_header_has_them() {
     assert!(offset_of!(Class, state) == 32);
     assert!(size_of::<ClassStages>() == 48);
     assert!(offset_of!(ClassStages, ctrl) == 40);
-    assert!(size_of::<Stages>() == 704);
+    assert!(size_of::<Stages>() == 744);
     assert!(offset_of!(Stages, alerts) == 192);
     assert!(offset_of!(Stages, locals) == 688);
-    assert!(size_of::<Handler>() == 1912);
+    assert!(size_of::<Handler>() == 1952);
     assert!(offset_of!(Handler, links) == 8);
     assert!(offset_of!(Handler, classes) == 40);
     assert!(offset_of!(Handler, alerts) == 184);

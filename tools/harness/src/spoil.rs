@@ -30,7 +30,7 @@ pub fn spoil(way: Way, places: &[Place], rng: &mut Rng, state: &mut Handler) {
         Way::Flips => (0..2 + rng.below(4)).for_each(|_| flip(places, rng, state)),
         Way::Over => over(places, rng, state),
         Way::State => {
-            let any = rng.bits() as u8;
+            let any = rng.bits() as u32 & 255;
             class.state = rng.pick(&[2, 2, 8, 8, 9, 10, 12, 128, 255, any, any & 7]);
         }
         Way::Count if class.count == 0 => {

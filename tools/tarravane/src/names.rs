@@ -32,13 +32,13 @@ pub fn written(edition: Edition, number: u16, value: u32) -> String {
 /// A value that was read: STATE with its name.
 pub fn read(edition: Edition, number: u16, value: u32) -> String {
     match edition.registers().register(number) {
-        Some(Register::Class(_, Setting::State)) => format!("{value} {}", state(value as u8)),
+        Some(Register::Class(_, Setting::State)) => format!("{value} {}", state(value)),
         _ => written(edition, number, value),
     }
 }
 
 /// A STATE number as document 01 names it.
-pub fn whole_state(number: u8) -> &'static str {
+pub fn whole_state(number: u32) -> &'static str {
     match number {
         0 => "Idle",
         1 => "Timeout",
@@ -52,7 +52,7 @@ pub fn whole_state(number: u8) -> &'static str {
 }
 
 /// A STATE number.
-pub fn state(number: u8) -> &'static str {
+pub fn state(number: u32) -> &'static str {
     match number {
         0 => "Idle",
         1 => "Tout",
@@ -66,7 +66,7 @@ pub fn state(number: u8) -> &'static str {
 }
 
 /// A STATE number in two letters.
-pub fn short_state(number: u8) -> &'static str {
+pub fn short_state(number: u32) -> &'static str {
     match number {
         0 => "Id",
         1 => "To",

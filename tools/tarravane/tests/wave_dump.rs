@@ -51,7 +51,7 @@ fn check_classes(dump: &Dump, t: &Ran) {
         let at = |name: &str| dump.at(&format!("{scope}.CLASS{letter}_{name}"), t.number);
         assert_eq!(at("STATE"), class.state.to_string());
         let names = ["Idle", "Tout", "?", "Term", "Ph0", "Ph1", "Ph2", "Ph3"];
-        assert_eq!(at("STATE_NAME"), names[usize::from(class.state)]);
+        assert_eq!(at("STATE_NAME"), names[class.state as usize]);
         assert_eq!(at("ESC_CNT"), class.count.to_string());
         assert_eq!(at("ACCUM_CNT"), class.accum.to_string());
         assert_eq!(at("INTERRUPT") == "1", t.word.interrupt(k));

@@ -9,13 +9,19 @@ use reference::stages::SourceStages;
 use reference::Source;
 use std::array::from_fn;
 
+/// What the library keeps in more bits than the reference: a number that has
+/// no room there is over its register's bits on both sides.
+fn narrow(kept: u32) -> u8 {
+    u8::try_from(kept).unwrap_or(u8::MAX)
+}
+
 /// The reference's state with the same registers.
 pub fn reference_of(state: &Handler) -> reference::Handler {
     let (locals, alerts) = (&state.locals, &state.alerts);
     reference::Handler {
         n: state.n as u64,
-        intr_state: state.interrupts.state,
-        intr_enable: state.interrupts.enable,
+        intr_state: narrow(state.interrupts.state.into()),
+        intr_enable: narrow(state.interrupts.enable.into()),
         locals: from_fn(|j| Source {
             regwen: locals.regwen[j],
             en: locals.en[j],
@@ -44,7 +50,7 @@ fn reference_class(class: &Class) -> reference::Class {
         timeout_cyc: class.timeout,
         phase_cyc: class.lengths,
         esc_cnt: class.count,
-        state: class.state,
+        state: narrow(class.state),
     }
 }
 
@@ -66,8 +72,8 @@ fn reference_stages(stages: &Stages) -> reference::Stages {
             class: alerts.class,
         },
         locals: SourceStages {
-            en: locals.en,
-            class: locals.class,
+            en: locals.en.map(narrow),
+            class: locals.class.map(narrow),
         },
     }
 }
@@ -110,8 +116,8 @@ pub fn handler_of(state: &reference::Handler) -> Handler {
             cause: from_fn(|j| locals[j].cause),
         },
         interrupts: Interrupts {
-            state: state.intr_state,
-            enable: state.intr_enable,
+            state: state.intr_state.into(),
+            enable: state.intr_enable.into(),
         },
         stages: handler_stages(&state.stages),
     }
@@ -135,8 +141,8 @@ fn handler_stages(stages: &reference::Stages) -> Stages {
             class: alerts.class,
         },
         locals: LocalStages {
-            en: locals.en,
-            class: locals.class,
+            en: locals.en.map(u32::from),
+            class: locals.class.map(u32::from),
         },
     }
 }
@@ -151,7 +157,7 @@ fn handler_class(class: &reference::Class) -> Class {
         thresh: class.accum_thresh,
         regwen: class.regwen,
         clrwen: class.clr_regwen,
-        state: class.state,
+        state: class.state.into(),
     }
 }
 

@@ -23,7 +23,7 @@ pub fn fit(places: &[Place], rng: &mut Rng, state: &mut Handler) {
         let class = &state.classes[k];
         let limit = match class.state {
             1 => class.timeout,
-            4..=7 => class.lengths[usize::from(class.state) - 4],
+            4..=7 => class.lengths[class.state as usize - 4],
             _ => 0,
         };
         let any = rng.bits() as u32;

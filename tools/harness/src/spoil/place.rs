@@ -78,7 +78,8 @@ impl Place {
     }
 
     /// The bits that are kept for it: those of the smallest number that holds
-    /// the most.
+    /// the most, as the reference keeps it. The library keeps some in more;
+    /// what stands above is tried from C (`tests/boundary-states.c`).
     pub fn kept(self) -> u32 {
         match self {
             Place::N | Place::Armed(_) => 64,

@@ -28,6 +28,7 @@ impl Place {
 
     /// Stores the value's low bits, as many as are kept.
     pub fn set(self, state: &mut Handler, value: u64) {
+        let value = value & (u64::MAX >> (64 - self.kept()));
         match self.slot(state) {
             Slot::Byte(kept) => *kept = value as u8,
             Slot::Half(kept) => *kept = value as u16,
@@ -41,8 +42,8 @@ impl Place {
         match self {
             Place::N => Slot::Size(&mut state.n),
             Place::Armed(word) => Slot::Long(&mut state.links.receivers.armed[word]),
-            Place::IntrState => Slot::Byte(&mut state.interrupts.state),
-            Place::IntrEnable => Slot::Byte(&mut state.interrupts.enable),
+            Place::IntrState => Slot::Half(&mut state.interrupts.state),
+            Place::IntrEnable => Slot::Half(&mut state.interrupts.enable),
             Place::Class(k, setting) => class_slot(&mut state.classes[k], setting),
             Place::Alert(Field::Regwen, i) => Slot::Byte(&mut state.alerts.regwen[i]),
             Place::Alert(Field::En, i) => Slot::Byte(&mut state.alerts.en[i]),
@@ -56,8 +57,8 @@ impl Place {
             Place::AlertStage(Field::En, i) => Slot::Byte(&mut state.stages.alerts.en[i]),
             // REGWEN and CAUSE have no stage: no state has one as a place.
             Place::AlertStage(_, i) => Slot::Byte(&mut state.stages.alerts.class[i]),
-            Place::LocalStage(Field::En, j) => Slot::Byte(&mut state.stages.locals.en[j]),
-            Place::LocalStage(_, j) => Slot::Byte(&mut state.stages.locals.class[j]),
+            Place::LocalStage(Field::En, j) => Slot::Word(&mut state.stages.locals.en[j]),
+            Place::LocalStage(_, j) => Slot::Word(&mut state.stages.locals.class[j]),
         }
     }
 }
@@ -76,7 +77,7 @@ fn class_slot(class: &mut Class, setting: Setting) -> Slot<'_> {
         Setting::Phase3Cyc => Slot::Word(&mut class.lengths[3]),
         Setting::EscCnt => Slot::Word(&mut class.count),
         // CLR holds no value: no state has it as a place.
-        Setting::Clr | Setting::State => Slot::Byte(&mut class.state),
+        Setting::Clr | Setting::State => Slot::Word(&mut class.state),
     }
 }
 

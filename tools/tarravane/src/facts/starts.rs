@@ -5,9 +5,9 @@ use super::tick::Tick;
 use handler::Class;
 
 /// STATE of Idle, Timeout and Phase 0.
-pub const IDLE: u8 = 0;
-pub const TIMEOUT: u8 = 1;
-pub const PHASE_0: u8 = 4;
+pub const IDLE: u32 = 0;
+pub const TIMEOUT: u32 = 1;
+pub const PHASE_0: u32 = 4;
 
 /// CTRL's bit for LOCK.
 const LOCK: u16 = 1 << 1;

@@ -9,7 +9,7 @@ pub struct Escalation {
     at: u64,
     start: Start,
     /// The first tick of each phase and of Terminal, as far as the class came.
-    entered: Vec<(u8, u64)>,
+    entered: Vec<(u32, u64)>,
     cleared: Option<u64>,
     spans: Spans,
 }
@@ -49,7 +49,7 @@ impl Escalation {
         let Start { locked, lock, .. } = self.start;
         let locked = if locked { "locked" } else { "not locked" };
         let lock = if lock { "LOCK set" } else { "no LOCK" };
-        let first = |(state, tick): &(u8, u64)| format!("{} {tick}", names::state(*state));
+        let first = |(state, tick): &(u32, u64)| format!("{} {tick}", names::state(*state));
         let mut places: Vec<String> = self.entered.iter().map(first).collect();
         places.extend(self.cleared.map(|tick| format!("cleared {tick}")));
         let places = places.join(", ");

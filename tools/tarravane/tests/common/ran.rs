@@ -50,7 +50,7 @@ pub fn ran(trace: &[u8]) -> (Edition, Vec<Ran>) {
 
 /// What is kept of a tick of a long trace.
 pub struct Brief {
-    pub states: [u8; CLASSES],
+    pub states: [u32; CLASSES],
     pub word: Word,
 }
 

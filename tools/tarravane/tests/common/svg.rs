@@ -26,7 +26,7 @@ pub fn spans(picture: &str, lane: &str) -> Vec<(String, u64, u64)> {
     picture.split(&start).skip(1).map(of).collect()
 }
 
-fn state_name(number: u8) -> &'static str {
+fn state_name(number: u32) -> &'static str {
     match number {
         0 => "Idle",
         1 => "Timeout",

@@ -13,8 +13,11 @@ interrupt-requires c κs = search needs
 num-requires : tie.Need-num-requires
 num-requires c κs = search needs
 
+cast-result : tie.Need-cast-result
+cast-result c = search needs
+
 returns : tie.Need-returns
 returns c = (c .num .ensures .0 ∙ ap (λ (b : Bool). num b) (c .before .interrupt .ensures), c .num .ensures .1)
 
 pub interrupt-bit-spec : {M : Type 1} → statement M
-interrupt-bit-spec = tie.close (tie.spec interrupt-requires num-requires returns)
+interrupt-bit-spec = tie.close (tie.spec interrupt-requires num-requires cast-result returns)

@@ -52,9 +52,6 @@ enum-told-8 c = search needs
 enum-told-9 : tie.Need-enum-told-9
 enum-told-9 c = search needs
 
-cast-result-6 : tie.Need-cast-result-6
-cast-result-6 c = search needs
-
 returns : tie.Need-returns
 returns c = search needs
 
@@ -105,7 +102,6 @@ setting-value-spec =
     length-at-requires
     enum-told-8
     enum-told-9
-    cast-result-6
     returns
     returns-2
     returns-3

@@ -1,8 +1,5 @@
 -- `restage::set_local` meets its contract.
 -- Assumes nothing.
-use mathlib.Core.Path.{_≡_}
-use lib.ListN.{length}
-use Rattle.register_file.proofs.Stores.{set-put}
 use borrow.Author.Needs.{needs}
 use Rattle.register_file.proofs.restage.set_local.Statement.{statement}
 use Rattle.register_file.proofs.restage.set_local.Tie as tie
@@ -13,20 +10,14 @@ enum-told c = search needs
 enum-told-2 : tie.Need-enum-told-2
 enum-told-2 c = search needs
 
-slice-aggregate-set-entry : tie.Need-slice-aggregate-set-entry
-slice-aggregate-set-entry c = search needs
-
-set-entry-requires : tie.Need-set-entry-requires
-set-entry-requires c κs = search needs
+set-code-requires : tie.Need-set-code-requires
+set-code-requires c κs = search needs
 
 enum-told-3 : tie.Need-enum-told-3
 enum-told-3 c = search needs
 
-slice-aggregate-set-entry-2 : tie.Need-slice-aggregate-set-entry-2
-slice-aggregate-set-entry-2 c = search needs
-
-set-entry-requires-2 : tie.Need-set-entry-requires-2
-set-entry-requires-2 c κs = search needs
+set-code-requires-2 : tie.Need-set-code-requires-2
+set-code-requires-2 c κs = search needs
 
 enum-told-4 : tie.Need-enum-told-4
 enum-told-4 c = search needs
@@ -35,16 +26,10 @@ returns : tie.Need-returns
 returns c = rw (c .enum-told .given .1)
 
 returns-2 : tie.Need-returns-2
-returns-2 c =
-    let x = c .before .before .before .before .before .before .args in
-    let e : length (x .l .en) ≡ 7 = search needs in
-    rw (c .before .before .before .before .enum-told2 .given .1, c .before .set-entry .ensures, set-put 7 (x .l .en) 0 (x .j) (x .c) e)
+returns-2 c = rw (c .before .before .enum-told2 .given .1, c .set-code .ensures)
 
 returns-3 : tie.Need-returns-3
-returns-3 c =
-    let x = c .before .before .before .before .before .before .args in
-    let e : length (x .l .class) ≡ 7 = search needs in
-    rw (c .before .before .before .before .enum-told3 .given .1, c .before .set-entry2 .ensures, set-put 7 (x .l .class) 0 (x .j) (x .c) e)
+returns-3 c = rw (c .before .before .enum-told3 .given .1, c .set-code2 .ensures)
 
 returns-4 : tie.Need-returns-4
 returns-4 c = rw (c .enum-told4 .given .1)
@@ -55,11 +40,9 @@ set-local-spec =
     (tie.spec
     enum-told
     enum-told-2
-    slice-aggregate-set-entry
-    set-entry-requires
+    set-code-requires
     enum-told-3
-    slice-aggregate-set-entry-2
-    set-entry-requires-2
+    set-code-requires-2
     enum-told-4
     returns
     returns-2

@@ -10,20 +10,14 @@ enum-told c = search needs
 enum-told-2 : tie.Need-enum-told-2
 enum-told-2 c = search needs
 
-slice-aggregate-entry : tie.Need-slice-aggregate-entry
-slice-aggregate-entry c = search needs
-
-entry-requires : tie.Need-entry-requires
-entry-requires c κs = search needs
+local-code-requires : tie.Need-local-code-requires
+local-code-requires c κs = search needs
 
 enum-told-3 : tie.Need-enum-told-3
 enum-told-3 c = search needs
 
-slice-aggregate-entry-2 : tie.Need-slice-aggregate-entry-2
-slice-aggregate-entry-2 c = search needs
-
-entry-requires-2 : tie.Need-entry-requires-2
-entry-requires-2 c κs = search needs
+local-code-requires-2 : tie.Need-local-code-requires-2
+local-code-requires-2 c κs = search needs
 
 enum-told-4 : tie.Need-enum-told-4
 enum-told-4 c = search needs
@@ -32,10 +26,10 @@ returns : tie.Need-returns
 returns c = search needs
 
 returns-2 : tie.Need-returns-2
-returns-2 c = simp (c .entry .ensures, c .before .before .before .enum-told2 .given .1)
+returns-2 c = simp (c .local-code .ensures, c .before .before .enum-told2 .given .1)
 
 returns-3 : tie.Need-returns-3
-returns-3 c = simp (c .entry2 .ensures, c .before .before .before .enum-told3 .given .1)
+returns-3 c = simp (c .local-code2 .ensures, c .before .before .enum-told3 .given .1)
 
 returns-4 : tie.Need-returns-4
 returns-4 c = search needs
@@ -46,11 +40,9 @@ local-stage-spec =
     (tie.spec
     enum-told
     enum-told-2
-    slice-aggregate-entry
-    entry-requires
+    local-code-requires
     enum-told-3
-    slice-aggregate-entry-2
-    entry-requires-2
+    local-code-requires-2
     enum-told-4
     returns
     returns-2

@@ -1,27 +1,19 @@
--- `stages::locals_fit` meets its contract: each column's largest code fits its field exactly if the column does.
+-- `stages::locals_fit` meets its contract: no code of a column is over its field's largest.
 -- Assumes nothing.
-use mathlib.Core.Path.{_≡_, ap₂}
+use mathlib.Core.Path.{ap₂}
 use mathlib.Core.Bool.{_&&_}
-use native.Mathlib.Omega.{arith}
-use lib.ListN.{length}
 use borrow.Author.Needs.{needs}
 use Rattle.state.proofs.stages.locals_fit.Statement.{statement}
 use Rattle.state.proofs.stages.locals_fit.Tie as tie
 
-slice-aggregate-largest : tie.Need-slice-aggregate-largest
-slice-aggregate-largest c = search needs
+within-requires : tie.Need-within-requires
+within-requires c κs = search needs
 
-largest-requires : tie.Need-largest-requires
-largest-requires c κs = let e : length (c .before .before .before .args .l .en) ≡ 7 = search needs in omega arith
-
-slice-aggregate-largest-2 : tie.Need-slice-aggregate-largest-2
-slice-aggregate-largest-2 c = search needs
-
-largest-requires-2 : tie.Need-largest-requires-2
-largest-requires-2 c κs = let e : length (c .before .before .before .before .before .args .l .class) ≡ 7 = search needs in omega arith
+within-requires-2 : tie.Need-within-requires-2
+within-requires-2 c κs = search needs
 
 returns : tie.Need-returns
-returns c = ap₂ _&&_ (c .before .before .largest .ensures 1) (c .largest2 .ensures 2)
+returns c = ap₂ _&&_ (c .before .within .ensures) (c .within2 .ensures)
 
 pub locals-fit-spec : {M : Type 1} → statement M
-locals-fit-spec = tie.close (tie.spec slice-aggregate-largest largest-requires slice-aggregate-largest-2 largest-requires-2 returns)
+locals-fit-spec = tie.close (tie.spec within-requires within-requires-2 returns)

@@ -15,7 +15,7 @@ pub struct Cell {
     pub first: u64,
     pub last: u64,
     pub weight: Weight,
-    pub states: [Held<u8>; CLASSES],
+    pub states: [Held<u32>; CLASSES],
     pub interrupts: [Held<bool>; CLASSES],
     pub lines: [Held<bool>; LINES],
     pub alerts: Alerts,

@@ -11,7 +11,7 @@ const STEP: f64 = 13.0;
 const SIGN: f64 = 14.0;
 
 /// STATE by its numbers, in the order of an escalation.
-const STATES: [u8; 7] = [0, 1, 4, 5, 6, 7, 3];
+const STATES: [u32; 7] = [0, 1, 4, 5, 6, 7, 3];
 
 /// A sign that is drawn at a place, and its meaning.
 type Sign = (&'static str, fn(&mut Page, f64, f64));

@@ -2,7 +2,7 @@
 //! meaning hangs on a colour alone: spans are labelled, marks have shapes of their own.
 
 /// The class of a state by its number.
-pub fn state(number: u8) -> &'static str {
+pub fn state(number: u32) -> &'static str {
     match number {
         0 => "s0",
         1 => "s1",

@@ -15,7 +15,7 @@ const SIZE: f64 = 10.0;
 const SHORT: f64 = 7.5;
 
 /// The longest name of a state that has room, and its class.
-fn label(state: u8, width: f64) -> Option<(&'static str, &'static str)> {
+fn label(state: u32, width: f64) -> Option<(&'static str, &'static str)> {
     let whole = [names::whole_state(state), names::state(state)];
     let fits = |name: &&str| text_width(name, SIZE) <= width - 3.0;
     let short = names::short_state(state);
@@ -26,7 +26,7 @@ fn label(state: u8, width: f64) -> Option<(&'static str, &'static str)> {
     }
 }
 
-fn draw_span(page: &mut Page, y: f64, span: &Span<u8>) {
+fn draw_span(page: &mut Page, y: f64, span: &Span<u32>) {
     let class = span.value.map_or("mixed", style::state);
     page.rect(class, span.place.x, y, span.place.width, HEIGHT);
     let label = span.value.and_then(|state| label(state, span.room.width));
@@ -37,7 +37,7 @@ fn draw_span(page: &mut Page, y: f64, span: &Span<u8>) {
 }
 
 /// What is said of a span where the pointer rests.
-fn title(k: usize, span: &Span<u8>) -> String {
+fn title(k: usize, span: &Span<u32>) -> String {
     let state = span.value.map_or("several states", names::whole_state);
     format!("class {}: {state}, {}", LETTERS[k], span.ticks())
 }
