@@ -13,15 +13,16 @@
  * The promises are proved for the functions of crates/boundary. Trusted: the compiler's back end, the C ABI, this header.
  *
  * The stack that a call takes below its caller's frame, argument and result included, whatever the lengths of its lists:
- *   tarravane_new 3064 bytes
- *   tarravane_tick 29688 bytes
- *   tarravane_batch_24 36024 bytes
- *   tarravane_batch_70 36024 bytes
+ *   tarravane_new 3160 bytes
+ *   tarravane_tick 38360 bytes
+ *   tarravane_hear 22328 bytes
+ *   tarravane_batch_24 42632 bytes
+ *   tarravane_batch_70 42632 bytes
  *   tarravane_record 96 bytes
- *   tarravane_install 43576 bytes
+ *   tarravane_install 69512 bytes
  * Measured, not proved (tests/stack, the gate): each call ran on a stack filled with a pattern, with accesses of every kind
  * and lists of 0 to 300 entries, linked with -z now. Else the dynamic loader binds memcpy within the first call and takes
- * stack there: with it the first tarravane_new took 6216 bytes on the machine that was measured, the other calls no more. */
+ * stack there: with it the first tarravane_new took 6344 bytes on the machine that was measured, the other calls no more. */
 #ifndef TARRAVANE_H
 #define TARRAVANE_H
 
@@ -39,12 +40,13 @@ extern "C" {
 
 /* It rises with each change of the structs or of a function's parameters. In the library it is part of each function's name,
  * so that what was compiled against another layout does not link. */
-#define TARRAVANE_LAYOUT 1
+#define TARRAVANE_LAYOUT 2
 
 #define TARRAVANE_JOINED(name, layout) name##_layout_##layout
 #define TARRAVANE_NAMED(name, layout) TARRAVANE_JOINED(name, layout)
 #define tarravane_new TARRAVANE_NAMED(tarravane_new, TARRAVANE_LAYOUT)
 #define tarravane_tick TARRAVANE_NAMED(tarravane_tick, TARRAVANE_LAYOUT)
+#define tarravane_hear TARRAVANE_NAMED(tarravane_hear, TARRAVANE_LAYOUT)
 #define tarravane_batch_24 TARRAVANE_NAMED(tarravane_batch_24, TARRAVANE_LAYOUT)
 #define tarravane_batch_70 TARRAVANE_NAMED(tarravane_batch_70, TARRAVANE_LAYOUT)
 #define tarravane_record TARRAVANE_NAMED(tarravane_record, TARRAVANE_LAYOUT)
@@ -91,9 +93,15 @@ struct tarravane_class {
     uint32_t state;                     /* STATE: TARRAVANE_IDLE .. */
 };
 
-/* Alert i is re-armed if bit 63 - i % 64 of word i / 64 is 1. Places at n and above are no alert's: no call changes them. */
+/* The receivers of the alerts: alert i has bit 63 - i % 64 of word i / 64 in each. Any bits are a receiver, so refusal 7 does
+ * not look at them. Places at n and above are no alert's: no call changes them.
+ * Where a receiver stands in the handshake, by its bits of pausing and busy: 0 0 ready, 0 1 acknowledged, 1 1 in the first and
+ * 1 0 in the second tick of the pause. */
 struct tarravane_receivers {
-    uint64_t armed[TARRAVANE_WORDS];
+    uint64_t pausing[TARRAVANE_WORDS];
+    uint64_t busy[TARRAVANE_WORDS];
+    uint64_t level[TARRAVANE_WORDS];   /* ping pair: 1 for (1,0), 0 for (0,1) */
+    uint64_t pending[TARRAVANE_WORDS]; /* a ping is open: asked for and not answered yet */
 };
 
 /* What stands between the wires and the registers. */
@@ -170,18 +178,24 @@ struct tarravane_wires {
 /* The sample of a tick: all that comes in beside the access. */
 struct tarravane_sample {
     struct tarravane_wires alerts;
+    uint64_t asks[TARRAVANE_WORDS]; /* the alerts whose ping the caller asks for, in the wires' order of bits */
 };
 
-/* A sample at rest, to initialise one or a constant: all wires at (0,1). Start from it and set what is not at rest: a caller
- * who does needs no change when inputs join, as they are at rest there. */
-#define TARRAVANE_SAMPLE_AT_REST {{{0, 0, 0, 0}, {UINT64_MAX, UINT64_MAX, UINT64_MAX, UINT64_MAX}}}
+/* A sample at rest, to initialise one or a constant: all wires at (0,1), and no ping asked for. Start from it and set what is
+ * not at rest: a caller who does needs no change when inputs join, as they are at rest there. */
+#define TARRAVANE_SAMPLE_AT_REST \
+    {{{0, 0, 0, 0}, {UINT64_MAX, UINT64_MAX, UINT64_MAX, UINT64_MAX}}, {0, 0, 0, 0}}
 
 /* ---- What comes back ---- */
 
-/* Interrupts and escalation lines: class and line 0 are the lowest bits. */
+/* Interrupts and escalation lines: class and line 0 are the lowest bits. Then what the handler sends to the alerts, a pair to
+ * each, in the wires' order of bits. The pair (0,1) has the positive bit 0 and the negative bit 1; so has every place at n and
+ * above, 248 to 255 too. */
 struct tarravane_output {
-    uint8_t interrupts;
-    uint8_t lines;
+    uint32_t interrupts;
+    uint32_t lines;
+    struct tarravane_wires acknowledge; /* (1,0) from the tick after a rise is taken up to the one in which its drop is read */
+    struct tarravane_wires ping;        /* each ping that opens changes its level */
 };
 
 struct tarravane_made {
@@ -193,7 +207,14 @@ struct tarravane_answered {
     struct tarravane_handler handler;
     int64_t answer;
     struct tarravane_output output;
-    uint8_t spare[6]; /* 0 */
+};
+
+/* What a tick hears: alerts in the wires' order of bits, 0 at n and above. */
+struct tarravane_heard {
+    uint64_t events[TARRAVANE_WORDS];  /* the alerts with an event, enabled or not */
+    uint64_t answers[TARRAVANE_WORDS]; /* the alerts whose open ping is answered */
+    uint64_t locals;                   /* the local alerts that occur: local 0 is the lowest bit */
+    int64_t answer;                    /* the tick's answer to its access */
 };
 
 struct tarravane_batched {
@@ -305,7 +326,8 @@ struct tarravane_installed {
 /* ---- The functions ---- */
 
 /* Makes a handler for n alerts, 1 to 248: all REGWEN and CLR_REGWEN at 1, all CTRL at 0x393C, every other register at 0,
- * classes Idle, alerts re-armed, no stage, and so the entries at n and above; answers 0.
+ * classes Idle, receivers ready, their ping pairs at (0,1) and no ping open, no stage, and so the entries at n and above;
+ * answers 0.
  * -6: n is 0 or over 248. It leaves a handler of no alerts, otherwise as new. */
 TARRAVANE_RESULT
 struct tarravane_made tarravane_new(size_t n);
@@ -314,17 +336,34 @@ struct tarravane_made tarravane_new(size_t n);
  * the outputs.
  * The access: kind TARRAVANE_NONE (register and value are not looked at), TARRAVANE_READ (value is not looked at) or
  * TARRAVANE_WRITE.
- * -7: the state breaks its rule. State unchanged, tick not run, interrupts and lines 0.
+ * The wires: a ready receiver that reads (1,0) takes the rise, and acknowledges it from the next tick on; after (0,1) is read
+ * the acknowledgement drops in the next tick, which is the first of two ticks of pause, and then the receiver is ready again.
+ * A rise in the pause waits; one that is gone before its end is lost. Equal wires make local alert 2 occur, if both are
+ * enabled, and hold the receiver where it is; an acknowledge change that is due comes all the same. Alerts that are not
+ * enabled have their handshake too, and their events do nothing.
+ * Pings: asking changes the level of the alert's ping pair and opens a ping, before the wires are read, so that a rise of this
+ * tick can answer it. While one is open, and at n and above, asking does nothing. A rise that is taken while a ping is open
+ * answers and closes it and is no event; any other that is taken is one event, in this tick.
+ * -7: the state breaks its rule. State unchanged, tick not run, interrupts and lines 0, all pairs (0,1).
  * -5 (kind over 2), -1, -2, -4, -14, -3, -12, in this order: no register is changed by the access; the tick runs with its
  * sample. -3 and -12 drop the stage of the register that is named, the others touch none. */
 TARRAVANE_RESULT
 struct tarravane_answered tarravane_tick(struct tarravane_handler h, uint8_t kind, uint16_t register_number,
                                          uint32_t value, struct tarravane_sample sample);
 
+/* Says what the tick of the same arguments hears: the alerts below n that have an event, enabled or not, those whose open ping
+ * is answered, and the local alerts that occur, the enabled ones with a reason to. Its answer is the tick's. It changes
+ * nothing: the tick itself is tarravane_tick.
+ * -7: the state breaks its rule. Nothing is heard: all bits 0. */
+TARRAVANE_RESULT
+struct tarravane_heard tarravane_hear(struct tarravane_handler h, uint8_t kind, uint16_t register_number, uint32_t value,
+                                      struct tarravane_sample sample);
+
 /* Runs a tick for each record of 70 bytes, one after another from the state h, and writes a word for each at its place in
  * out: bits 63 to 60 interrupts (class 0 first), 59 to 56 lines (line 0 first), 55 to 52 the refusal number or 0, then 20
  * zeros and the 32 bits of the value that was read, or 0. Later words stay as they were. Gives the state after the last
  * tick, and 0. A record that gets refusal 1 to 5, 12 or 14 still takes its tick, and the batch goes on; its word says so.
+ * Records ask for no pings, and words do not show the pairs; a ping that is open at the start is answered as in a tick.
  * -7: the state breaks its rule. -8: length is not a multiple of 70. -9: words is less than length / 70. In this order;
  * each leaves state and list unchanged.
  * The caller owes: bytes points to length readable bytes, out to words writable words, aligned; they do not overlap;
@@ -358,7 +397,7 @@ int64_t tarravane_record(const uint8_t *kinds, size_t kinds_length, const uint16
                          const uint64_t *negative, size_t negative_length, uint8_t *bytes, size_t length);
 
 /* Boots the state h: installs document 002's classification of alerts 0 to 57 and its class settings for the lifecycle, one
- * access a tick with all wires at (0,1). In this order, numbers rising: CLASS, then EN of each alert; ACCUM_THRESH,
+ * access a tick with all wires at (0,1) and no ping asked for. In this order, numbers rising: CLASS, then EN of each alert; ACCUM_THRESH,
  * TIMEOUT_CYC, PHASE0_CYC to PHASE3_CYC and CTRL of each class; REGWEN of each alert that is locked, and of class A. Each is
  * written, twice where it is shadowed, and read back right after.
  * An alert that the table marks X gets CLASS 0 and EN 0, one marked A to D its class and EN 1. CTRL is 0x393C, with EN for
@@ -403,8 +442,12 @@ TARRAVANE_ASSERT(offsetof(struct tarravane_class, thresh) == 28);
 TARRAVANE_ASSERT(offsetof(struct tarravane_class, regwen) == 30);
 TARRAVANE_ASSERT(offsetof(struct tarravane_class, clrwen) == 31);
 TARRAVANE_ASSERT(offsetof(struct tarravane_class, state) == 32);
-TARRAVANE_ASSERT(sizeof(struct tarravane_receivers) == 32);
-TARRAVANE_ASSERT(sizeof(struct tarravane_links) == 32);
+TARRAVANE_ASSERT(sizeof(struct tarravane_receivers) == 128);
+TARRAVANE_ASSERT(offsetof(struct tarravane_receivers, pausing) == 0);
+TARRAVANE_ASSERT(offsetof(struct tarravane_receivers, busy) == 32);
+TARRAVANE_ASSERT(offsetof(struct tarravane_receivers, level) == 64);
+TARRAVANE_ASSERT(offsetof(struct tarravane_receivers, pending) == 96);
+TARRAVANE_ASSERT(sizeof(struct tarravane_links) == 128);
 TARRAVANE_ASSERT(offsetof(struct tarravane_links, receivers) == 0);
 TARRAVANE_ASSERT(sizeof(struct tarravane_alerts) == 992);
 TARRAVANE_ASSERT(offsetof(struct tarravane_alerts, en) == 248);
@@ -429,38 +472,46 @@ TARRAVANE_ASSERT(sizeof(struct tarravane_stages) == 744);
 TARRAVANE_ASSERT(offsetof(struct tarravane_stages, classes) == 0);
 TARRAVANE_ASSERT(offsetof(struct tarravane_stages, alerts) == 192);
 TARRAVANE_ASSERT(offsetof(struct tarravane_stages, locals) == 688);
-TARRAVANE_ASSERT(sizeof(struct tarravane_handler) == 1952);
+TARRAVANE_ASSERT(sizeof(struct tarravane_handler) == 2048);
 TARRAVANE_ASSERT(offsetof(struct tarravane_handler, n) == 0);
 TARRAVANE_ASSERT(offsetof(struct tarravane_handler, links) == 8);
-TARRAVANE_ASSERT(offsetof(struct tarravane_handler, classes) == 40);
-TARRAVANE_ASSERT(offsetof(struct tarravane_handler, alerts) == 184);
-TARRAVANE_ASSERT(offsetof(struct tarravane_handler, locals) == 1176);
-TARRAVANE_ASSERT(offsetof(struct tarravane_handler, interrupts) == 1204);
-TARRAVANE_ASSERT(offsetof(struct tarravane_handler, stages) == 1208);
+TARRAVANE_ASSERT(offsetof(struct tarravane_handler, classes) == 136);
+TARRAVANE_ASSERT(offsetof(struct tarravane_handler, alerts) == 280);
+TARRAVANE_ASSERT(offsetof(struct tarravane_handler, locals) == 1272);
+TARRAVANE_ASSERT(offsetof(struct tarravane_handler, interrupts) == 1300);
+TARRAVANE_ASSERT(offsetof(struct tarravane_handler, stages) == 1304);
 TARRAVANE_ASSERT(sizeof(struct tarravane_wires) == 64);
 TARRAVANE_ASSERT(offsetof(struct tarravane_wires, neg) == 32);
-TARRAVANE_ASSERT(sizeof(struct tarravane_sample) == 64);
+TARRAVANE_ASSERT(sizeof(struct tarravane_sample) == 96);
 TARRAVANE_ASSERT(offsetof(struct tarravane_sample, alerts) == 0);
-TARRAVANE_ASSERT(sizeof(struct tarravane_output) == 2);
-TARRAVANE_ASSERT(offsetof(struct tarravane_output, lines) == 1);
-TARRAVANE_ASSERT(sizeof(struct tarravane_made) == 1960);
-TARRAVANE_ASSERT(offsetof(struct tarravane_made, answer) == 1952);
-TARRAVANE_ASSERT(sizeof(struct tarravane_answered) == 1968);
-TARRAVANE_ASSERT(offsetof(struct tarravane_answered, answer) == 1952);
-TARRAVANE_ASSERT(offsetof(struct tarravane_answered, output) == 1960);
-TARRAVANE_ASSERT(offsetof(struct tarravane_answered, spare) == 1962);
-TARRAVANE_ASSERT(sizeof(struct tarravane_batched) == 1960);
-TARRAVANE_ASSERT(offsetof(struct tarravane_batched, answer) == 1952);
-TARRAVANE_ASSERT(sizeof(struct tarravane_installed) == 1968);
-TARRAVANE_ASSERT(offsetof(struct tarravane_installed, answer) == 1952);
-TARRAVANE_ASSERT(offsetof(struct tarravane_installed, register_number) == 1960);
-TARRAVANE_ASSERT(offsetof(struct tarravane_installed, spare) == 1962);
+TARRAVANE_ASSERT(offsetof(struct tarravane_sample, asks) == 64);
+TARRAVANE_ASSERT(sizeof(struct tarravane_output) == 136);
+TARRAVANE_ASSERT(offsetof(struct tarravane_output, lines) == 4);
+TARRAVANE_ASSERT(offsetof(struct tarravane_output, acknowledge) == 8);
+TARRAVANE_ASSERT(offsetof(struct tarravane_output, ping) == 72);
+TARRAVANE_ASSERT(sizeof(struct tarravane_made) == 2056);
+TARRAVANE_ASSERT(offsetof(struct tarravane_made, answer) == 2048);
+TARRAVANE_ASSERT(sizeof(struct tarravane_answered) == 2192);
+TARRAVANE_ASSERT(offsetof(struct tarravane_answered, answer) == 2048);
+TARRAVANE_ASSERT(offsetof(struct tarravane_answered, output) == 2056);
+TARRAVANE_ASSERT(sizeof(struct tarravane_heard) == 80);
+TARRAVANE_ASSERT(offsetof(struct tarravane_heard, events) == 0);
+TARRAVANE_ASSERT(offsetof(struct tarravane_heard, answers) == 32);
+TARRAVANE_ASSERT(offsetof(struct tarravane_heard, locals) == 64);
+TARRAVANE_ASSERT(offsetof(struct tarravane_heard, answer) == 72);
+TARRAVANE_ASSERT(sizeof(struct tarravane_batched) == 2056);
+TARRAVANE_ASSERT(offsetof(struct tarravane_batched, answer) == 2048);
+TARRAVANE_ASSERT(sizeof(struct tarravane_installed) == 2064);
+TARRAVANE_ASSERT(offsetof(struct tarravane_installed, answer) == 2048);
+TARRAVANE_ASSERT(offsetof(struct tarravane_installed, register_number) == 2056);
+TARRAVANE_ASSERT(offsetof(struct tarravane_installed, spare) == 2058);
 
 TARRAVANE_ASSERT(sizeof(struct tarravane_class) == TARRAVANE_SIZE(class, lengths) + TARRAVANE_SIZE(class, timeout) +
                  TARRAVANE_SIZE(class, count) + TARRAVANE_SIZE(class, ctrl) + TARRAVANE_SIZE(class, accum) +
                  TARRAVANE_SIZE(class, thresh) + TARRAVANE_SIZE(class, regwen) + TARRAVANE_SIZE(class, clrwen) +
                  TARRAVANE_SIZE(class, state));
-TARRAVANE_ASSERT(sizeof(struct tarravane_receivers) == TARRAVANE_SIZE(receivers, armed));
+TARRAVANE_ASSERT(sizeof(struct tarravane_receivers) == TARRAVANE_SIZE(receivers, pausing) + TARRAVANE_SIZE(receivers, busy) +
+                 TARRAVANE_SIZE(receivers, level) + TARRAVANE_SIZE(receivers, pending));
 TARRAVANE_ASSERT(sizeof(struct tarravane_links) == TARRAVANE_SIZE(links, receivers));
 TARRAVANE_ASSERT(sizeof(struct tarravane_alerts) == TARRAVANE_SIZE(alerts, regwen) + TARRAVANE_SIZE(alerts, en) +
                  TARRAVANE_SIZE(alerts, class_of) + TARRAVANE_SIZE(alerts, cause));
@@ -481,11 +532,14 @@ TARRAVANE_ASSERT(sizeof(struct tarravane_handler) == TARRAVANE_SIZE(handler, n) 
                  TARRAVANE_SIZE(handler, classes) + TARRAVANE_SIZE(handler, alerts) + TARRAVANE_SIZE(handler, locals) +
                  TARRAVANE_SIZE(handler, interrupts) + TARRAVANE_SIZE(handler, stages));
 TARRAVANE_ASSERT(sizeof(struct tarravane_wires) == TARRAVANE_SIZE(wires, pos) + TARRAVANE_SIZE(wires, neg));
-TARRAVANE_ASSERT(sizeof(struct tarravane_sample) == TARRAVANE_SIZE(sample, alerts));
-TARRAVANE_ASSERT(sizeof(struct tarravane_output) == TARRAVANE_SIZE(output, interrupts) + TARRAVANE_SIZE(output, lines));
+TARRAVANE_ASSERT(sizeof(struct tarravane_sample) == TARRAVANE_SIZE(sample, alerts) + TARRAVANE_SIZE(sample, asks));
+TARRAVANE_ASSERT(sizeof(struct tarravane_output) == TARRAVANE_SIZE(output, interrupts) + TARRAVANE_SIZE(output, lines) +
+                 TARRAVANE_SIZE(output, acknowledge) + TARRAVANE_SIZE(output, ping));
 TARRAVANE_ASSERT(sizeof(struct tarravane_made) == TARRAVANE_SIZE(made, handler) + TARRAVANE_SIZE(made, answer));
 TARRAVANE_ASSERT(sizeof(struct tarravane_answered) == TARRAVANE_SIZE(answered, handler) + TARRAVANE_SIZE(answered, answer) +
-                 TARRAVANE_SIZE(answered, output) + TARRAVANE_SIZE(answered, spare));
+                 TARRAVANE_SIZE(answered, output));
+TARRAVANE_ASSERT(sizeof(struct tarravane_heard) == TARRAVANE_SIZE(heard, events) + TARRAVANE_SIZE(heard, answers) +
+                 TARRAVANE_SIZE(heard, locals) + TARRAVANE_SIZE(heard, answer));
 TARRAVANE_ASSERT(sizeof(struct tarravane_batched) == TARRAVANE_SIZE(batched, handler) + TARRAVANE_SIZE(batched, answer));
 TARRAVANE_ASSERT(sizeof(struct tarravane_installed) == TARRAVANE_SIZE(installed, handler) +
                  TARRAVANE_SIZE(installed, answer) + TARRAVANE_SIZE(installed, register_number) +

@@ -31,7 +31,12 @@ static handler told_apart(void) {
     }
     h.interrupts.state = 0x6;
     h.interrupts.enable = 0xD;
-    for (unsigned v = 0; v < TARRAVANE_WORDS; v++) h.links.receivers.armed[v] = UINT64_C(0x0123456789ABCDEF) * (v + 1);
+    for (unsigned v = 0; v < TARRAVANE_WORDS; v++) {
+        h.links.receivers.pausing[v] = UINT64_C(0x0123456789ABCDEF) * (v + 1);
+        h.links.receivers.busy[v] = UINT64_C(0x13579BDF02468ACE) * (v + 1);
+        h.links.receivers.level[v] = UINT64_C(0xFEDCBA9876543210) * (v + 1);
+        h.links.receivers.pending[v] = UINT64_C(0x0F1E2D3C4B5A6978) * (v + 1);
+    }
     /* The largest value staged, which no read shows. */
     for (int i = 0; i < SHADOWED; i++) set_stage(&h, &all_shadowed()[i], UINT64_C(1) << all_shadowed()[i].bits);
     return h;
@@ -97,22 +102,21 @@ static void entries(void) {
     }
 }
 
-/* Alert i's wires and its re-arming stand at its place: an event of each alert that is armed and enabled, and of no other.
- * The last places of the last word are no alert's, and stay. */
+/* Alert i's wires and its receiver stand at its place: an event of each alert that is ready, enabled and without an open ping,
+ * and of no other. The last places of the last word are no alert's, and stay. */
 static void wires(void) {
     handler h = told_apart();
+    const struct tarravane_receivers *r = &h.links.receivers;
     memset(h.alerts.cause, 0, sizeof h.alerts.cause);
     for (int i = 0; i < TARRAVANE_ALERTS; i++) {
+        int w = i / 64;
         uint64_t one = UINT64_C(1) << (63 - i % 64);
         struct tarravane_answered t = tarravane_tick(h, TARRAVANE_NONE, 0, 0, raised(i));
-        bool armed = (h.links.receivers.armed[i / 64] & one) != 0;
-        for (int m = 0; m < TARRAVANE_ALERTS; m++)
-            CHECK(t.handler.alerts.cause[m] == (m == i && armed && h.alerts.en[i] == 1));
-        for (int v = 0; v < TARRAVANE_WORDS; v++) {
-            uint64_t wanted = v == i / 64 ? ~one : UINT64_MAX;
-            if (v == TARRAVANE_WORDS - 1) wanted = (wanted & ~UINT64_C(255)) | (h.links.receivers.armed[v] & 255);
-            CHECK(t.handler.links.receivers.armed[v] == wanted);
-        }
+        bool event = ((r->pausing[w] | r->busy[w] | r->pending[w]) & one) == 0 && h.alerts.en[i] == 1;
+        for (int m = 0; m < TARRAVANE_ALERTS; m++) CHECK(t.handler.alerts.cause[m] == (m == i && event));
+        const struct tarravane_receivers *after = &t.handler.links.receivers;
+        CHECK((after->pausing[3] & 255) == (r->pausing[3] & 255) && (after->busy[3] & 255) == (r->busy[3] & 255));
+        CHECK((after->level[3] & 255) == (r->level[3] & 255) && (after->pending[3] & 255) == (r->pending[3] & 255));
     }
 }
 
@@ -127,7 +131,8 @@ static void making(void) {
         CHECK(read_of(&h, TARRAVANE_ALERT_REGWEN((int)n)) == -TARRAVANE_NO_REGISTER);
         for (size_t i = 0; i < TARRAVANE_ALERTS; i++)
             CHECK(h.alerts.regwen[i] == 1 && h.alerts.en[i] + h.alerts.class_of[i] + h.alerts.cause[i] == 0);
-        for (int v = 0; v < TARRAVANE_WORDS; v++) CHECK(h.links.receivers.armed[v] == UINT64_MAX);
+        static const struct tarravane_receivers ready;
+        CHECK(memcmp(&h.links.receivers, &ready, sizeof ready) == 0);
         for (int i = 0; i < SHADOWED; i++) CHECK(stage_of(&h, &all_shadowed()[i]) == 0);
     }
     handler none = new_handler(1);

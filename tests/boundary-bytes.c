@@ -18,10 +18,11 @@ __attribute__((noinline)) static void dirty(unsigned char byte) {
     dirty(byte);                          \
     name = call
 
-/* Everything that the four kinds of calls return. */
+/* Everything that the five kinds of calls return. */
 struct results {
     struct tarravane_made made, refused;
     struct tarravane_answered tick, broken;
+    struct tarravane_heard heard, unheard;
     struct tarravane_batched batch, uneven;
     struct tarravane_installed boot, stopped;
 };
@@ -31,15 +32,19 @@ static void run(struct results *r, unsigned char byte) {
     static uint64_t words[2];
     GIVEN(struct tarravane_made, made, tarravane_new(TARRAVANE_ALERTS));
     GIVEN(struct tarravane_made, refused, tarravane_new(0));
-    GIVEN(struct tarravane_answered, tick, tarravane_tick(made.handler, TARRAVANE_WRITE, TARRAVANE_CLASS_CTRL(3), 1, raised(247)));
+    struct tarravane_sample asking = raised(247);
+    asking.asks[1] = 1;
+    GIVEN(struct tarravane_answered, tick, tarravane_tick(made.handler, TARRAVANE_WRITE, TARRAVANE_CLASS_CTRL(3), 1, asking));
+    GIVEN(struct tarravane_heard, heard, tarravane_hear(made.handler, TARRAVANE_WRITE, TARRAVANE_CLASS_CTRL(3), 1, asking));
     handler bad = tick.handler;
     bad.n = SIZE_MAX;
     GIVEN(struct tarravane_answered, broken, tarravane_tick(bad, TARRAVANE_READ, 0, 0, at_rest));
+    GIVEN(struct tarravane_heard, unheard, tarravane_hear(bad, TARRAVANE_READ, 0, 0, asking));
     GIVEN(struct tarravane_batched, batch, tarravane_batch_70(tick.handler, records, sizeof records, words, 2));
     GIVEN(struct tarravane_batched, uneven, tarravane_batch_70(tick.handler, records, 1, words, 2));
     GIVEN(struct tarravane_installed, boot, tarravane_install(made.handler, TARRAVANE_LIFECYCLE_PROD));
     GIVEN(struct tarravane_installed, stopped, tarravane_install(boot.handler, TARRAVANE_LIFECYCLE_PROD));
-    *r = (struct results){made, refused, tick, broken, batch, uneven, boot, stopped};
+    *r = (struct results){made, refused, tick, broken, heard, unheard, batch, uneven, boot, stopped};
 }
 
 static bool zeros(const uint8_t spare[6]) {
@@ -61,7 +66,8 @@ static void other_ways(const struct results *r) {
     CHECK(same(&h, &r->batch.handler));
     CHECK(same(&r->uneven.handler, &r->tick.handler));
     made.stages.classes[3].ctrl = 2;
-    made.links.receivers.armed[3] &= ~(UINT64_C(1) << 8);
+    made.links.receivers.busy[3] = UINT64_C(1) << 8;
+    made.links.receivers.level[1] = made.links.receivers.pending[1] = 1;
     CHECK(same(&made, &r->tick.handler));
     made = booted(new_handler(TARRAVANE_ALERTS), TARRAVANE_LIFECYCLE_PROD, boot_entries(TARRAVANE_LIFECYCLE_PROD));
     CHECK(same(&made, &r->boot.handler) && same(&made, &r->stopped.handler));
@@ -74,7 +80,8 @@ void test_bytes(void) {
     CHECK(first.tick.answer == 0 && first.broken.answer == -TARRAVANE_BAD_STATE);
     CHECK(first.batch.answer == 0 && first.uneven.answer == -TARRAVANE_BAD_LENGTH);
     CHECK(first.boot.answer == 0 && first.stopped.answer == -TARRAVANE_LOCKED);
-    CHECK(zeros(first.tick.spare) && zeros(first.broken.spare) && zeros(first.boot.spare) && zeros(first.stopped.spare));
+    CHECK(first.heard.answer == 0 && first.unheard.answer == -TARRAVANE_BAD_STATE);
+    CHECK(zeros(first.boot.spare) && zeros(first.stopped.spare));
     static const unsigned char old[] = {0xFF, 0x5A, 0xA5, 1};
     for (size_t i = 0; i < sizeof old; i++) other_bytes(&first, old[i]);
     other_ways(&first);

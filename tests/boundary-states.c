@@ -1,12 +1,16 @@
 /* Refusal 7: each damaged field gets it, by a tick and by a batch; entries at N and above are not looked at. */
 #include "boundary.h"
 
+/* No interrupt and no line is on, and all pairs are (0,1). */
+#define LOW {{0, 0, 0, 0}, {UINT64_MAX, UINT64_MAX, UINT64_MAX, UINT64_MAX}}
+static const struct tarravane_output nothing = {0, 0, LOW, LOW};
+
 static void refused(const handler *h) {
     static const uint8_t record[TARRAVANE_RECORD_70];
     uint64_t word = 7;
     struct tarravane_answered t = tarravane_tick(*h, TARRAVANE_READ, TARRAVANE_INTR_STATE, 0, at_rest);
     CHECK(t.answer == -TARRAVANE_BAD_STATE);
-    CHECK(t.output.interrupts == 0 && t.output.lines == 0);
+    CHECK(memcmp(&t.output, &nothing, sizeof nothing) == 0);
     CHECK(same(&t.handler, h));
     /* 7 comes before 8, 8 before 9 */
     struct tarravane_batched b = tarravane_batch_70(*h, record, TARRAVANE_RECORD_70 - 1, &word, 0);
@@ -143,7 +147,7 @@ static void entries_above(size_t n) {
         h.stages.alerts.en[i] = h.stages.alerts.class_of[i] = 0xA5;
     }
     handler wanted = h;
-    for (size_t i = 0; i < n; i++) wanted.links.receivers.armed[i / 64] &= ~(UINT64_C(1) << (63 - i % 64));
+    for (size_t i = 0; i < n; i++) wanted.links.receivers.busy[i / 64] |= UINT64_C(1) << (63 - i % 64);
     struct tarravane_answered t =
         tarravane_tick(h, TARRAVANE_WRITE, (uint16_t)TARRAVANE_ALERT_EN(n), 1, sample_of(wires_of(UINT64_MAX, 0)));
     CHECK(t.answer == -TARRAVANE_NO_REGISTER);

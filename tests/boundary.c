@@ -1,5 +1,5 @@
-/* The boundary from C's side: every field crosses to its register and back, equal states are equal bytes, a damaged field gets
- * refusal 7, shadowed registers take two equal writes, a class that waits for 65,536 events is not locked, a boot installs each lifecycle's policy or stops
+/* The boundary from C's side: every field crosses to its register and back, equal states are equal bytes, receivers shake hands
+ * and are pinged, a damaged field gets refusal 7, shadowed registers take two equal writes, a class that waits for 65,536 events is not locked, a boot installs each lifecycle's policy or stops
  * where it must, a batch and the writer stay in their buffers, example traces give the same words by batch, by single ticks
  * and by the replay program, and the writer gives their bytes again.
  * usage: boundary [TRACE WORDS]...   WORDS: what the replay program printed of TRACE, or - for none */
@@ -78,6 +78,8 @@ int64_t configure(handler *h, int number, uint32_t value) {
 int main(int argc, char **argv) {
     test_accesses();
     test_bytes();
+    test_links();
+    test_waves();
     test_states();
     test_stages();
     test_threshold();

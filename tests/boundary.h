@@ -100,6 +100,8 @@ int64_t written(const struct access *a, uint8_t record[TARRAVANE_RECORD_70]);
 
 void test_accesses(void);
 void test_bytes(void);
+void test_links(void);
+void test_waves(void);
 void test_states(void);
 void test_stages(void);
 void test_threshold(void);

@@ -7,7 +7,8 @@
 #include <string.h>
 #include <ucontext.h>
 
-#define STACK ((size_t)1 << 16)
+#define STACK ((size_t)1 << 17)
+#define SPARE 4096 /* bytes at the end that no call may reach */
 #define PATTERN 0xA5
 #define RECORDS 300
 
@@ -25,8 +26,9 @@ static uint64_t positive[RECORDS * TARRAVANE_WORDS], negative[RECORDS * TARRAVAN
 static struct tarravane_sample sample = TARRAVANE_SAMPLE_AT_REST;
 static size_t entries;
 static int64_t recorded; /* what the writer answered */
+static struct tarravane_heard heard;
 
-/* A call takes its argument of 1952 bytes and its result from the caller's frame: both are counted. */
+/* A call takes its argument of 2048 bytes and its result from the caller's frame: both are counted. */
 #define NOTE_FRAME() frame = __builtin_frame_address(0)
 
 static void call_new(void)
@@ -39,6 +41,12 @@ static void call_tick(void)
 {
     NOTE_FRAME();
     state = tarravane_tick(state, kinds[0], registers[0], values[0], sample).handler;
+}
+
+static void call_hear(void)
+{
+    NOTE_FRAME();
+    heard = tarravane_hear(state, kinds[0], registers[0], values[0], sample);
 }
 
 static void call_batch_24(void)
@@ -67,11 +75,22 @@ static void call_install(void)
     state = tarravane_install(state, (uint8_t)(entries % 8)).handler;
 }
 
+static const unsigned char *lowest_changed(void)
+{
+    size_t low = 0;
+    while (low < STACK && stack[low] == PATTERN)
+        low++;
+    if (low < SPARE) {
+        fputs("stack: a call takes more than the stack that it is measured on\n", stderr);
+        exit(1);
+    }
+    return stack + low;
+}
+
 /* The bytes below the caller's frame that the call changed. */
 static size_t depth_of(void (*call)(void))
 {
     ucontext_t here, there;
-    size_t low = 0;
     memset(stack, PATTERN, STACK);
     if (getcontext(&there) != 0) {
         perror("stack");
@@ -82,9 +101,7 @@ static size_t depth_of(void (*call)(void))
     there.uc_link = &here;
     makecontext(&there, call, 0);
     swapcontext(&here, &there);
-    while (low < STACK && stack[low] == PATTERN)
-        low++;
-    return (size_t)(frame - (stack + low));
+    return (size_t)(frame - lowest_changed());
 }
 
 static uint64_t next_random(void)
@@ -104,7 +121,7 @@ static uint32_t draw_value(void)
 }
 
 /* Accesses of every kind to every register, a quarter of them to the register before, so that stages commit and differ; and
- * wires that move. */
+ * wires that move, with pings asked for. */
 static void draw_input(void)
 {
     entries = next_random() % (RECORDS + 1);
@@ -124,6 +141,8 @@ static void draw_input(void)
     }
     memcpy(sample.alerts.pos, positive, sizeof sample.alerts.pos);
     memcpy(sample.alerts.neg, negative, sizeof sample.alerts.neg);
+    for (size_t v = 0; v < TARRAVANE_WORDS; v++)
+        sample.asks[v] = next_random() & next_random();
 }
 
 /* A state of up to so many alerts, in every second round with the access made before, so that a write finds its stage; in the
@@ -161,6 +180,7 @@ static const struct call {
 } calls[] = {
     {"tarravane_new", call_new, call_record, TARRAVANE_ALERTS},
     {"tarravane_tick", call_tick, call_record, TARRAVANE_ALERTS},
+    {"tarravane_hear", call_hear, call_record, TARRAVANE_ALERTS},
     {"tarravane_batch_24", call_batch_24, pack_24, TARRAVANE_ALERTS_24},
     {"tarravane_batch_70", call_batch_70, call_record, TARRAVANE_ALERTS},
     {"tarravane_record", call_record, call_record, TARRAVANE_ALERTS},

@@ -2,8 +2,9 @@
 
 use crate::answer::Refusal;
 use crate::class::Class;
+use crate::receiver::Receiver;
 use crate::stages::Stages;
-use crate::wires::{wire, Wires};
+use crate::wires::{wire, Pairs, Sample, Wires};
 
 /// The largest number of alerts.
 pub const MAX_ALERTS: usize = 248;
@@ -40,6 +41,33 @@ pub enum Access {
 /// What a tick gives.
 #[derive(Clone, Copy, Debug, PartialEq, Eq)]
 pub struct Ticked {
+    /// The access's value, or minus its refusal number.
+    pub answer: i64,
+    /// The interrupts, class 0 lowest.
+    pub interrupts: u8,
+    /// The escalation lines, line 0 lowest.
+    pub lines: u8,
+    /// The acknowledge pairs of the alerts.
+    pub acknowledge: Pairs,
+    /// The ping pairs of the alerts.
+    pub ping: Pairs,
+}
+
+impl Ticked {
+    /// What a word of a trace holds of the tick.
+    pub fn outcome(&self) -> Outcome {
+        Outcome {
+            answer: self.answer,
+            interrupts: self.interrupts,
+            lines: self.lines,
+        }
+    }
+}
+
+/// What a word of a trace holds of a tick: all but the pairs, which a batch
+/// therefore does not build.
+#[derive(Clone, Copy, Debug, PartialEq, Eq)]
+pub struct Outcome {
     /// The access's value, or minus its refusal number.
     pub answer: i64,
     /// The interrupts, class 0 lowest.
@@ -97,8 +125,8 @@ pub struct Handler {
     pub locals: [Source; LOCALS],
     /// The alerts; entries at N and above are no registers.
     pub alerts: [Source; MAX_ALERTS],
-    /// Which alerts are re-armed.
-    pub armed: [bool; MAX_ALERTS],
+    /// The receiver of each alert; those at N and above receive nothing.
+    pub receivers: [Receiver; MAX_ALERTS],
     /// The four classes.
     pub classes: [Class; CLASSES],
     /// The values that wait for a second write.
@@ -116,7 +144,7 @@ impl Handler {
             intr_enable: 0,
             locals: [Source::new(); LOCALS],
             alerts: [Source::new(); MAX_ALERTS],
-            armed: [true; MAX_ALERTS],
+            receivers: [Receiver::new(); MAX_ALERTS],
             classes: [Class::new(); CLASSES],
             stages: Stages::new(),
         };
@@ -153,23 +181,36 @@ impl Handler {
         self.stages.valid(self.n as usize)
     }
 
-    /// Runs one tick with the positive wires `pos` and the negative `neg`. A
-    /// broken state answers -7 and stays as it is.
-    pub fn tick(&mut self, access: Access, pos: &Wires, neg: &Wires) -> Ticked {
+    /// Runs one tick. A broken state answers -7 and stays as it is, with every
+    /// pair at (0,1) whatever the receivers hold.
+    pub fn tick(&mut self, access: Access, sample: &Sample) -> Ticked {
         if !self.valid() {
             return Ticked {
                 answer: Refusal::BrokenState.answer(),
                 interrupts: 0,
                 lines: 0,
+                acknowledge: Pairs::at_rest(),
+                ping: Pairs::at_rest(),
             };
         }
-        self.run(access, pos, neg)
+        // What this tick's wires change is acknowledged in the next tick, but
+        // the ping that this tick asks for shows at once.
+        let acknowledge = self.pairs(Receiver::acknowledges);
+        let outcome = self.run(access, sample);
+        Ticked {
+            answer: outcome.answer,
+            interrupts: outcome.interrupts,
+            lines: outcome.lines,
+            acknowledge,
+            ping: self.pairs(|receiver| receiver.ping),
+        }
     }
 
-    /// Runs one tick on a state known to be valid.
-    pub(crate) fn run(&mut self, access: Access, pos: &Wires, neg: &Wires) -> Ticked {
+    /// Runs one tick on a state known to be valid, without its pairs.
+    pub(crate) fn run(&mut self, access: Access, sample: &Sample) -> Outcome {
         let (answer, cleared) = self.access(access);
-        let mut assigned = self.sample(pos, neg);
+        self.ask(&sample.asks);
+        let mut assigned = self.sample(&sample.pos, &sample.neg);
         if answer == Refusal::StageDiffers.answer() {
             self.occur(SHADOW_UPDATE, &mut assigned);
         }
@@ -184,10 +225,23 @@ impl Handler {
             let trigger = class.accumulate(event, clear);
             class.advance(trigger, self.intr_state & bit != 0, clear);
         }
-        Ticked {
+        Outcome {
             answer,
             interrupts: self.intr_state & self.intr_enable,
             lines: self.lines(),
+        }
+    }
+
+    /// Opens the pings asked for, before this tick's wires are read.
+    fn ask(&mut self, asks: &Wires) {
+        // Most ticks ask for none, those of a batch never do.
+        if *asks == [0; 4] {
+            return;
+        }
+        for i in 0..self.n as usize {
+            if wire(asks, i) {
+                self.receivers[i].ask();
+            }
         }
     }
 
@@ -200,23 +254,29 @@ impl Handler {
             let p = wire(pos, i);
             let n = wire(neg, i);
             let alert = &mut self.alerts[i];
-            if p == n {
-                equal |= alert.en == 1;
-            } else if n {
-                self.armed[i] = true;
-            } else if self.armed[i] {
-                // A disabled alert's event disarms too, but sets no cause.
-                self.armed[i] = false;
-                if alert.en == 1 {
-                    alert.cause = 1;
-                    assigned[usize::from(alert.class)] = true;
-                }
+            equal |= p == n && alert.en == 1;
+            // A disabled alert's handshake runs too, but sets no cause.
+            if self.receivers[i].read(p, n) && alert.en == 1 {
+                alert.cause = 1;
+                assigned[usize::from(alert.class)] = true;
             }
         }
         if equal {
             self.occur(ALERT_INTEGRITY, &mut assigned);
         }
         assigned
+    }
+
+    /// The pairs that are (1,0) for the receivers named by `high`; those at N
+    /// and above are (0,1) whatever is stored there.
+    fn pairs(&self, high: impl Fn(&Receiver) -> bool) -> Pairs {
+        let mut pairs = Pairs::at_rest();
+        for (i, receiver) in self.receivers[..self.n as usize].iter().enumerate() {
+            if high(receiver) {
+                pairs.raise(i);
+            }
+        }
+        pairs
     }
 
     /// Local alert j has a reason to occur. It does if its EN is 1 after step 1;

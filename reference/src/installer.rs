@@ -4,14 +4,10 @@
 use crate::answer::Refusal;
 use crate::handler::{Access, Handler, CLASSES};
 use crate::policy::{Lifecycle, Mark, CLASSIFICATION, SETTINGS};
-use crate::wires::Wires;
+use crate::wires::Sample;
 
 /// The alerts that the policy names, and the fewest that a boot needs.
 pub const ALERTS: usize = CLASSIFICATION.len();
-/// Every alert at (0,1): the positive wires.
-pub const POSITIVE: Wires = [0; 4];
-/// Every alert at (0,1): the negative wires.
-pub const NEGATIVE: Wires = [u64::MAX; 4];
 
 /// REGWEN, EN and CLASS of alert 0; alert i is i numbers further.
 const REGWEN: u16 = 256;
@@ -72,8 +68,9 @@ pub fn install(mut handler: Handler, lifecycle: u8) -> Installed {
     } else if handler.n < ALERTS as u64 {
         (Refusal::TooFewAlerts.answer(), 0)
     } else {
+        // All wires are at (0,1), and no ping is asked for.
         boot(lifecycle, |access| {
-            handler.tick(access, &POSITIVE, &NEGATIVE).answer
+            handler.tick(access, &Sample::at_rest()).answer
         })
     };
     Installed {

@@ -2,7 +2,8 @@
 //!
 //! Written from the paper "The product to build and its rules" and the change
 //! requests that have landed, alone. One register access and one wire sample
-//! go in; an answer, four interrupts and four escalation lines come out.
+//! go in; an answer, four interrupts, four escalation lines and the acknowledge
+//! and ping pairs of the alerts come out.
 
 mod access;
 pub mod answer;
@@ -12,6 +13,7 @@ pub mod edition;
 pub mod handler;
 pub mod installer;
 pub mod policy;
+pub mod receiver;
 pub mod register;
 pub mod stages;
 pub mod trace;
@@ -22,9 +24,10 @@ pub use answer::Refusal;
 pub use carried::carried;
 pub use class::Class;
 pub use edition::Edition;
-pub use handler::{Access, Handler, Source, Ticked};
+pub use handler::{Access, Handler, Outcome, Source, Ticked};
 pub use installer::{install, Installed};
+pub use receiver::{Place, Receiver};
 pub use stages::Stages;
 pub use trace::batch;
-pub use wires::Wires;
+pub use wires::{Pairs, Sample, Wires};
 pub use writer::record;

@@ -3,8 +3,8 @@
 use crate::answer::{refusal_number, value, Refusal};
 use crate::carried::carried;
 use crate::edition::Edition;
-use crate::handler::{Access, Handler, Ticked};
-use crate::wires::{from_bytes, Wires};
+use crate::handler::{Access, Handler, Outcome};
+use crate::wires::{from_bytes, Sample, Wires};
 
 /// Takes a record apart into its access, positive wires and negative wires.
 /// `record` is the `edition.bytes()` bytes of one record. The access has
@@ -47,11 +47,11 @@ fn number(bytes: &[u8]) -> u32 {
 }
 
 /// Packs what a tick gave: interrupts, lines, refusal number, 20 zeros, value.
-pub fn word(ticked: &Ticked) -> u64 {
-    (first_highest(ticked.interrupts) << 60)
-        | (first_highest(ticked.lines) << 56)
-        | (refusal_number(ticked.answer) << 52)
-        | value(ticked.answer)
+pub fn word(outcome: &Outcome) -> u64 {
+    (first_highest(outcome.interrupts) << 60)
+        | (first_highest(outcome.lines) << 56)
+        | (refusal_number(outcome.answer) << 52)
+        | value(outcome.answer)
 }
 
 /// In a word bit 0 comes first, so it is the highest of the four.
@@ -79,8 +79,10 @@ pub fn batch(handler: &mut Handler, edition: Edition, bytes: &[u8], out: &mut [u
     }
     for (record, slot) in bytes.chunks_exact(edition.bytes()).zip(out.iter_mut()) {
         let (access, pos, neg) = parse(edition, record);
+        // A trace asks for no pings.
+        let asks = [0; 4];
         // Ticks keep a valid state valid, so it is judged once above.
-        *slot = word(&handler.run(access, &pos, &neg));
+        *slot = word(&handler.run(access, &Sample { pos, neg, asks }));
     }
     0
 }

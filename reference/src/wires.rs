@@ -1,4 +1,4 @@
-//! One wire set of a sample.
+//! Wire sets, the sample that goes into a tick, and the pairs that come out.
 
 /// A wire set as it is lent: 256 places, alert i at bit 63 - i % 64 of word
 /// i / 64. Places 248 to 255 are no wires; whatever they hold is left out.
@@ -6,6 +6,55 @@ pub type Wires = [u64; 4];
 
 /// The bytes that hold the 248 wires of a set, alert 0 first.
 pub const WIRE_BYTES: usize = 31;
+
+/// What a tick samples.
+#[derive(Clone, Copy, Debug, PartialEq, Eq)]
+pub struct Sample {
+    /// The positive wires.
+    pub pos: Wires,
+    /// The negative wires.
+    pub neg: Wires,
+    /// The alerts whose ping the caller asks for in this tick.
+    pub asks: Wires,
+}
+
+impl Sample {
+    /// Every alert at (0,1), and no ping asked for.
+    pub const fn at_rest() -> Sample {
+        Sample {
+            pos: [0; 4],
+            neg: [u64::MAX; 4],
+            asks: [0; 4],
+        }
+    }
+}
+
+/// One pair of wires to each alert. All 256 places hold a pair; those that
+/// are no alert's hold (0,1).
+#[derive(Clone, Copy, Debug, PartialEq, Eq)]
+pub struct Pairs {
+    /// The positive wires.
+    pub pos: Wires,
+    /// The negative wires.
+    pub neg: Wires,
+}
+
+impl Pairs {
+    /// Every pair at (0,1).
+    pub const fn at_rest() -> Pairs {
+        Pairs {
+            pos: [0; 4],
+            neg: [u64::MAX; 4],
+        }
+    }
+
+    /// Puts the pair of alert i at (1,0).
+    pub(crate) fn raise(&mut self, i: usize) {
+        let bit = 1 << (63 - i % 64);
+        self.pos[i / 64] |= bit;
+        self.neg[i / 64] &= !bit;
+    }
+}
 
 /// The wire of alert i.
 pub fn wire(wires: &Wires, i: usize) -> bool {

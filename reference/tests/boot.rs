@@ -7,7 +7,7 @@ use common::{new, raised, read, tick, write, Numbers, REST};
 use reference::class::{IDLE, PHASE0};
 use reference::installer::{self, accesses, steps};
 use reference::policy::CLASSIFICATION;
-use reference::{install, Access, Handler};
+use reference::{install, Access, Handler, Place, Receiver};
 
 #[test]
 fn the_table_s_ids_are_its_places() {
@@ -62,11 +62,30 @@ fn it_stops_at_any_other_answer() {
 
 #[test]
 fn all_wires_are_at_rest() {
+    // From every place of the handshake, (0,1) leads to Ready and stays there;
+    // a rise would answer the open ping, and asking would open or change one.
+    let places = [
+        Place::Ready,
+        Place::Acknowledged,
+        Place::FirstPause,
+        Place::SecondPause,
+    ];
+    let receiver = |i: usize| Receiver {
+        place: places[i % 4],
+        ping: i % 8 < 4,
+        open: i % 16 < 8,
+    };
     for n in [58, 248] {
         let mut h = new(n);
-        h.armed = [false; 248];
+        h.receivers = std::array::from_fn(receiver);
         let h = success(h, 1);
-        assert_eq!(h.armed, std::array::from_fn(|i| i < n as usize));
+        for (i, reached) in h.receivers.into_iter().enumerate() {
+            let mut expected = receiver(i);
+            if i < n as usize {
+                expected.place = Place::Ready;
+            }
+            assert_eq!(reached, expected, "N {n}, {i}");
+        }
     }
 }
 

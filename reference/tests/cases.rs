@@ -6,10 +6,10 @@
 mod common;
 
 use common::records::{Bench, EDITIONS};
-use common::{raised, ALERT0, REST};
+use common::{raised, sampled, ALERT0, REST};
 use reference::class::{IDLE, PHASE0, TERMINAL, TIMEOUT};
 use reference::trace::word;
-use reference::{Access, Ticked};
+use reference::{Access, Outcome, Receiver};
 
 /// A clear of class 0.
 const CLEAR: Access = Access::Write {
@@ -65,7 +65,7 @@ fn p5_third_event_exceeds_threshold_two() {
             assert_eq!(b.event().lines, 0);
             assert_eq!(b.stands(), (IDLE, 0));
             assert_eq!(b.h.classes[0].accum_cnt, count);
-            b.idle();
+            b.pause();
         }
         assert_eq!(b.event().lines, 1);
         assert_eq!(b.stands(), (PHASE0, 1));
@@ -174,12 +174,12 @@ fn p11_equal_wires() {
         for (register, value) in [(128, 1), (26, 1), (34, 1), (337, 0x393D)] {
             b.configure(register, value);
         }
-        b.tick(Access::None, ([u64::MAX; 4], [u64::MAX; 4]));
+        b.tick(Access::None, sampled([u64::MAX; 4], [u64::MAX; 4]));
+        assert_eq!(b.h.receivers[0], Receiver::new());
         assert_eq!(b.read(42), 1);
         assert_eq!(b.read(256), 0);
         assert_eq!(b.h.intr_state, 2);
         assert_eq!(b.h.classes[1].accum_cnt, 1);
-        assert!(b.h.armed[0]);
     }
 }
 
@@ -188,7 +188,7 @@ fn p12_interrupt_clear_with_event() {
     for edition in EDITIONS {
         let mut b = Bench::ready(edition, 1, 0x393D);
         b.event();
-        b.idle();
+        b.pause();
         let clear = Access::Write {
             register: 0,
             value: 1,
@@ -245,7 +245,7 @@ fn threshold_is_compared_before_counting() {
         b.configure(325, 1);
         b.event();
         assert_eq!((b.stands(), b.h.classes[0].accum_cnt), ((IDLE, 0), 1));
-        b.idle();
+        b.pause();
         b.event();
         assert_eq!((b.stands(), b.h.classes[0].accum_cnt), ((PHASE0, 1), 2));
     }
@@ -288,7 +288,7 @@ fn samples_count_when_the_access_is_refused() {
             assert_eq!(b.write(320, 0), 0);
             assert_eq!(b.write(1, 1), 0);
             assert_eq!(b.write(341, 7), 0);
-            let expected = Ticked {
+            let expected = Outcome {
                 answer,
                 interrupts: 1,
                 lines: 1,
@@ -302,7 +302,7 @@ fn samples_count_when_the_access_is_refused() {
 #[test]
 fn a_refusal_is_no_value() {
     let answered = |answer| {
-        word(&Ticked {
+        word(&Outcome {
             answer,
             interrupts: 0,
             lines: 0,

@@ -7,7 +7,7 @@ use common::shadowed::{held, open, stage};
 use common::{configure, new, read, write};
 use reference::class::PHASE3;
 use reference::installer::accesses;
-use reference::{install, Handler};
+use reference::{install, Handler, Place};
 
 /// Answer and register of a boot.
 fn stop(h: &Handler, lifecycle: u8) -> (i64, u16) {
@@ -246,8 +246,9 @@ fn no_threshold_is_too_silly_to_lock() {
 fn it_needs_58_alerts() {
     let none = Handler::new(0).0;
     for mut h in [none, new(1), new(2), new(56), new(57)] {
-        h.armed[0] = false;
         assert_eq!(write(&mut h, 1285, 9), 0);
+        // A tick at rest would move it on.
+        h.receivers[0].place = Place::Acknowledged;
         for lifecycle in 0..=255 {
             let installed = install(h.clone(), lifecycle);
             assert_eq!((installed.answer, installed.register), (-13, 0));
@@ -271,7 +272,7 @@ fn a_damaged_state_comes_before_all() {
     for n in [1, 57, 58, 248] {
         for damage in damages {
             let mut h = new(n);
-            h.armed[0] = false;
+            h.receivers[0].place = Place::Acknowledged;
             damage(&mut h);
             for lifecycle in 0..=255 {
                 let installed = install(h.clone(), lifecycle);

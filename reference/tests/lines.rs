@@ -2,9 +2,11 @@
 
 mod common;
 
-use common::{configure, event, idle, raised, read, ready, tick, write, Sample, ALERT0, REST};
+use common::{
+    configure, event, idle, pause, raised, read, ready, sampled, tick, write, ALERT0, REST,
+};
 use reference::class::{IDLE, PHASE0, TERMINAL, TIMEOUT};
-use reference::{Access, Handler};
+use reference::{Access, Handler, Place, Sample};
 
 /// EN without a line enable; the maps are at their reset value.
 const NO_LINES: u32 = 0x3901;
@@ -45,10 +47,11 @@ fn no_lines_no_event() {
             assert_eq!((ticked.interrupts, ticked.lines), (0, 0), "{ctrl:#x}");
             assert_eq!((h.intr_state, h.classes[0].accum_cnt), (0, accum));
             assert_eq!(stands(&h), (IDLE, 0));
-            // Step 2 reads no EN of a class: the alert came and is disarmed.
+            // Step 2 reads no EN of a class: the alert came and was taken.
             assert_eq!(h.alerts[0].cause, 1);
-            assert!(!h.armed[0]);
-            idle(&mut h);
+            assert_eq!(h.receivers[0].place, Place::Acknowledged);
+            assert_eq!(write(&mut h, 1024, 1), 0);
+            pause(&mut h);
         }
         assert_eq!(read(&mut h, 1281), i64::from(ctrl));
     }
@@ -58,7 +61,7 @@ fn no_lines_no_event() {
 fn no_lines_no_event_of_equal_wires() {
     let mut h = ready(1, NO_LINES);
     configure(&mut h, 26, 1);
-    tick(&mut h, Access::None, ([0; 4], [0; 4]));
+    tick(&mut h, Access::None, sampled([0; 4], [0; 4]));
     assert_eq!(h.locals[2].cause, 1);
     assert_eq!((h.intr_state, h.classes[0].accum_cnt), (0, 0));
     assert_eq!(stands(&h), (IDLE, 0));
@@ -123,26 +126,24 @@ fn a_timeout_without_lines_falls_back() {
 #[test]
 fn a_running_phase_goes_on_without_lines() {
     let mut h = ready(1, ALL_LINES);
-    h.classes[0].phase_cyc = [3; 4];
+    h.classes[0].phase_cyc = [6; 4];
     stage_ctrl(&mut h, NO_LINES);
     event(&mut h);
     assert_eq!(set_ctrl(&mut h, NO_LINES, REST), 0);
-    for p in 0..4 {
-        // Phase 0 has had two of its three ticks.
-        for count in if p == 0 { 3..=3 } else { 1..=3 } {
-            let ticked = if count == 2 {
-                idle(&mut h)
-            } else {
-                event(&mut h)
-            };
-            assert_eq!(stands(&h), (PHASE0 + p, count));
-            assert_eq!(ticked.lines, 0);
-            // Its events are no events any more, so nothing is counted.
-            assert_eq!(h.classes[0].accum_cnt, 1);
-        }
+    // Phase 0 has had two of its six ticks. Every fourth tick has a rise that
+    // is taken, so each phase has one at least.
+    for now in 2..24u8 {
+        let rises = now % 4 == 0;
+        let ticked = if rises { event(&mut h) } else { idle(&mut h) };
+        assert_eq!(stands(&h), (PHASE0 + now / 6, u32::from(now % 6) + 1));
+        assert_eq!(ticked.lines, 0);
+        assert_eq!(h.receivers[0].place == Place::Acknowledged, rises);
+        // Its events are no events any more, so nothing is counted.
+        assert_eq!(h.classes[0].accum_cnt, 1);
     }
     event(&mut h);
-    assert_eq!(stands(&h), (TERMINAL, 0));
+    assert_eq!(h.receivers[0].place, Place::Acknowledged);
+    assert_eq!((stands(&h), h.classes[0].accum_cnt), ((TERMINAL, 0), 1));
     assert_eq!(write(&mut h, 1283, 1), 0);
     assert_eq!((stands(&h), h.classes[0].accum_cnt), ((IDLE, 0), 0));
 }
@@ -167,7 +168,7 @@ fn each_line_enable_alone_is_enough() {
         event(&mut h);
         assert_eq!((h.intr_state, h.classes[0].accum_cnt), (1, 1), "line {e}");
         assert_eq!(stands(&h), (IDLE, 0));
-        idle(&mut h);
+        pause(&mut h);
         // At reset line e is in Phase e.
         assert_eq!(event(&mut h).lines, u8::from(e == 0));
         assert_eq!(stands(&h), (PHASE0, 1));

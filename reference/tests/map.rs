@@ -6,7 +6,7 @@ mod common;
 use common::records::{record, renumbered, unpack};
 use common::{configure, new, raised, read, ready, tick, write, COUNTS, REST};
 use reference::handler::MAX_ALERTS;
-use reference::{batch, carried, Access, Edition, Handler};
+use reference::{batch, carried, Access, Edition, Handler, Place, Receiver};
 
 /// The four alert blocks, today's and the first map's.
 const BLOCKS: [u16; 4] = [256, 512, 768, 1024];
@@ -219,12 +219,17 @@ fn a_new_handler_has_248_entries_at_reset() {
     for n in COUNTS {
         let h = new(n);
         assert_eq!(h.n, n);
-        assert_eq!((h.alerts.len(), h.armed.len(), MAX_ALERTS), (248, 248, 248));
+        assert_eq!((h.alerts.len(), h.receivers.len()), (248, MAX_ALERTS));
         for i in 0..248 {
             let alert = h.alerts[i];
             let stored = [alert.regwen, alert.en, alert.class, alert.cause];
             assert_eq!(stored, [1, 0, 0, 0]);
-            assert!(h.armed[i]);
+            let ready = Receiver {
+                place: Place::Ready,
+                ping: false,
+                open: false,
+            };
+            assert_eq!(h.receivers[i], ready);
             assert_eq!((h.stages.alerts.en[i], h.stages.alerts.class[i]), (0, 0));
         }
     }

@@ -3,14 +3,14 @@
 mod common;
 
 use common::records::unpack;
-use common::{ready, tick, with, Numbers, Sample, COUNTS, REST};
+use common::{ready, sampled, tick, with, Numbers, COUNTS, REST};
 use reference::trace::parse;
 use reference::wires::{from_bytes, to_bytes, wire};
-use reference::{batch, record, Access, Edition, Wires};
+use reference::{batch, record, Access, Edition, Sample, Wires};
 
 /// The sample with the last eight places of each set as given.
 fn places(mut sample: Sample, positive: u8, negative: u8) -> Sample {
-    for (set, held) in [(&mut sample.0, positive), (&mut sample.1, negative)] {
+    for (set, held) in [(&mut sample.pos, positive), (&mut sample.neg, negative)] {
         set[3] = (set[3] & !0xFF) | u64::from(held);
     }
     sample
@@ -37,7 +37,7 @@ fn pairs(positive: &Wires, negative: &Wires) -> Vec<(bool, bool)> {
 /// Writes a read of CTRL with this sample.
 fn written(sample: Sample) -> [u8; 70] {
     let mut out = [0x5A; 70];
-    let answer = record(&[1], &[1281], &[0], &[sample.0], &[sample.1], &mut out);
+    let answer = record(&[1], &[1281], &[0], &[sample.pos], &[sample.neg], &mut out);
     assert_eq!(answer, 70);
     out
 }
@@ -47,8 +47,8 @@ fn each_place_has_its_bit() {
     for i in 0..256 {
         let mut expected = [0; 4];
         expected[i / 64] = 1 << (63 - i % 64);
-        let sample = with(([0; 4], [0; 4]), i, (1, 0));
-        assert_eq!(sample.0, expected);
+        let sample = with(sampled([0; 4], [0; 4]), i, (1, 0));
+        assert_eq!(sample.pos, expected);
         for at in 0..248 {
             assert_eq!(wire(&expected, at), at == i);
         }
@@ -66,16 +66,20 @@ fn a_tick_does_not_look_at_them() {
     let mut numbers = Numbers(21);
     for n in COUNTS {
         for _ in 0..50 {
-            let sample = (numbers.wires(), numbers.wires());
+            let sample = numbers.sample();
             let mut start = ready(n, 0x393D);
             start.locals[2].en = 1;
             let mut plain = start.clone();
             let ticked = tick(&mut plain, Access::None, places(sample, 0, 0));
             for (positive, negative) in HELD {
-                let mut h = start.clone();
-                let sample = places(sample, positive, negative);
-                assert_eq!(tick(&mut h, Access::None, sample), ticked);
-                assert_eq!(h, plain, "N {n}");
+                // A ping that is asked for there is asked for of nobody.
+                for asks in [0, positive, negative, 0xFF] {
+                    let mut h = start.clone();
+                    let mut sample = places(sample, positive, negative);
+                    sample.asks[3] |= u64::from(asks);
+                    assert_eq!(tick(&mut h, Access::None, sample), ticked);
+                    assert_eq!(h, plain, "N {n}");
+                }
             }
         }
     }
@@ -97,7 +101,7 @@ fn they_are_no_equal_wires_and_no_event() {
 fn the_writer_leaves_them_out() {
     let mut numbers = Numbers(22);
     for _ in 0..200 {
-        let sample = (numbers.wires(), numbers.wires());
+        let sample = numbers.sample();
         let plain = written(places(sample, 0, 0));
         for (positive, negative) in HELD {
             let lent = places(sample, positive, negative);
@@ -105,7 +109,7 @@ fn the_writer_leaves_them_out() {
             assert_eq!(bytes, plain);
             let read = parse(Edition::Second, &bytes);
             assert_eq!(read.0, Access::Read { register: 1281 });
-            assert_eq!(pairs(&read.1, &read.2), pairs(&lent.0, &lent.1));
+            assert_eq!(pairs(&read.1, &read.2), pairs(&lent.pos, &lent.neg));
         }
     }
 }
@@ -117,11 +121,11 @@ fn a_written_tick_is_the_lent_tick() {
     let access = Access::Read { register: 1281 };
     for _ in 0..500 {
         // With all its places as they come.
-        let sample = (numbers.wires(), numbers.wires());
+        let sample = numbers.sample();
         let mut out = [0];
         let bytes = written(sample);
         assert_eq!(batch(&mut replayed, Edition::Second, &bytes, &mut out), 0);
-        assert_eq!(unpack(out[0]), tick(&mut lent, access, sample));
+        assert_eq!(unpack(out[0]), tick(&mut lent, access, sample).outcome());
         assert_eq!(lent, replayed);
     }
 }

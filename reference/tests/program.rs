@@ -3,7 +3,7 @@
 mod common;
 
 use common::records::{pack, record, EDITIONS};
-use common::{with, REST};
+use common::{sampled, with, REST};
 use reference::{Access, Edition};
 use std::io::Write;
 use std::process::{Command, Stdio};
@@ -37,7 +37,7 @@ fn opening(edition: Edition, n: u8) -> Vec<u8> {
 
 #[test]
 fn the_papers_words() {
-    let wires = ([0; 4], [1 << 63, 0, 0, 0]);
+    let wires = sampled([0; 4], [1 << 63, 0, 0, 0]);
     let heads = [
         (Edition::First, [0x5410_0000, 0xBFF0_0000]),
         (Edition::Second, [0x6808_0000, 0xBFF8_0000]),

@@ -170,8 +170,7 @@ fn no_stage_reaches_a_locked_register() {
         let mut fixed = BTreeMap::new();
         for _ in 0..100 {
             let access = access(&rows, &mut numbers);
-            let sample = (numbers.wires(), numbers.wires());
-            tick(&mut h, access, sample);
+            tick(&mut h, access, numbers.sample());
             for (number, _) in &rows {
                 let value = held(&h, *number);
                 if held(&h, guard(*number)) == 0 {

@@ -4,12 +4,13 @@
 mod common;
 
 use common::{
-    configure, event, idle, new, raised, read, ready, tick, with, write, ALERT0, COUNTS, REST,
+    asking, configure, event, idle, new, pause, raised, read, ready, sampled, tick, with, write,
+    ALERT0, COUNTS, REST,
 };
 use reference::class::{IDLE, PHASE0, TERMINAL, TIMEOUT};
 use reference::handler::MAX_ALERTS;
 use reference::trace::word;
-use reference::{batch, Access, Edition, Handler, Source, Ticked};
+use reference::{batch, Access, Edition, Handler, Outcome, Pairs, Place, Receiver, Source, Ticked};
 
 // Registers
 
@@ -74,7 +75,10 @@ fn a_cause_clears_by_a_one_but_an_event_sets_it_again() {
     let mut h = ready(1, 0x393C);
     event(&mut h);
     assert_eq!(write(&mut h, 1024, 0), 0);
-    assert_eq!(read(&mut h, 1024), 1);
+    // The alert dropped with the write; these are the two ticks of pause.
+    for _ in 0..2 {
+        assert_eq!(read(&mut h, 1024), 1);
+    }
     let clear = Access::Write {
         register: 1024,
         value: 1,
@@ -90,24 +94,32 @@ fn a_cause_clears_by_a_one_but_an_event_sets_it_again() {
 // Samples and classes
 
 #[test]
-fn an_alert_must_rearm() {
+fn an_alert_must_drop_and_pause() {
     let mut h = ready(1, 0x393D);
     h.classes[0].accum_thresh = 9;
     event(&mut h);
     event(&mut h);
-    tick(&mut h, Access::None, ([0; 4], [0; 4]));
+    tick(&mut h, Access::None, sampled([0; 4], [0; 4]));
     event(&mut h);
     assert_eq!(h.classes[0].accum_cnt, 1);
+    // Dropped, but a rise of one tick in the pause is lost.
     idle(&mut h);
     event(&mut h);
+    idle(&mut h);
+    idle(&mut h);
+    assert_eq!(h.classes[0].accum_cnt, 1);
+    event(&mut h);
     assert_eq!(h.classes[0].accum_cnt, 2);
+    pause(&mut h);
+    event(&mut h);
+    assert_eq!(h.classes[0].accum_cnt, 3);
 }
 
 #[test]
-fn a_disabled_alert_disarms_without_a_cause() {
+fn a_disabled_alert_is_taken_without_a_cause() {
     let mut h = new(1);
     event(&mut h);
-    assert!(!h.armed[0]);
+    assert_eq!(h.receivers[0].place, Place::Acknowledged);
     // Enabled in the second of these ticks, but the event is over.
     let enable = Access::Write {
         register: 512,
@@ -130,7 +142,11 @@ fn entries_and_samples_at_n_and_above_count_for_nothing() {
                 class: 200,
                 cause: 9,
             };
-            h.armed[i] = i % 2 == 0;
+            h.receivers[i] = Receiver {
+                place: [Place::Acknowledged, Place::FirstPause][i % 2],
+                ping: true,
+                open: i % 3 == 0,
+            };
             h.stages.alerts.en[i] = 200;
             h.stages.alerts.class[i] = 100;
         }
@@ -138,8 +154,14 @@ fn entries_and_samples_at_n_and_above_count_for_nothing() {
         let before = h.clone();
         for pair in [(1, 0), (0, 1), (0, 0), (1, 1)] {
             let sample = (n as usize..256).fold(REST, |sample, i| with(sample, i, pair));
-            assert_eq!(tick(&mut h, Access::None, sample).answer, 0);
-            assert_eq!(h, before, "N {n}, {pair:?}");
+            let all: Vec<usize> = (n as usize..256).collect();
+            for sample in [sample, asking(sample, &all)] {
+                let ticked = tick(&mut h, Access::None, sample);
+                let rest = Pairs::at_rest();
+                assert_eq!(ticked.answer, 0);
+                assert_eq!((ticked.acknowledge, ticked.ping), (rest, rest));
+                assert_eq!(h, before, "N {n}, {pair:?}");
+            }
         }
     }
 }
@@ -167,8 +189,8 @@ fn a_phase_does_not_read_en() {
         value: 0x393C,
     };
     assert_eq!(
-        tick(&mut h, off, REST),
-        Ticked {
+        tick(&mut h, off, REST).outcome(),
+        Outcome {
             answer: 0,
             interrupts: 0,
             lines: 1
@@ -185,10 +207,10 @@ fn two_classes_share_the_lines() {
     // Class 3: line 3 only, in Phase 0.
     configure(&mut h, 1329, 0x0021);
     assert_eq!(write(&mut h, 1, 8), 0);
-    let ticked = tick(&mut h, Access::None, raised(&[0, 1]));
+    let ticked = tick(&mut h, Access::None, raised(&[0, 1])).outcome();
     assert_eq!(
         ticked,
-        Ticked {
+        Outcome {
             answer: 0,
             interrupts: 8,
             lines: 9
@@ -248,6 +270,8 @@ fn damaged_states_are_refused() {
             answer: -7,
             interrupts: 0,
             lines: 0,
+            acknowledge: Pairs::at_rest(),
+            ping: Pairs::at_rest(),
         };
         assert_eq!(tick(&mut h, Access::Malformed, ALERT0), refused);
         let mut out = [7];

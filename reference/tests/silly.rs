@@ -4,7 +4,9 @@ mod common;
 
 use common::records::{Bench, EDITIONS};
 use common::shadowed::{held, stage_all};
-use common::{configure, event, idle, new, read, ready, tick, write, Numbers, ALERT0, REST};
+use common::{
+    configure, event, new, pause, read, ready, sampled, tick, write, Numbers, ALERT0, REST,
+};
 use reference::class::{IDLE, PHASE0};
 use reference::{Access, Handler, Stages};
 
@@ -157,12 +159,16 @@ fn it_is_as_no_access_in_its_tick() {
         let positive = numbers.wires();
         let mut negative = positive.map(|word| !word);
         negative[1] ^= u64::from(numbers.below(20) == 0) << 9;
+        let mut sample = sampled(positive, negative);
+        sample.asks[2] = numbers.next() & numbers.next();
         let mut plain = h.clone();
-        let expected = tick(&mut plain, Access::None, (positive, negative));
-        let ticked = tick(&mut h, lock, (positive, negative));
+        let expected = tick(&mut plain, Access::None, sample);
+        let ticked = tick(&mut h, lock, sample);
         assert_eq!((expected.answer, ticked.answer), (0, -14));
         assert_eq!(ticked.interrupts, expected.interrupts);
         assert_eq!(ticked.lines, expected.lines);
+        assert_eq!(ticked.acknowledge, expected.acknowledge);
+        assert_eq!(ticked.ping, expected.ping);
         assert_eq!(h, plain);
         if numbers.below(30) == 0 {
             write(&mut h, 0, 15);
@@ -227,7 +233,7 @@ fn the_highest_threshold_that_can_be_locked_starts_at_the_65535th_event() {
     assert_eq!(write(&mut h, 1280, 0), 0);
     for _ in 0..65534 {
         event(&mut h);
-        idle(&mut h);
+        pause(&mut h);
     }
     assert_eq!((h.classes[0].state, h.classes[0].accum_cnt), (IDLE, 65534));
     event(&mut h);

@@ -5,7 +5,7 @@ mod common;
 
 use common::records::{record, Bench, EDITIONS};
 use common::shadowed::{held, open, shadowed, stage, stage_all};
-use common::{configure, idle, new, read, ready, tick, write, Numbers, ALERT0, REST};
+use common::{configure, idle, new, read, ready, sampled, tick, write, Numbers, ALERT0, REST};
 use reference::class::IDLE;
 use reference::{batch, Access, Edition, Stages};
 
@@ -136,7 +136,7 @@ fn a_stage_waits_over_ticks_and_other_accesses() {
                 value: numbers.below(3) as u32,
             },
         };
-        tick(&mut h, access, (numbers.wires(), numbers.wires()));
+        tick(&mut h, access, numbers.sample());
         assert_eq!(h.stages, stages);
     }
     let mut out = [0; 3];
@@ -227,7 +227,8 @@ fn a_staged_value_acts_on_nothing() {
             let positive = numbers.wires();
             let mut negative = positive.map(|word| !word);
             negative[0] ^= u64::from(numbers.below(20) == 0) << 63;
-            let sample = (positive, negative);
+            let mut sample = sampled(positive, negative);
+            sample.asks[0] = numbers.next() & numbers.next();
             assert_eq!(
                 tick(&mut plain, access, sample),
                 tick(&mut staged, access, sample)

@@ -3,13 +3,13 @@
 mod common;
 
 use common::records::{pack, record, renumbered, unpack, EDITIONS};
-use common::{new, ready, with, Numbers, Sample, ALERT0, COUNTS, REST};
+use common::{new, ready, sampled, with, Numbers, ALERT0, COUNTS, PAUSE, REST};
 use reference::trace::parse;
-use reference::{batch, Access, Edition, Handler};
+use reference::{batch, Access, Edition, Handler, Place, Sample};
 
 /// The wires that a record of the edition has of a sample.
 fn wires_in(edition: Edition, mut sample: Sample) -> Sample {
-    for set in [&mut sample.0, &mut sample.1] {
+    for set in [&mut sample.pos, &mut sample.neg] {
         match edition {
             Edition::First => set[1..].fill(0),
             Edition::Second => set[3] &= !0xFF,
@@ -36,10 +36,10 @@ type Row = (u32, u32, Access);
 fn check_rows(edition: Edition, rows: &[Row]) {
     let mut numbers = Numbers(5);
     for (head, value, access) in rows {
-        let sample = (numbers.wires(), numbers.wires());
-        let (positive, negative) = wires_in(edition, sample);
+        let sample = numbers.sample();
+        let Sample { pos, neg, .. } = wires_in(edition, sample);
         let parsed = parse(edition, &pack(edition, *head, *value, sample));
-        assert_eq!(parsed, (*access, positive, negative), "{head:#x}");
+        assert_eq!(parsed, (*access, pos, neg), "{head:#x}");
     }
 }
 
@@ -129,11 +129,13 @@ fn each_wire_is_one_alerts() {
                 assert_eq!(alert.cause, u8::from(at == i), "alert {at}, wire {i}");
                 alert.cause = 0;
             }
-            for (at, armed) in h.armed.iter().enumerate() {
-                assert_eq!(*armed, at != i);
+            for (at, receiver) in h.receivers.iter().enumerate() {
+                let taken = receiver.place == Place::Acknowledged;
+                assert_eq!(taken, at == i);
+                assert_eq!(receiver.place == Place::Ready, at != i);
             }
-            let rest = record(edition, Access::None, REST);
-            assert_eq!(batch(&mut h, edition, &rest, &mut out), 0);
+            let rest = record(edition, Access::None, REST).repeat(PAUSE);
+            assert_eq!(batch(&mut h, edition, &rest, &mut [0; PAUSE]), 0);
         }
     }
 }
@@ -222,7 +224,7 @@ fn a_first_batch_is_refused_by_more_than_64_alerts() {
         // The same state takes ticks and a batch of the second edition.
         assert_eq!(batch(&mut h, Edition::Second, &[], &mut []), 0);
         assert_eq!(batch(&mut h, Edition::Second, &[0; 70], &mut out), 0);
-        assert_eq!(h.tick(Access::None, &REST.0, &REST.1).answer, 0);
+        assert_eq!(h.tick(Access::None, &REST).answer, 0);
     }
     for n in [1, 63, 64] {
         assert_eq!(batch(&mut new(n), Edition::First, &bytes, &mut [0; 2]), 0);
@@ -251,7 +253,7 @@ fn fields(numbers: &mut Numbers) -> (Access, Sample) {
     if numbers.below(4) == 0 {
         negative[0] ^= 1 << numbers.below(64);
     }
-    (access, (positive, negative))
+    (access, sampled(positive, negative))
 }
 
 /// The access with its number carried by hand; 333 and the like, unassigned

@@ -3,11 +3,9 @@
 mod common;
 
 use common::shadowed::{guard, held, open, shadowed};
-use common::{
-    configure, event, idle, new, raised, read, ready, tick, with, write, Sample, ALERT0, REST,
-};
+use common::{configure, event, idle, new, raised, read, ready, tick, with, write, ALERT0, REST};
 use reference::class::{IDLE, PHASE0, TIMEOUT};
-use reference::{Access, Handler, Ticked};
+use reference::{Access, Handler, Place, Sample, Ticked};
 
 /// Local 5's EN, CLASS and CAUSE.
 const EN: u16 = 29;
@@ -148,7 +146,7 @@ fn the_samples_of_the_refused_tick_count() {
     // Class 1 is off, so only the alert starts a class.
     assert_eq!((h.alerts[0].cause, h.locals[5].cause), (1, 1));
     assert_eq!((h.intr_state, h.classes[0].state), (1, PHASE0));
-    assert!(!h.armed[0]);
+    assert_eq!(h.receivers[0].place, Place::Acknowledged);
 }
 
 // It does not occur

@@ -18,6 +18,8 @@ use Rattle.trace_rules.specs.declared.Edition.{Edition}
 use Rattle.rules.specs.declared.Handler.{Handler}
 use Rattle.rules.specs.declared.Input.{Input}
 use Rattle.rules.specs.declared.Ticked.{Ticked}
+use Rattle.handler.specs.Answered.{steppedOf}
+use Rattle.handler.specs.declared.tick.Stepped.{Stepped}
 use Rattle.trace_rules.specs.Word.{wordBy, wordOf}
 use Rattle.laws.proofs.Valid.KeepsValid.{run-valid}
 use Rattle.trace_laws.proofs.PartLaws.{some-bytes, part-within}
@@ -102,12 +104,14 @@ module _ (h : Handler) (xs : List Input) (old : List ℕ) (v : valid h ≡ true)
 
 -- record i, its tick and its word
 module _ (e : Edition) (h : Handler) (bytes old : List ℕ) (v : valid h ≡ true) (g : Handler) (out : List ℕ) (i : ℕ) (r : Running h (inputsOf e bytes) old g out i) (l : i < recordCount e bytes) (m : i < length old) where
-  pub next-record : (x : Input) (t : Ticked) (w : ℕ) → x ≡ inputOf e (recordAt e bytes i) → t ≡ tick g x → w ≡ wordBy (t .output .interrupts) (t .output .lines) (t .answer)
+  pub next-record : (x : Input) (t : Stepped) (w : ℕ) → x ≡ inputOf e (recordAt e bytes i) → t ≡ steppedOf (tick g x) → w ≡ wordBy (t .interrupts) (t .lines) (t .answer)
       → Running h (inputsOf e bytes) old (t .handler) (set out i w) (suc i)
   unfolding wordOf
   next-record x t w z f u =
-      let c : ticked g (getD (inputsOf e bytes) i x) ≡ t =
-      ap (ticked g) (input-at e bytes i x l ∙ sym z) ∙ ticked-good g x (still-valid h (inputsOf e bytes) old v g out i r) ∙ sym f in
+      let c : steppedOf (ticked g (getD (inputsOf e bytes) i x)) ≡ t =
+      ap (λ (y : Input). steppedOf (ticked g y)) (input-at e bytes i x l ∙ sym z)
+      ∙ ap (λ (d : Ticked). steppedOf d) (ticked-good g x (still-valid h (inputsOf e bytes) old v g out i r)) ∙ sym f in
       let a : i < length (inputsOf e bytes) = omega (arith, length-inputs e bytes) in
       subst (λ (n : ℕ). Running h (inputsOf e bytes) old (t .handler) (set out i n) (suc i)) (sym u)
-      (subst (λ (d : Ticked). Running h (inputsOf e bytes) old (d .handler) (set out i (wordOf d)) (suc i)) c (step h (inputsOf e bytes) old g out i x r a m))
+      (subst (λ (d : Stepped). Running h (inputsOf e bytes) old (d .handler) (set out i (wordBy (d .interrupts) (d .lines) (d .answer))) (suc i)) c
+      (step h (inputsOf e bytes) old g out i x r a m))

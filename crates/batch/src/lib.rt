@@ -60,7 +60,7 @@ fn run_records(edition: Edition, h: Handler, bytes: &[u8], out: &mut [u64], coun
         }
         let t = step(g, x);
         let answer = t.answer;
-        out[i] = word(t.output.interrupts, t.output.lines, answer);
+        out[i] = word(t.interrupts, t.lines, answer);
         g = t.handler;
         i += 1;
     }

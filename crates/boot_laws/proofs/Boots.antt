@@ -3,7 +3,6 @@
 use Prim.Native.Nat.{ℕ, _<_}
 use mathlib.Core.Path.{_≡_}
 use mathlib.Core.Bool.{true, false}
-use native.Mathlib.Omega.{arith}
 use borrow.Author.Tests.{lt-ltb}
 use lib.IntN.{negsuc}
 use lib.ListN.{replicate}
@@ -16,7 +15,7 @@ use Rattle.boot_laws.specs.Boots.{Boots, NewBoots}
 use Rattle.boot_laws.proofs.After.{boot-ran, boot-stands, boot-untouched, boot-eventless}
 use Rattle.boot_laws.proofs.AnyBoot.{boot-valid, boot-above}
 use Rattle.boot_laws.proofs.Boot.{boot-either, boot-succeeds, new-succeeds, went}
-use Rattle.boot_laws.proofs.Ready.{boot-arms}
+use Rattle.boot_laws.proofs.Receivers.{boot-linked, boot-ready, boot-rise, boot-new}
 use Rattle.boot_laws.proofs.Unlocked.{boot-unlocked}
 
 -- one that does not begin
@@ -42,7 +41,10 @@ boots l h =
       unlocked = boot-unlocked l h;
       keeps-valid = boot-valid l h;
       keeps-above = boot-above l h;
+      linked = boot-linked l h;
+      ready = boot-ready l h;
+      first-rise = boot-rise l h;
     }
 
 pub new-boots : (l : Lifecycle) (n : ℕ) → NewBoots l n
-new-boots l n = record { new-succeeds = new-succeeds l n; arms = λ i b m. boot-arms l n i (omega arith) m b }
+new-boots l n = record { new-succeeds = new-succeeds l n; receivers = boot-new l n }

@@ -14,6 +14,7 @@ pub mod LockBootExamples
 pub mod AnyBoot
 pub mod Unlocked
 pub mod Course
+pub mod Receivers
 pub mod Ready
 pub mod StaysIdle
 pub mod Boots

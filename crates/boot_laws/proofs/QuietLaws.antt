@@ -82,12 +82,12 @@ module _ (h : Handler) (a : Ask) (t : valid h ≡ true) (w : wants h a ≡ true)
   unfolding hears
   boot-locals =
       none-occurs g (inputOf a .sample) (effects h (a .access)) (facts g (acted-valid h (a .access) t) .n)
-      (accepted-raises h (a .access) (wants-accepted h a t w)) (none-broken g (inputOf a .sample .alerts) (at-rest (a .access)))
+      (accepted-raises h (a .access) (wants-accepted h a t w)) (none-broken g (inputOf a .sample .asks) (inputOf a .sample .alerts) (at-rest (a .access)))
 
   -- and no alert has an event
   boot-alerts : (i : ℕ) → i < most → alertEvent g (hears h (inputOf a)) i ≡ false
   unfolding hears
-  boot-alerts i l = unheard g (inputOf a .sample) (effects h (a .access)) i l (none-happened g (inputOf a .sample .alerts) (at-rest (a .access)) i l)
+  boot-alerts i l = unheard g (inputOf a .sample) (effects h (a .access)) i l (none-happened g (inputOf a .sample .asks) (inputOf a .sample .alerts) (at-rest (a .access)) i l)
 
   boot-silent : Silent g (hears h (inputOf a))
   boot-silent = record { alerts = boot-alerts; locals = boot-locals }

@@ -2,14 +2,15 @@
 -- less, or asks for more (an alert or class left out, fewer states, a stop whose answers are not said), does not give it.
 -- Assumes nothing.
 use Prim.Native.Nat.{ℕ, _+_, _-_, _≤_, _<_}
-use mathlib.Core.Path.{_≡_, refl, ap, _∙_}
+use mathlib.Core.Path.{_≡_, refl, ap, ap₂, _∙_}
 use mathlib.Core.Logic.{_⊎_, inl, inr}
-use mathlib.Core.Bool.{Bool, true, false, _&&_}
+use mathlib.Core.Bool.{Bool, true, false, not, _&&_}
 use mathlib.Core.List.{List, map}
 use lib.Dec.{eqb}
 use lib.IntN.{pos, negsuc}
 use lib.ListN.{getD, length, take, replicate}
 use Rattle.bits.specs.Bits.{bit}
+use Rattle.bits.specs.Index.{placeIn}
 use Rattle.class_rules.specs.Class.{stateOf}
 use Rattle.class_rules.specs.Step.{starts}
 use Rattle.class_rules.specs.declared.ClassState.the-variants.{Idle}
@@ -19,11 +20,12 @@ use Rattle.laws.specs.Above.{SameAbove}
 use Rattle.laws.specs.Frame.{movesItself}
 use Rattle.laws.specs.InMap.{inMap}
 use Rattle.laws.specs.Quiet.{runs}
+use Rattle.link_rules.specs.declared.Handshake.the-variants.{Ready}
 use Rattle.rules.specs.Access.{value, clears, acted}
 use Rattle.rules.specs.Answer.{number}
 use Rattle.rules.specs.Run.{run, ticks}
 use Rattle.rules.specs.Stages.{stage}
-use Rattle.rules.specs.State.{armed, classAt, newHandler}
+use Rattle.rules.specs.State.{classAt, newHandler, receiver}
 use Rattle.rules.specs.Tick.{ticked, happensIn, signalsIn}
 use Rattle.rules.specs.Valid.{valid}
 use Rattle.class_rules.specs.declared.Class.{Class}
@@ -93,6 +95,13 @@ module _ (l : Lifecycle) (h : Handler) where
   still-valid : (valid h ≡ true → valid end ≡ true) × SameAbove h end
   still-valid = let b = boots l h in (b .keeps-valid, b .keeps-above)
 
+  -- ping pairs and open pings as before, and what is ready stays so
+  links-alone : (i : ℕ) → i < h .n
+      → (placeIn (end .links .receivers .level) i ≡ placeIn (h .links .receivers .level) i)
+      × (placeIn (end .links .receivers .pending) i ≡ placeIn (h .links .receivers .pending) i)
+      × (receiver h i .stands ≡ Ready → receiver end i .stands ≡ Ready)
+  links-alone i b = let k = boots l h .linked in (k .levels i b, k .pings i b, k .stays-ready i b)
+
 -- ── after register 0 and answer 0, from any state ──
 
 module _ (l : Lifecycle) (h : Handler) (r : boot l h .register ≡ 0) (a : boot l h .answer ≡ pos 0) where
@@ -154,6 +163,14 @@ module _ (l : Lifecycle) (h : Handler) (r : boot l h .register ≡ 0) (a : boot 
       × ((k : ℕ) → k < 4 → value g (Block AccumCnt k) ≡ value h (Block AccumCnt k))
   no-event = let e = boots l h .eventless success in (e .values, e .interrupts, e .local-causes, e .causes, e .counts)
 
+  -- every receiver is ready, and takes a rise in the next tick
+  all-ready : (i : ℕ) → i < h .n → receiver g i .stands ≡ Ready
+  all-ready = boots l h .ready success
+
+  next-rise : (x : Input) (i : ℕ) → i < h .n → placeIn (x .sample .alerts .pos) i ≡ true → placeIn (x .sample .alerts .neg) i ≡ false
+      → placeIn (x .sample .asks) i ≡ false → placeIn (h .links .receivers .pending) i ≡ false → happensIn g x i ≡ true
+  next-rise x i b p m q o = boots l h .first-rise success x i b (ap₂ (λ (c d : Bool). c && not d) p m) o q
+
 -- ── where it stops: the state, the answer and the register, in the words of one tick ──
 
 module _ (l : Lifecycle) (h : Handler) (t : valid h ≡ true) (n : 58 ≤ h .n) where
@@ -196,8 +213,10 @@ new-goes : (l : Lifecycle) (n : ℕ) → 58 ≤ n → n ≤ 248
     → boot l (newHandler n) ≡ record { handler = run (newHandler n) (map (λ (x : Ask). rest (x .access)) (asks (planOf l))); answer = pos 0; register = 0; spare = replicate 6 0 }
 new-goes l n = new-boots l n .new-succeeds
 
-new-armed : (l : Lifecycle) (n i : ℕ) → i < n → n ≤ 248 → armed (boot l (newHandler n) .handler) i ≡ true
-new-armed l n = new-boots l n .arms
+-- every receiver is ready, its ping pair at (0,1), and no ping is open
+new-ready : (l : Lifecycle) (n i : ℕ) → i < n → n ≤ 248
+    → receiver (boot l (newHandler n) .handler) i ≡ record { stands = Ready; level = false; pending = false }
+new-ready l n = new-boots l n .receivers
 
 -- ── from the boot of a new handler in PROD or PROD_END to the last tick of any list: ticks numbered from any first number ──
 

@@ -7,11 +7,18 @@ use mathlib.Core.Logic.{_⊎_}
 use mathlib.Core.Bool.{true, false}
 use lib.IntN.{pos, negsuc}
 use lib.ListN.{replicate}
+use Rattle.bits.specs.Index.{placeIn}
 use Rattle.laws.specs.Above.{SameAbove}
+use Rattle.link_rules.specs.Pair.{rises}
+use Rattle.link_rules.specs.Receiver.{newReceiver}
+use Rattle.link_rules.specs.declared.Handshake.the-variants.{Ready}
 use Rattle.rules.specs.Run.{run}
-use Rattle.rules.specs.State.{most, armed, newHandler}
+use Rattle.rules.specs.Samples.{positive, negative}
+use Rattle.rules.specs.State.{most, newHandler, receiver}
+use Rattle.rules.specs.Tick.{happensIn}
 use Rattle.rules.specs.Valid.{valid}
 use Rattle.rules.specs.declared.Handler.{Handler}
+use Rattle.rules.specs.declared.Input.{Input}
 use Rattle.policy.specs.Install.{asks}
 use Rattle.policy.specs.Plan.{planOf, boot}
 use Rattle.policy.specs.Sound.{free}
@@ -20,7 +27,7 @@ use Rattle.policy.specs.declared.Installed.{Installed}
 use Rattle.policy.specs.declared.Lifecycle.{Lifecycle}
 use Rattle.policy.specs.declared.Progress.{Progress}
 use Rattle.boot_laws.specs.Ran.{inputs, StoppedAt}
-use Rattle.boot_laws.specs.Stands.{Success, Stands, Untouched, Unlocked, Eventless}
+use Rattle.boot_laws.specs.Stands.{Success, Stands, Untouched, Unlocked, Eventless, Linked}
 
 -- what a success gives: register 0, answer 0 and the state after all ticks of the plan
 abbrev pub booted : Lifecycle → Handler → Installed
@@ -48,8 +55,15 @@ pub record Boots (l : Lifecycle) (h : Handler) : Type 0 where
   -- "States that calls produce never get it", and "Stored entries at N and above are no registers: .. no call changes them"
   pub keeps-valid : valid h ≡ true → valid (boot l h .handler) ≡ true
   pub keeps-above : SameAbove h (boot l h .handler)
+  -- request (viii): the receivers below N of any boot; after a success all are ready, wherever they stood ..
+  pub linked : Linked h (boot l h .handler)
+  pub ready : Success l h → (i : ℕ) → i < h .n → receiver (boot l h .handler) i .stands ≡ Ready
+  -- .. so that a rise in the next tick is an event, unless a ping is open since before the boot or is asked for now
+  pub first-rise :
+      Success l h → (x : Input) (i : ℕ) → i < h .n → rises (positive (x .sample .alerts) i) (negative (x .sample .alerts) i) ≡ true
+      → receiver h i .pending ≡ false → placeIn (x .sample .asks) i ≡ false → happensIn (boot l h .handler) x i ≡ true
 
--- "On a new handler so large it always succeeds", and every alert is then re-armed
+-- "On a new handler so large it always succeeds", and every receiver is then as in a new handler: ready, with no ping open
 pub record NewBoots (l : Lifecycle) (n : ℕ) : Type 0 where
   pub new-succeeds : alertCount ≤ n → n ≤ most → boot l (newHandler n) ≡ booted l (newHandler n)
-  pub arms : (i : ℕ) → i < n → n ≤ most → armed (boot l (newHandler n) .handler) i ≡ true
+  pub receivers : (i : ℕ) → i < n → n ≤ most → receiver (boot l (newHandler n) .handler) i ≡ newReceiver

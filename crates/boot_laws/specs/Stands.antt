@@ -6,13 +6,14 @@ use mathlib.Core.Bool.{Bool, true, false, _&&_}
 use lib.Dec.{eqb}
 use lib.IntN.{pos}
 use Rattle.class_rules.specs.Class.{en, lock}
+use Rattle.link_rules.specs.declared.Handshake.the-variants.{Ready}
 use Rattle.laws.specs.Frame.{movesItself}
 use Rattle.laws.specs.InMap.{inMap}
 use Rattle.laws.specs.Quiet.{runs}
 use Rattle.rules.specs.Access.{value}
 use Rattle.rules.specs.Map.{fieldRow}
 use Rattle.rules.specs.Stages.{stage}
-use Rattle.rules.specs.State.{localCount, classCount, classAt}
+use Rattle.rules.specs.State.{localCount, classCount, classAt, receiver}
 use Rattle.rules.specs.declared.Field.{Field}
 use Rattle.rules.specs.declared.Handler.{Handler}
 use Rattle.rules.specs.declared.Register.{Register}
@@ -79,3 +80,10 @@ pub record Eventless (h g : Handler) : Type 0 where
   pub local-causes : (j : ℕ) → j < localCount → value g (Local Field.Cause j) ≡ value h (Local Field.Cause j)
   pub causes : (i : ℕ) → i < h .n → value g (Alert Field.Cause i) ≡ value h (Alert Field.Cause i)
   pub counts : (k : ℕ) → k < classCount → value g (Block AccumCnt k) ≡ value h (Block AccumCnt k)
+
+-- request (viii): a boot has all wires at (0,1) and asks for no ping. So no ping pair changes its level, no ping opens or is answered, and a receiver that
+-- is ready stays ready, wherever the boot stops
+pub record Linked (h g : Handler) : Type 0 where
+  pub levels : (i : ℕ) → i < h .n → receiver g i .level ≡ receiver h i .level
+  pub pings : (i : ℕ) → i < h .n → receiver g i .pending ≡ receiver h i .pending
+  pub stays-ready : (i : ℕ) → i < h .n → receiver h i .stands ≡ Ready → receiver g i .stands ≡ Ready

@@ -10,7 +10,9 @@ use Rattle.batch.specs.BatchedBy.{BatchedBy}
 use Rattle.batch.specs.declared.Batched.{Batched}
 use Rattle.boundary.specs.Input.{accessBy, inputBy}
 use Rattle.class_rules.specs.declared.Class.{Class}
+use Rattle.handler.specs.Account.{account}
 use Rattle.handler.specs.Answered.{answered}
+use Rattle.handler.specs.declared.account.Account.{Account}
 use Rattle.handler.specs.declared.tick.Answered.{Answered}
 use Rattle.policy.specs.Plan.{boot, lifecycleOf}
 use Rattle.policy.specs.declared.Installed.{Installed}
@@ -56,7 +58,11 @@ wire i = unpack (replicate 4 64) (2 ^ (255 - i))
 
 -- alert i at (1,0), the others at (0,1)
 abbrev high : ℕ → Sample
-high i = record { alerts = record { pos = wire i; neg = unpack (replicate 4 64) (2 ^ 256 - 1 - 2 ^ (255 - i)) } }
+high i = record { alerts = record { pos = wire i; neg = unpack (replicate 4 64) (2 ^ 256 - 1 - 2 ^ (255 - i)) }; asks = replicate 4 0 }
+
+-- the same with its ping asked for
+abbrev asked : ℕ → Sample
+asked i = record { alerts = high i .alerts; asks = wire i }
 
 -- alerts 0 and 247 enabled in class 2, which has EN, all lines and threshold 0
 abbrev watching : Handler
@@ -85,9 +91,23 @@ module _ (r : Answered) where
     ap (λ (x : Answered). x .output .lines) e,
   )
 
-  swapped : r ≡ tick watching 0 0 0 (record { alerts = record { pos = high 247 .alerts .neg; neg = high 247 .alerts .pos } }) → alert (r .handler) Field.Cause 247 ≡ 0
+  swapped : r ≡ tick watching 0 0 0 (record { alerts = record { pos = high 247 .alerts .neg; neg = high 247 .alerts .pos }; asks = replicate 4 0 }) → alert (r .handler) Field.Cause 247 ≡ 0
   unfolding rules traces answered
   swapped e = ap (λ (x : Answered). alert (x .handler) Field.Cause 247) e
+
+  -- a ping that is asked for and answered in one tick: no cause, its pair at (1,0), the others at (0,1), those that are no alert's too
+  answers : r ≡ tick watching 0 0 0 (asked 247) → (alert (r .handler) Field.Cause 247 ≡ 0) × (r .output .ping ≡ high 247 .alerts)
+  unfolding rules traces answered
+  answers e = (ap (λ (x : Answered). alert (x .handler) Field.Cause 247) e, ap (λ (x : Answered). x .output .ping) e)
+
+-- what those two ticks hear
+hears : (a : Account) → a ≡ account watching (inputBy 0 0 0 (high 247)) → (a .events ≡ wire 247) × (a .answers ≡ replicate 4 0) × (a .locals ≡ 0) × (a .answer ≡ pos 0)
+unfolding rules traces account
+hears a e = (ap (λ (x : Account). x .events) e, ap (λ (x : Account). x .answers) e, ap (λ (x : Account). x .locals) e, ap (λ (x : Account). x .answer) e)
+
+hears-answer : (a : Account) → a ≡ account watching (inputBy 1 1281 0 (asked 247)) → (a .events ≡ replicate 4 0) × (a .answers ≡ wire 247) × (a .answer ≡ pos 0x393C)
+unfolding rules traces account
+hears-answer a e = (ap (λ (x : Account). x .events) e, ap (λ (x : Account). x .answers) e, ap (λ (x : Account). x .answer) e)
 
 -- ── refusal 7: N is 249, every interrupt is pending and enabled, and class 0 is in Phase 0 with all lines ──
 

@@ -1,6 +1,8 @@
-// The handler for callers in C and Rust: making one, one tick, a batch, the trace writer, and the boot policy. Any state may come in, and any bytes are one.
+// The handler for callers in C and Rust: making one, one tick and what it hears, a batch, the trace writer, and the boot policy. Any state may come in, and any bytes are one.
 use batch::Batched;
 use batch::batch;
+use handler::account::Account;
+use handler::account::account_of;
 use handler::tick::Answered;
 use handler::tick::tick;
 use installer::boot;
@@ -20,6 +22,7 @@ ghost use mathlib.Core.Bool.{true};
 ghost use Rattle.batch.specs.BatchedBy.{BatchedBy};
 ghost use Rattle.boundary.specs.Input.{accessBy, inputBy};
 ghost use Rattle.escalation.specs.Escalation.{Demand3};
+ghost use Rattle.handler.specs.Account.{account};
 ghost use Rattle.handler.specs.Answered.{answered};
 ghost use Rattle.policy.specs.Plan.{boot, lifecycleOf};
 ghost use Rattle.trace_rules.specs.Batch.{batchVerdict, batchInputs};
@@ -61,6 +64,22 @@ pub extern "C" fn tarravane_tick(
     let access = access_by(kind, register, value);
     let input = Input { access, sample };
     tick(h, input)
+}
+
+// What that tick hears: it changes nothing.
+#[no_mangle]
+pub extern "C" fn tarravane_hear(
+    h: Handler,
+    kind: u8,
+    register: u16,
+    value: u32,
+    sample: Sample,
+) -> Account
+    ensures { λ r. ⌜ r ≡ account h (inputBy kind register value sample) ⌝ }
+{
+    let access = access_by(kind, register, value);
+    let input = Input { access, sample };
+    account_of(h, input)
 }
 
 // The ticks of the old records, of 24 bytes, a word for each.

@@ -1,7 +1,7 @@
 -- The boundary's definitions satisfy the sentences of its calls.
 -- Assumes nothing.
 use Prim.Native.Nat.{ℕ, _+_, _*_, _≤_, _<_}
-use mathlib.Core.Path.{_≡_, refl, sym, _∙_, subst}
+use mathlib.Core.Path.{_≡_, refl, sym, ap, _∙_, subst}
 use mathlib.Core.Logic.{_≢_, inl, inr}
 use mathlib.Core.Bool.{Bool, true, false, false≢true, cond, and-false, _&&_}
 use mathlib.Core.List.{List}
@@ -74,6 +74,7 @@ module _ (kinds registers values positive negative : List ℕ) where
             (holds-entry (getD kinds i 0) (getD registers i 0) (getD values i 0));
         pos = λ i h. subst (λ (x : Input). FourOf positive i (x .sample .alerts .pos)) (sym (entry-at i h)) (holds-four positive i);
         neg = λ i h. subst (λ (x : Input). FourOf negative i (x .sample .alerts .neg)) (sym (entry-at i h)) (holds-four negative i);
+        asks = λ i h. ap (λ (x : Input). x .sample .asks) (entry-at i h);
       }
 
   module _ (p : (i : ℕ) → getD positive i 0 ≤ 18446744073709551615) (q : (i : ℕ) → getD negative i 0 ≤ 18446744073709551615) where

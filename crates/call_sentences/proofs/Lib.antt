@@ -1,3 +1,5 @@
 pub mod HoldsArguments
 pub mod OnlyArguments
+pub mod HoldsHearing
+pub mod OnlyHearing
 pub mod Station

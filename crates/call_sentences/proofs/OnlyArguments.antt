@@ -65,6 +65,7 @@ module _ (kinds registers values positive negative : List ℕ) where
                 pos = same-four positive i (entry xs i .sample .alerts .pos) (entry ys i .sample .alerts .pos) (x .pos i l) (y .pos i l) j;
                 neg = same-four negative i (entry xs i .sample .alerts .neg) (entry ys i .sample .alerts .neg) (x .neg i l) (y .neg i l) j;
               };
+              asks = (x .asks i l ∙ sym (y .asks i l)) j;
             };
           }
 

@@ -4,23 +4,31 @@ use Prim.Native.Nat.{ℕ}
 use mathlib.Core.Path.{_≡_, refl, sym, ap, ap₂, _∙_, subst}
 use mathlib.Core.List.{List, [], _∷_}
 use Rattle.boundary.specs.Input.{inputBy}
+use Rattle.handler.proofs.Accounts.{account-answer}
+use Rattle.handler.specs.Account.{account}
 use Rattle.handler.specs.Answered.{answered}
 use Rattle.trace_rules.specs.Batch.{batch}
 use Rattle.rules.specs.State.{made}
 use Rattle.rules.specs.Tick.{ticked}
 use Rattle.rules.specs.declared.Handler.{Handler}
+use Rattle.rules.specs.declared.Input.{Input}
 use Rattle.rules.specs.declared.Made.{Made}
 use Rattle.rules.specs.declared.Sample.{Sample}
 use Rattle.writer.specs.Lent.{lent, writeLent}
 use Rattle.sentences.specs.AccessArrays.{Sized}
 use Rattle.sentences.proofs.OnlyMaking.{only-making}
+use Rattle.sentences.proofs.Whole.{holds-whole}
 use Rattle.trace_sentences.specs.Library.{off, make as l-make, step as l-step, replay as l-replay, any-input as l-input, all-bytes as l-bytes, Got as LGot}
 use Rattle.trace_sentences.proofs.Library.{rules, holds-library, same-got, same-leaves, sized-leaves}
-use Rattle.call_sentences.specs.Station.{Station, Sound, Call, make, step, replay, write, Typed, any-count, any-step, all-bytes, all-words, AllTyped, none, one, Got, got, all}
+use Rattle.trace_sentences.proofs.Replays.{holds-replays}
+use Rattle.call_sentences.specs.Hearing.{Hears}
+use Rattle.call_sentences.specs.Station.{Station, Sound, Call, make, step, hear, replay, write, Typed, any-count, any-step, any-hear, all-bytes, all-words, AllTyped, none, one, Got, untold, got, all}
 use Rattle.call_sentences.proofs.HoldsArguments.{holds-tick-inputs, holds-write-calls}
+use Rattle.call_sentences.proofs.HoldsHearing.{toldBy, holds-hears}
 use Rattle.call_sentences.proofs.OnlyArguments.{only-tick-inputs, only-write-calls}
+use Rattle.call_sentences.proofs.OnlyHearing.{only-hears}
 
--- what the contracts of `tarravane_new`, `_tick`, the batches and the writer say that they give
+-- what the contracts of `tarravane_new`, `_tick`, `_hear`, the batches and the writer say that they give
 abbrev pub boundary : Station
 boundary =
     record {
@@ -28,6 +36,8 @@ boundary =
       tick-state = λ h k r v w. answered (ticked h (inputBy k r v w)) .handler;
       tick-answer = λ h k r v w. answered (ticked h (inputBy k r v w)) .answer;
       tick-output = λ h k r v w. answered (ticked h (inputBy k r v w)) .output;
+      hear-told = λ h k r v w. toldBy (account h (inputBy k r v w));
+      hear-answer = λ h k r v w. account h (inputBy k r v w) .answer;
       batch-state = λ e h bytes out. batch e h bytes out .handler;
       batch-answer = λ e h bytes out. batch e h bytes out .answer;
       batch-list = λ e h bytes out. batch e h bytes out .out;
@@ -36,7 +46,7 @@ boundary =
     }
 
 pub sound-boundary : Sound boundary
-unfolding answered
+unfolding answered holds-library holds-replays holds-whole
 sound-boundary =
     record {
       behind = rules;
@@ -47,6 +57,8 @@ sound-boundary =
       tick-state = λ h k r v w. refl;
       tick-answer = λ h k r v w. refl;
       tick-output = λ h k r v w. refl;
+      hear-told = λ h k r v w. holds-hears h (inputBy k r v w);
+      hear-answer = λ h k r v w. account-answer h (inputBy k r v w);
       batch-state = λ e h bytes out. refl;
       batch-answer = λ e h bytes out. refl;
       batch-list = λ e h bytes out. refl;
@@ -57,6 +69,7 @@ sound-boundary =
 sized-call : (c : Station) → Sound c → (h : Handler) (x : Call) → Sized h → Sized (got c h x .state)
 sized-call c s h (make n) z = subst (λ (m : Made). Sized (m .handler)) (sym (s .new n)) (sized-leaves (s .behind) (s .sound) h (l-make n) z)
 sized-call c s h (step k r v w) z = subst Sized (sym (s .tick-state h k r v w)) (sized-leaves (s .behind) (s .sound) h (l-step (s .input k r v w)) z)
+sized-call c s h (hear k r v w) z = z
 sized-call c s h (replay e bytes out) z = subst Sized (sym (s .batch-state e h bytes out)) (sized-leaves (s .behind) (s .sound) h (l-replay e bytes out) z)
 sized-call c s h (write ks rs vs ps ns buffer) z = z
 
@@ -69,7 +82,7 @@ module _ (c d : Station) (s : Sound c) (t : Sound d) where
 
   same-call : (h : Handler) (x : Call) → Sized h → Typed x → got c h x ≡ got d h x
   same-call h (make n) z any-count =
-      ap (λ (m : Made). record { number = m .answer; output = off; lent = []; state = m .handler }) (same-new n)
+      ap (λ (m : Made). record { number = m .answer; output = off; told = untold; lent = []; state = m .handler }) (same-new n)
   same-call h (step k r v w) z any-step =
       let x = s .input k r v w in
       let g = same-got (s .behind) (t .behind) (s .sound) (t .sound) h (l-step x) z l-input in
@@ -79,8 +92,22 @@ module _ (c d : Station) (s : Sound c) (t : Sound d) where
       record {
         number = (s .tick-answer h k r v w ∙ ap (λ (y : LGot). y .number) g ∙ ap (t .behind .answer h) e ∙ sym (t .tick-answer h k r v w)) i;
         output = (s .tick-output h k r v w ∙ ap (λ (y : LGot). y .output) g ∙ ap (t .behind .output h) e ∙ sym (t .tick-output h k r v w)) i;
+        told = untold;
         lent = [];
         state = (s .tick-state h k r v w ∙ l ∙ ap (t .behind .tick h) e ∙ sym (t .tick-state h k r v w)) i;
+      }
+  same-call h (hear k r v w) z any-hear =
+      let x = s .input k r v w in
+      let e = same-input k r v w in
+      let g = same-got (s .behind) (t .behind) (s .sound) (t .sound) h (l-step x) z l-input in
+      let u = subst (λ (y : Input). Hears (t .sound .replays .ticks .step1) h y (d .hear-told h k r v w)) (sym e) (t .hear-told h k r v w) in
+      λ i.
+      record {
+        number = (s .hear-answer h k r v w ∙ ap (λ (y : LGot). y .number) g ∙ ap (t .behind .answer h) e ∙ sym (t .hear-answer h k r v w)) i;
+        output = off;
+        told = only-hears _ _ _ _ (s .sound .replays .ticks) (t .sound .replays .ticks) h x z (c .hear-told h k r v w) (d .hear-told h k r v w) (s .hear-told h k r v w) u i;
+        lent = [];
+        state = h;
       }
   same-call h (replay e bytes out) z (all-bytes b) =
       let g = same-got (s .behind) (t .behind) (s .sound) (t .sound) h (l-replay e bytes out) z (l-bytes b) in
@@ -89,12 +116,13 @@ module _ (c d : Station) (s : Sound c) (t : Sound d) where
       record {
         number = (s .batch-answer e h bytes out ∙ ap (λ (y : LGot). y .number) g ∙ sym (t .batch-answer e h bytes out)) i;
         output = off;
+        told = untold;
         lent = (s .batch-list e h bytes out ∙ ap (λ (y : LGot). y .lent) g ∙ sym (t .batch-list e h bytes out)) i;
         state = (s .batch-state e h bytes out ∙ l ∙ sym (t .batch-state e h bytes out)) i;
       }
   same-call h (write ks rs vs ps ns buffer) z (all-words p q) =
       let w = only-write-calls (c .write-answer) (d .write-answer) (c .write-buffer) (d .write-buffer) (s .writes) (t .writes) ks rs vs ps ns buffer p q in
-      λ i. record { number = w .answer i; output = off; lent = w .buffer i; state = h }
+      λ i. record { number = w .answer i; output = off; told = untold; lent = w .buffer i; state = h }
 
   -- every sequence of calls, from any state whose arrays have their lengths
   pub only-station : (h : Handler) (xs : List Call) → Sized h → AllTyped xs → all c h xs ≡ all d h xs

@@ -4,7 +4,7 @@
 use Prim.Native.Nat.{ℕ, _+_, _*_, _≤_, _<_}
 use mathlib.Core.Path.{_≡_}
 use mathlib.Core.Logic.{_⊎_, _≢_}
-use mathlib.Core.List.{List}
+use mathlib.Core.List.{List, [], _∷_}
 use lib.IntN.{ℤ}
 use lib.ListN.{getD, length}
 use Rattle.rules.specs.declared.Access.{Access}
@@ -47,6 +47,8 @@ pub record ListIs (kinds registers values positive negative : List ℕ) (xs : Li
   pub access : (i : ℕ) → i < length kinds → EntryIs (getD kinds i 0) (getD registers i 0) (getD values i 0) (entry xs i .access)
   pub pos : (i : ℕ) → i < length kinds → FourOf positive i (entry xs i .sample .alerts .pos)
   pub neg : (i : ℕ) → i < length kinds → FourOf negative i (entry xs i .sample .alerts .neg)
+  -- request (viii): records hold no asks, and the lists have none
+  pub asks : (i : ℕ) → i < length kinds → entry xs i .sample .asks ≡ 0 ∷ 0 ∷ 0 ∷ 0 ∷ []
 
 -- "lists of unequal lengths name a tick that lacks a part, which no record holds: 10"
 abbrev pub Uneven : List ℕ → List ℕ → List ℕ → List ℕ → List ℕ → Type 0

@@ -43,7 +43,9 @@ abbrev sealed : Handler
 sealed = run (newHandler 1) (twice 512 1 ++ twice 26 1 ++ twice 34 1 ++ twice 1297 0x393D)
 
 abbrev twoEvents : Handler
-twoEvents = run (armed 2 0) (raise 0 none ∷ rest none ∷ raise 0 none ∷ rest (Write 0 1) ∷ [])
+twoEvents =
+    run (armed 2 0)
+    (raise 0 none ∷ rest none ∷ rest none ∷ rest none ∷ raise 0 none ∷ rest none ∷ rest none ∷ rest none ∷ rest (Write 0 1) ∷ [])
 
 -- ── what is seen: the answer of each tick, and a register and its stage after each ──
 
@@ -84,9 +86,11 @@ unfolding rules traces
 p3-p4 = list12 .P3-P4
 
 abbrev threeEvents : List Input
-threeEvents = raise 0 none ∷ rest none ∷ raise 0 none ∷ rest none ∷ raise 0 none ∷ []
+threeEvents =
+    raise 0 none ∷ rest none ∷ rest none ∷ rest none ∷ raise 0 none ∷ rest none ∷ rest none ∷ rest none ∷ raise 0 none ∷ []
 
-p5 : (held (armed 2 0) threeEvents state ≡ 0 ∷ 0 ∷ 0 ∷ 0 ∷ 4 ∷ []) × (held (armed 2 0) threeEvents accum ≡ 1 ∷ 1 ∷ 2 ∷ 2 ∷ 3 ∷ [])
+p5 : (held (armed 2 0) threeEvents state ≡ 0 ∷ 0 ∷ 0 ∷ 0 ∷ 0 ∷ 0 ∷ 0 ∷ 0 ∷ 4 ∷ [])
+    × (held (armed 2 0) threeEvents accum ≡ 1 ∷ 1 ∷ 1 ∷ 1 ∷ 2 ∷ 2 ∷ 2 ∷ 2 ∷ 3 ∷ [])
 unfolding rules
 p5 = (list12 .P5-state, list12 .P5-accum)
 
@@ -134,6 +138,7 @@ p11 : said sealed (bothHigh 0 (Read 42) ∷ rest (Read 42) ∷ []) ≡ pos 0 ∷
 unfolding rules traces
 p11 = list12 .P11
 
-p12 : held (armed 9 0) (raise 0 none ∷ rest none ∷ raise 0 (Write 0 1) ∷ rest (Write 0 1) ∷ []) (Only IntrState) ≡ 1 ∷ 1 ∷ 1 ∷ 0 ∷ []
+p12 : held (armed 9 0) (raise 0 none ∷ rest none ∷ rest none ∷ rest none ∷ raise 0 (Write 0 1) ∷ rest (Write 0 1) ∷ []) (Only IntrState)
+    ≡ 1 ∷ 1 ∷ 1 ∷ 1 ∷ 1 ∷ 0 ∷ []
 unfolding rules
 p12 = list12 .P12

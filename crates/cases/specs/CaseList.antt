@@ -8,7 +8,7 @@ use lib.ListN.{replicate}
 use Rattle.cases.specs.CaseTicks.{rise, broken, old, configure, answers, holds, heldBy, stagedBy, changes}
 use Rattle.class_rules.specs.declared.Class.{Class}
 use Rattle.rules.specs.Run.{run}
-use Rattle.rules.specs.Scenes.{rest, none, write, gives, refused}
+use Rattle.rules.specs.Scenes.{rest, pause, none, write, gives, refused}
 use Rattle.rules.specs.State.{newHandler, classAt, put, withClasses}
 use Rattle.class_rules.specs.Class.{noClass}
 use Rattle.rules.specs.declared.Access.{Access}
@@ -62,9 +62,9 @@ counted c =
 abbrev pub full : Handler
 full = let h = on 65535 0 in withClasses (put 4 (h .classes) noClass 0 (counted (classAt h 0))) h
 
--- threshold and ACCUM_CNT 2, by two events; the interrupt bit is cleared
+-- threshold and ACCUM_CNT 2, by two events; the interrupt bit is cleared, and the receiver is ready again
 abbrev pub counted2 : Handler
-counted2 = run (on 2 0) (rise none ∷ rest none ∷ rise none ∷ rest (write (Only IntrState) 1) ∷ [])
+counted2 = run (on 2 0) (rise none ∷ pause ++ (rise none ∷ pause ++ (rest (write (Only IntrState) 1) ∷ [])))
 
 -- local 2 enabled in class 1, which has EN; alert 0 enabled
 abbrev pub sealed : Handler
@@ -80,6 +80,10 @@ state = Block Setting.State 0
 
 abbrev pub accum : Register
 accum = Block AccumCnt 0
+
+-- request (viii): between two events of an alert it drops, and there are two ticks of pause
+abbrev pub threeEvents : List Input
+threeEvents = rise none ∷ pause ++ (rise none ∷ pause ++ (rise none ∷ []))
 
 -- 65535 and 65536 written to 325 in turn
 abbrev pub writes325 : List Input
@@ -112,8 +116,8 @@ pub record List12 : Type 0 where
       ∷ [])
       ≡ pos 0 ∷ refused 3 ∷ pos 0x393C ∷ refused 3 ∷ pos 0 ∷ pos 0 ∷ []
   -- P5 Threshold 2, ACCUM_CNT 0, Idle: the third event starts Phase 0, ACCUM_CNT then 3; the second does not
-  pub P5-state : heldBy (on 2 0) (rise none ∷ rest none ∷ rise none ∷ rest none ∷ rise none ∷ []) state ≡ 0 ∷ 0 ∷ 0 ∷ 0 ∷ 4 ∷ []
-  pub P5-accum : heldBy (on 2 0) (rise none ∷ rest none ∷ rise none ∷ rest none ∷ rise none ∷ []) accum ≡ 1 ∷ 1 ∷ 2 ∷ 2 ∷ 3 ∷ []
+  pub P5-state : heldBy (on 2 0) threeEvents state ≡ 0 ∷ 0 ∷ 0 ∷ 0 ∷ 0 ∷ 0 ∷ 0 ∷ 0 ∷ 4 ∷ []
+  pub P5-accum : heldBy (on 2 0) threeEvents accum ≡ 1 ∷ 1 ∷ 1 ∷ 1 ∷ 2 ∷ 2 ∷ 2 ∷ 2 ∷ 3 ∷ []
   -- P6 Threshold and ACCUM_CNT 65535: next event starts it, ACCUM_CNT stays
   pub P6-before : (holds full [] state ≡ 0) × (holds full [] (Block AccumThresh 0) ≡ 65535) × (holds full [] accum ≡ 65535)
   pub P6 : (holds full (rise none ∷ []) state ≡ 4) × (holds full (rise none ∷ []) accum ≡ 65535)
@@ -141,4 +145,6 @@ pub record List12 : Type 0 where
   -- P11 Wires (1,1) on enabled alert 0, local 2 enabled in enabled class 1: register 42 reads 1 next tick
   pub P11 : answers sealed (broken (old (Access.Read 42)) ∷ rest (old (Access.Read 42)) ∷ []) ≡ pos 0 ∷ pos 1 ∷ []
   -- P12 INTR_STATE clear with an event: bit is 1 after
-  pub P12 : heldBy (on 9 0) (rise none ∷ rest none ∷ rise (write (Only IntrState) 1) ∷ rest (write (Only IntrState) 1) ∷ []) (Only IntrState) ≡ 1 ∷ 1 ∷ 1 ∷ 0 ∷ []
+  pub P12 :
+      heldBy (on 9 0) (rise none ∷ pause ++ (rise (write (Only IntrState) 1) ∷ rest (write (Only IntrState) 1) ∷ [])) (Only IntrState)
+      ≡ 1 ∷ 1 ∷ 1 ∷ 1 ∷ 1 ∷ 0 ∷ []

@@ -19,7 +19,7 @@ use Rattle.rules.specs.declared.Input.{Input}
 use Rattle.rules.specs.declared.Register.{Register}
 use Rattle.rules.specs.declared.Ticked.{Ticked}
 
--- alert 0 at (1,0), an event if it was at (0,1), and at (1,1)
+-- alert 0 at (1,0), an event if its receiver is ready, and at (1,1)
 abbrev pub rise : Access → Input
 rise x = raise 0 x
 

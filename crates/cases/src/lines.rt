@@ -45,10 +45,11 @@ pub fn timeout() {
 // A running phase goes on to Terminal, driving no line; an event is no longer counted.
 pub fn phase() {
     print(b"no lines: a phase goes on\n");
-    let h = configure(station(0), PHASE0_CYC, 3);
+    let h = configure(station(0), PHASE0_CYC, 5);
     let h = stage(h, CTRL, NO_LINES);
     let h = show(h, Access::Nothing, RAISE);
     let h = show(h, Access::Write(CTRL, NO_LINES), REST);
+    let h = show_rest(h, 2);
     let h = show(h, Access::Nothing, RAISE);
     show_rest(h, 4);
 }

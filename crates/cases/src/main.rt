@@ -1,10 +1,11 @@
-// The cases of document 01 that are run, its slips that look right, the waves of the public papers and a class with no lines, through the
-// code's own tick, the trace writer and shadow writes. What each prints is held to the file `stdout`.
+// The cases of document 01 that are run, its slips that look right, the waves of the public papers, the handshake and a class with no lines,
+// through the code's own tick, the trace writer and shadow writes. What each prints is held to the file `stdout`.
 mod play; // play.rt: one tick, played and shown
 mod refusals; // refusals.rt: answers of single accesses
 mod slips; // slips.rt: "Slips that look right"
 mod waves; // waves.rt: waves of the public papers, of a class
 mod pairs; // pairs.rt: those of an alert's pair
+mod handshake; // handshake.rt: an alert's receiver, its acknowledge and ping pairs
 mod lines; // lines.rt: a class with no lines
 mod writing; // writing.rt: the trace writer
 mod shadow; // shadow.rt: shadow writes
@@ -20,9 +21,15 @@ fn main() {
     slips::refusal_as_value();
     waves::gathering();
     waves::timeout();
-    pairs::handshake();
+    handshake::alert_signaling();
+    handshake::ping_testing();
     pairs::integrity();
     pairs::skewed();
+    handshake::earliest_rise();
+    handshake::waiting_rise();
+    handshake::held_pause();
+    handshake::answered_ping();
+    handshake::alert_answers();
     lines::no_event();
     lines::timeout();
     lines::phase();

@@ -27,7 +27,7 @@ const LOCAL2_CLASS: u16 = 34;
 
 const LOCAL2_CAUSE: u16 = 42;
 
-const NEXT_CLASS: u16 = 16;
+pub const NEXT_CLASS: u16 = 16;
 
 // The letters 0 and 1, and one that keeps the level.
 const LOW: u8 = 48;
@@ -37,7 +37,7 @@ const HIGH: u8 = 49;
 const KEEP: u8 = 46;
 
 // Alerts count in class 0, broken pairs in class 1; neither starts an escalation.
-fn watched() -> Handler {
+pub fn watched() -> Handler {
     let h = configure(station(100), LOCAL2_CLASS, 1);
     let h = configure(h, LOCAL2_EN, 1);
     let h = configure(h, ACCUM_THRESH + NEXT_CLASS, 100);
@@ -46,7 +46,7 @@ fn watched() -> Handler {
 }
 
 // A wire of alert 0 in a column; `before`: in the column before it.
-fn wire(letter: u8, before: u64) -> u64 {
+pub fn wire(letter: u8, before: u64) -> u64 {
     match letter {
         LOW => REST,
         HIGH => RAISE,
@@ -55,7 +55,7 @@ fn wire(letter: u8, before: u64) -> u64 {
 }
 
 // The letter of a column; past the end the level stays.
-fn letter_at(letters: &[u8], i: usize) -> u8 {
+pub fn letter_at(letters: &[u8], i: usize) -> u8 {
     if i < letters.len() { letters[i] } else { KEEP }
 }
 
@@ -88,12 +88,6 @@ fn show_wave(positive: &[u8], negative: &[u8]) {
         neg = wire(letter_at(negative, i), neg);
         g = show_pair(g, pos, neg);
     }
-}
-
-// "Native alert at time 1 with 4-phase handshake; repeated alert at time 12": the sender's wires.
-pub fn handshake() {
-    print(b"W1: alert signaling\n");
-    show_wave(b"01.|..|0.|..1|..", b"10.|..|1.|..0|..");
 }
 
 // "signal integrity issues occur at times 2 and 8".

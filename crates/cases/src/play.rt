@@ -86,8 +86,8 @@ fn old(x: Access) -> Access {
     }
 }
 
-// An access and these wires of the first alerts.
-pub fn input(x: Access, pos: u64, neg: u64) -> Input {
+// An access, these wires of the first alerts, and the pings that are asked for of them.
+pub fn asking(x: Access, pos: u64, neg: u64, asks: u64) -> Input {
     Input {
         access: old(x),
         sample: Sample {
@@ -95,8 +95,14 @@ pub fn input(x: Access, pos: u64, neg: u64) -> Input {
                 pos: [pos, 0, 0, 0],
                 neg: [neg, 0, 0, 0],
             },
+            asks: [asks, 0, 0, 0],
         },
     }
+}
+
+// The same with no ping asked for.
+pub fn input(x: Access, pos: u64, neg: u64) -> Input {
+    asking(x, pos, neg, 0)
 }
 
 // A tick that is not shown.
@@ -165,11 +171,18 @@ pub fn show_after(h: Handler, n: usize) -> Handler {
     show(g, Access::Nothing, REST)
 }
 
-// n events of alert 0, each after a tick of rest, not shown.
+// The ticks of rest between two rises of an alert, not shown: its drop, and two of pause.
+pub fn pause(h: Handler) -> Handler {
+    let h = play(h, Access::Nothing, REST);
+    let h = play(h, Access::Nothing, REST);
+    play(h, Access::Nothing, REST)
+}
+
+// n events of alert 0, each after a pause, not shown.
 pub fn play_events(h: Handler, n: usize) -> Handler {
     let mut g = h;
     for _ in 0..n {
-        g = play(g, Access::Nothing, REST);
+        g = pause(g);
         g = play(g, Access::Nothing, RAISE);
     }
     g

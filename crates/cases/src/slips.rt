@@ -6,9 +6,10 @@ use crate::play::RAISE_TWO;
 use crate::play::REGWEN;
 use crate::play::REST;
 use crate::play::configure;
-use crate::play::play;
+use crate::play::pause;
 use crate::play::print;
 use crate::play::show;
+use crate::play::show_after;
 use crate::play::show_rest;
 use crate::play::station;
 use rules::Access;
@@ -30,7 +31,7 @@ pub fn zero_phase() {
 pub fn threshold() {
     print(b"threshold 1\n");
     let h = show(station(1), Access::Nothing, RAISE);
-    let h = show(h, Access::Nothing, REST);
+    let h = show_after(h, 2);
     show(h, Access::Nothing, RAISE);
 }
 
@@ -48,7 +49,7 @@ pub fn clear_under_lock() {
 pub fn refused_sample() {
     print(b"samples of refused accesses\n");
     let h = show(station(9), Access::Write(333, 1), RAISE);
-    let h = play(h, Access::Nothing, REST);
+    let h = pause(h);
     show(h, Access::Malformed, RAISE);
 }
 

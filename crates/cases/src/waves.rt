@@ -7,7 +7,6 @@ use crate::play::RAISE_NEXT;
 use crate::play::REST;
 use crate::play::TIMEOUT_CYC;
 use crate::play::configure;
-use crate::play::play;
 use crate::play::play_events;
 use crate::play::print;
 use crate::play::show;
@@ -26,7 +25,7 @@ fn with_lengths(h: Handler, p0: u32, p1: u32, p2: u32, p3: u32) -> Handler {
 }
 
 // "alert class A gathers 16 alerts, triggers first escalation, followed by three more": threshold 15, lengths 1e3 to 1e6. The
-// first alert and 13 more are alert 0's, then alert 1 comes, and alert 0 in the tick after it.
+// first alert and 13 more are alert 0's, each after a pause, then alert 1 comes, and alert 0 in the tick after it.
 pub fn gathering() {
     print(b"W5: 16 alerts, threshold 15\n");
     let h = with_lengths(station(15), 1000, 10000, 100000, 1000000);
@@ -34,8 +33,7 @@ pub fn gathering() {
     let h = show(h, Access::Nothing, REST);
     let h = show(h, Access::Nothing, RAISE);
     let h = show(h, Access::Nothing, REST);
-    let h = play(play_events(h, 12), Access::Nothing, REST);
-    let h = show(h, Access::Nothing, RAISE);
+    let h = show_after(play_events(h, 13), 2);
     let h = show(h, Access::Nothing, RAISE_NEXT);
     let h = show(h, Access::Nothing, RAISE);
     let h = show_rest(show_after(h, 998), 2);

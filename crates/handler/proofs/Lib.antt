@@ -1,5 +1,7 @@
 pub mod ClassMasks
 pub mod ClassSteps
 pub mod WholeTick
+pub mod PairLaws
 pub mod Answers
+pub mod Accounts
 pub mod QuietTicks

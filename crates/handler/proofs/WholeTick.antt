@@ -16,13 +16,13 @@ use Rattle.rules.specs.declared.Effects.{Effects}
 use Rattle.rules.specs.declared.Handler.{Handler}
 use Rattle.rules.specs.declared.Heard.{Heard}
 use Rattle.rules.specs.declared.Input.{Input}
-use Rattle.rules.specs.declared.Output.{Output}
-use Rattle.rules.specs.declared.Ticked.{Ticked}
 use Rattle.laws.proofs.Access.RegisterFile.{acted-n}
 use Rattle.samples.specs.Sampled.{SampledBy}
 use Rattle.samples.specs.declared.Sampled.{Sampled}
+use Rattle.handler.specs.Answered.{steppedOf}
 use Rattle.handler.specs.Classes.{classesBy, interruptsBy}
 use Rattle.handler.specs.OutputMasks.{interruptsOn, linesOn}
+use Rattle.handler.specs.declared.tick.Stepped.{Stepped}
 use Rattle.handler.proofs.ClassSteps.{withStepped, joined, stepped-by}
 
 -- an access leaves N
@@ -30,25 +30,26 @@ pub accessed-most : (h : Handler) (x : Access) (a : Accessed) → a ≡ accessed
 unfolding acted
 accessed-most h x a e l = subst (λ (n : ℕ). n ≤ most) (sym (ap (λ (b : Accessed). b .handler .n) e ∙ acted-n h x)) l
 
--- the end of a tick: its outputs from the state now reached
-abbrev ends : Answer → Handler → Ticked
-ends a g = record { handler = g; answer = a; output = outputOf g }
+-- the end of a tick: interrupts and lines from the state now reached
+abbrev ends : Answer → Handler → Stepped
+ends a g = record { handler = g; answer = a; interrupts = interrupts g; lines = lines g }
 
 -- steps 2 to 4 of the state g as the code joins them, with the links of what was heard
 abbrev linked : Handler → Heard → Effects → Handler
 linked g v fx = withLinks (linksAfter v) (joined (sampled g v) (bitsOf 4 (assigned g v)) (fx .clears))
 
--- the calls of a tick: a is step 1, v what step 2 hears, s the rest of it, i and cs are INTR_STATE and the classes after steps 3 and 4, o is
--- step 5; the links are written last
-module _ (h : Handler) (x : Input) (a : Accessed) (v : Heard) (s : Sampled) (i : ℕ) (cs : List Class) (o : Output) where
+-- the calls of a tick: a is step 1, v what step 2 hears, s the rest of it, i and cs are INTR_STATE and the classes after steps 3 and 4, o and l are
+-- the interrupts and the lines of step 5; the links are written last
+module _ (h : Handler) (x : Input) (a : Accessed) (v : Heard) (s : Sampled) (i : ℕ) (cs : List Class) (o l : ℕ) where
   pub tick-by : a ≡ accessed h (x .access) → v ≡ heard (a .handler) (x .sample) (a .effects) → SampledBy (a .handler) v s
       → i ≡ interruptsBy (s .handler .classes) (s .handler .interrupts .state) (s .assigned)
       → cs ≡ classesBy (s .handler .classes) (s .handler .interrupts .state) (s .assigned) (a .effects .clears)
-      → o ≡ record { interrupts = interruptsOn i (s .handler .interrupts .enable); lines = linesOn cs }
-      → _≡_ {A = Ticked} (record { handler = withLinks (linksAfter v) (withStepped cs i (s .handler)); answer = a .answer; output = o }) (tick h x)
+      → o ≡ interruptsOn i (s .handler .interrupts .enable) → l ≡ linesOn cs
+      → _≡_ {A = Stepped} (record { handler = withLinks (linksAfter v) (withStepped cs i (s .handler)); answer = a .answer; interrupts = o; lines = l })
+      (steppedOf (tick h x))
   unfolding acted answerTo effects hears after tick outputOf interrupts lines interruptsOn linesOn
-  tick-by ea ev es ei ec eo =
-      ap (λ (p : Output). record { handler = withLinks (linksAfter v) (withStepped cs i (s .handler)); answer = a .answer; output = p }) eo
+  tick-by ea ev es ei ec eo el =
+      ap₂ (λ (p q : ℕ). record { handler = withLinks (linksAfter v) (withStepped cs i (s .handler)); answer = a .answer; interrupts = p; lines = q }) eo el
       ∙ ap₂ (λ (j : ℕ) (ds : List Class). ends (a .answer) (withLinks (linksAfter v) (withStepped ds j (s .handler)))) ei ec
       ∙ ap₂ (λ (g : Handler) (m : ℕ). ends (a .answer) (withLinks (linksAfter v) (joined g m (a .effects .clears)))) (es .handler) (es .assigns)
       ∙ ap (λ (w : Heard). ends (a .answer) (linked (a .handler) w (a .effects))) ev

@@ -7,10 +7,10 @@ use Rattle.rules.specs.declared.Answer.{Answer}
 use Rattle.rules.specs.declared.Handler.{Handler}
 use Rattle.rules.specs.declared.Interrupts.{Interrupts}
 use Rattle.rules.specs.declared.Links.{Links}
-use Rattle.rules.specs.declared.Ticked.{Ticked}
 use Rattle.handler.specs.Classes.{classesBy, interruptsBy}
 use Rattle.handler.specs.OutputMasks.{interruptsOn, linesOn}
 use Rattle.handler.specs.declared.quiet.Moved.{Moved}
+use Rattle.handler.specs.declared.tick.Stepped.{Stepped}
 
 -- what such a tick moves, put into the state h
 abbrev pub withMoved : Links → Moved → Handler → Handler
@@ -29,5 +29,5 @@ movedBy before x =
     }
 
 -- the tick of h that gives the answer a, and moves and puts out what these links and m say
-abbrev pub ended : Handler → Answer → Links → Moved → Ticked
-ended h a links m = record { handler = withMoved links m h; answer = a; output = record { interrupts = m .interrupts; lines = m .lines } }
+abbrev pub ended : Handler → Answer → Links → Moved → Stepped
+ended h a links m = record { handler = withMoved links m h; answer = a; interrupts = m .interrupts; lines = m .lines }

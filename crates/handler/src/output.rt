@@ -1,7 +1,6 @@
 // Step 5 of a tick: outputs from the state now reached. Masks have a bit for each class or line, 0 lowest.
 use class::lines::lines;
 use class_rules::Class;
-use rules::Output;
 ghost use mathlib.Core.Path.{_≡_};
 ghost use Rattle.handler.specs.OutputMasks.{interruptsOn, linesOn};
 
@@ -21,14 +20,4 @@ pub fn lines_on(classes: [Class; 4]) -> u8
     let c = lines(classes[2]);
     let d = lines(classes[3]);
     a | b | c | d
-}
-
-// The outputs of the classes, INTR_STATE and INTR_ENABLE.
-pub fn output(classes: [Class; 4], state: u16, enable: u16) -> Output
-    ensures { λ r. ⌜ r ≡ record { interrupts = interruptsOn state enable; lines = linesOn classes } ⌝ }
-{
-    Output {
-        interrupts: interrupts_on(state, enable),
-        lines: lines_on(classes),
-    }
 }

@@ -17,6 +17,7 @@ ghost use mathlib.Core.Bool.{true};
 ghost use Prim.Native.Nat.{_≤_};
 ghost use Rattle.rules.specs.State.{most};
 ghost use Rattle.rules.specs.Tick.{tick};
+ghost use Rattle.handler.specs.Answered.{steppedOf};
 ghost use Rattle.handler.specs.QuietTick.{movedBy, ended};
 
 // Whether a tick is known to be such a one, and then the links after it and its answer.
@@ -37,7 +38,7 @@ pub struct Moved {
 // Steps 1 and 2, of a state that was found valid.
 pub fn quiet_of(h: Handler, x: Input) -> Quiet
     requires { ⌜ h .n ≤ most ⌝ }
-    ensures { λ r. ⌜ (r .holds ≡ true → ended h (r .answer) (r .links) (movedBy (h .classes) (h .interrupts)) ≡ tick h x) ⌝ }
+    ensures { λ r. ⌜ (r .holds ≡ true → ended h (r .answer) (r .links) (movedBy (h .classes) (h .interrupts)) ≡ steppedOf (tick h x)) ⌝ }
 {
     let sent = x.access;
     let before = h.links;

@@ -1,7 +1,10 @@
 // "One tick, in order".
 use crate::classes::classes_after;
 use crate::classes::interrupts_after;
-use crate::output::output;
+use crate::output::interrupts_on;
+use crate::output::lines_on;
+use crate::pairs::acknowledge_pairs;
+use crate::pairs::ping_pairs;
 use answers::signed;
 use registers::access::access;
 use rules::Answer;
@@ -11,29 +14,37 @@ use rules::Interrupts;
 use rules::Links;
 use rules::Output;
 use rules::Refusal;
-use rules::Ticked;
+use rules::WORDS;
+use rules::Wires;
 use samples::hear::hear;
 use samples::sample;
 use state::valid::is_valid;
 ghost use mathlib.Core.Path.{_≡_};
 ghost use Prim.Native.Nat.{_≤_};
 ghost use Rattle.rules.specs.State.{most};
-ghost use Rattle.rules.specs.Tick.{tick, ticked};
-ghost use Rattle.handler.specs.Answered.{answered};
+ghost use Rattle.rules.specs.Tick.{noOutput, tick, ticked};
+ghost use Rattle.handler.specs.Answered.{steppedOf, answered};
 
-// What a tick gives: the state, the answer as one signed number, and the outputs. The spare bytes are 0: they are where padding would be.
+// What a tick gives: the state, the answer as one signed number, and the outputs.
 #[repr(C)]
 pub struct Answered {
     pub handler: Handler,
     pub answer: i64,
     pub output: Output,
-    pub spare: [u8; 6],
+}
+
+// What steps 1 to 5 give, but for the pairs: a word of a trace needs no more.
+pub struct Stepped {
+    pub handler: Handler,
+    pub answer: Answer,
+    pub interrupts: u8,
+    pub lines: u8,
 }
 
 // Steps 1 to 5, of a state that was found valid.
-pub fn step(h: Handler, x: Input) -> Ticked
+pub fn step(h: Handler, x: Input) -> Stepped
     requires { ⌜ h .n ≤ most ⌝ }
-    ensures { λ r. ⌜ r ≡ tick h x ⌝ }
+    ensures { λ r. ⌜ r ≡ steppedOf (tick h x) ⌝ }
 {
     let sent = x.access;
     let accessed = access(h, sent);
@@ -55,18 +66,34 @@ pub fn step(h: Handler, x: Input) -> Ticked
     next.classes = classes;
     let interrupts = Interrupts { state, enable };
     next.interrupts = interrupts;
-    let out = output(classes, state, enable);
     let receivers = heard.receivers;
     let links = Links { receivers };
     next.links = links;
-    Ticked {
+    Stepped {
         handler: next,
         answer,
-        output: out,
+        interrupts: interrupts_on(state, enable),
+        lines: lines_on(classes),
     }
 }
 
-// One tick of any state. Refusal 7 comes first: state unchanged, tick not run, interrupts and lines 0.
+// The outputs on refusal 7: interrupts and lines 0, all pairs (0,1).
+fn no_output() -> Output
+    ensures { λ r. ⌜ r ≡ noOutput ⌝ }
+{
+    let low = Wires {
+        pos: [0; WORDS],
+        neg: [0xFFFF_FFFF_FFFF_FFFF; WORDS],
+    };
+    Output {
+        interrupts: 0,
+        lines: 0,
+        acknowledge: low,
+        ping: low,
+    }
+}
+
+// One tick of any state. Refusal 7 comes first: state unchanged, tick not run.
 pub fn tick(h: Handler, x: Input) -> Answered
     ensures { λ r. ⌜ r ≡ answered (ticked h x) ⌝ }
 {
@@ -74,22 +101,25 @@ pub fn tick(h: Handler, x: Input) -> Answered
         let t = step(h, x);
         let handler = t.handler;
         let answer = t.answer;
-        let out = t.output;
+        let before = h.links.receivers;
+        let after = handler.links.receivers;
+        let acknowledge = acknowledge_pairs(h.n, before);
+        let ping = ping_pairs(handler.n, after);
         Answered {
             handler,
             answer: signed(answer),
-            output: out,
-            spare: [0; 6],
+            output: Output {
+                interrupts: t.interrupts as u32,
+                lines: t.lines as u32,
+                acknowledge,
+                ping,
+            },
         }
     } else {
         Answered {
             handler: h,
             answer: signed(Answer::Refused(Refusal::BadState)),
-            output: Output {
-                interrupts: 0,
-                lines: 0,
-            },
-            spare: [0; 6],
+            output: no_output(),
         }
     }
 }

@@ -8,7 +8,7 @@ use mathlib.Core.List.{List, [], _∷_, _++_, map}
 use native.Mathlib.Omega.{arith}
 use lib.ListN.{getD, length, set, replicate, getD-replicate}
 use Rattle.bits.specs.Bits.{bit}
-use Rattle.bits.specs.Index.{anyTo}
+use Rattle.bits.specs.Index.{anyTo, placeIn}
 use Rattle.bits.proofs.IndexLaws.{none-at}
 use Rattle.class_rules.specs.Class.{drives}
 use Rattle.escalation.proofs.ListTicks
@@ -19,7 +19,7 @@ use Rattle.rules.specs.Access.{value, acted}
 use Rattle.rules.specs.Map.{numberOf}
 use Rattle.rules.specs.Run.{ticks}
 use Rattle.rules.specs.Samples.{positive, negative}
-use Rattle.rules.specs.Scenes.{ones, wired, wire, rest, raise, bothHigh, none, write, configure}
+use Rattle.rules.specs.Scenes.{ones, asking, wired, wire, rest, raise, bothHigh, none, write, configure}
 use Rattle.rules.specs.State.{alert, classAt, resetClass, withClasses, withLocals}
 use Rattle.rules.specs.declared.Access.{Access}
 use Rattle.rules.specs.declared.Field.{Field}
@@ -69,14 +69,14 @@ quiet =
     ∷ rest (write (Only IntrTest) 2)
     ∷ []
 
--- a busy one: his alert starts class B and has equal wires; he writes his block, differs in the second write, stages another class for his alert, clears his
--- class, enables his interrupt and clears it, with a 1 for class A's bit too, which is 0 by then
+-- a busy one: his alert starts class B and has equal wires, and a ping of it is asked for; he writes his block, differs in the second write, stages another
+-- class for his alert, clears his class, enables his interrupt and clears it, with a 1 for class A's bit too, which is 0 by then
 abbrev busy : List Input
 busy =
     raise 1 (write (Block Ctrl 1) 0x3FFD)
     ∷ wired (wire 0 + wire 1) (ones - wire 0) (write (Alert Field.Class 1) 3)
     ∷ bothHigh 1 (write (Block AccumThresh 0) 3)
-    ∷ rest (write (Block Ctrl 1) 0x3FFF)
+    ∷ asking (wire 1) 0 ones (write (Block Ctrl 1) 0x3FFF)
     ∷ rest (write (Block Clr 1) 1)
     ∷ rest (write (Only IntrEnable) 2)
     ∷ rest (write (Only IntrState) 1)
@@ -142,15 +142,17 @@ module _ (i : ℕ) (l : i < 8) (b : Bool) (e : getD course i (fine true) ≡ fin
   busy-at : seen 0 his (ListTicks.at home busy i) (input busy i) ≡ fine b
   busy-at = seen-at 0 his busy course busy-seen i l ∙ e
 
-  -- two ticks in which alert 0's wires are the same
+  -- two ticks in which alert 0's wires and asking are the same
   but : (input quiet i .access ≡ input busy i .access) ⊎ (b ≡ true) → positive (input quiet i .sample .alerts) 0 ≡ positive (input busy i .sample .alerts) 0
       → negative (input quiet i .sample .alerts) 0 ≡ negative (input busy i .sample .alerts) 0
+      → placeIn (input quiet i .sample .asks) 0 ≡ placeIn (input busy i .sample .asks) 0
       → ButTenant 0 his (ListTicks.at home quiet i) (input quiet i) (ListTicks.at home busy i) (input busy i)
-  but a p q =
+  but a p q r =
       record {
         access = way a;
         pos = pos;
         neg = neg;
+        asks = asks;
         apart = (apart 0 his (ListTicks.at home quiet i) (input quiet i) b quiet-at, apart 0 his (ListTicks.at home busy i) (input busy i) b busy-at);
       }
     where
@@ -171,16 +173,20 @@ module _ (i : ℕ) (l : i < 8) (b : Bool) (e : getD course i (fine true) ≡ fin
       neg zero l e = q
       neg (suc j) l e = absurd (true≢false e)
 
+      asks : (j : ℕ) → j < ListTicks.at home quiet i .n → his j ≡ false → placeIn (input quiet i .sample .asks) j ≡ placeIn (input busy i .sample .asks) j
+      asks zero l e = r
+      asks (suc j) l e = absurd (true≢false e)
+
 only-tenant : OnlyTenant 0 his 0 home quiet busy
 unfolding rules
-only-tenant zero m = but 0 (omega arith) true refl (inr refl) refl refl
-only-tenant (suc zero) m = but 1 (omega arith) true refl (inr refl) refl refl
-only-tenant (suc (suc zero)) m = but 2 (omega arith) false refl (inl refl) refl refl
-only-tenant (suc (suc (suc zero))) m = but 3 (omega arith) true refl (inr refl) refl refl
-only-tenant (suc (suc (suc (suc zero)))) m = but 4 (omega arith) true refl (inr refl) refl refl
-only-tenant (suc (suc (suc (suc (suc zero))))) m = but 5 (omega arith) true refl (inr refl) refl refl
-only-tenant (suc (suc (suc (suc (suc (suc zero)))))) m = but 6 (omega arith) false refl (inl refl) refl refl
-only-tenant (suc (suc (suc (suc (suc (suc (suc zero))))))) m = but 7 (omega arith) true refl (inr refl) refl refl
+only-tenant zero m = but 0 (omega arith) true refl (inr refl) refl refl refl
+only-tenant (suc zero) m = but 1 (omega arith) true refl (inr refl) refl refl refl
+only-tenant (suc (suc zero)) m = but 2 (omega arith) false refl (inl refl) refl refl refl
+only-tenant (suc (suc (suc zero))) m = but 3 (omega arith) true refl (inr refl) refl refl refl
+only-tenant (suc (suc (suc (suc zero)))) m = but 4 (omega arith) true refl (inr refl) refl refl refl
+only-tenant (suc (suc (suc (suc (suc zero))))) m = but 5 (omega arith) true refl (inr refl) refl refl refl
+only-tenant (suc (suc (suc (suc (suc (suc zero)))))) m = but 6 (omega arith) false refl (inl refl) refl refl refl
+only-tenant (suc (suc (suc (suc (suc (suc (suc zero))))))) m = but 7 (omega arith) true refl (inr refl) refl refl refl
 only-tenant (suc (suc (suc (suc (suc (suc (suc (suc i)))))))) m = absurd (omega (arith, m .to))
 
 -- ── so class A starts in the same tick and takes as long ──
@@ -225,6 +231,7 @@ only-tenant-3 t m =
       access = inr (is-tenant 3 all (ListTicks.at home quiet i) (input quiet i) true q, is-tenant 3 all (ListTicks.at home busy i) (input busy i) true b);
       pos = λ j n e. absurd (true≢false e);
       neg = λ j n e. absurd (true≢false e);
+      asks = λ j n e. absurd (true≢false e);
       apart = (apart 3 all (ListTicks.at home quiet i) (input quiet i) true q, apart 3 all (ListTicks.at home busy i) (input busy i) true b);
     }
 
@@ -263,6 +270,11 @@ assigned = withClasses (home .classes) (station 2 (1 ∷ 1 ∷ replicate 246 0) 
 alerts-needed : (states 0 assigned (rest none ∷ []) ≡ 0 ∷ []) × (states 0 assigned (raise 1 none ∷ []) ≡ 4 ∷ [])
 unfolding rules
 alerts-needed = (refl, refl)
+
+-- a ping asked for of the owner's alert: his event is an answer and does not start it
+asks-needed : (states 0 home (raise 0 none ∷ []) ≡ 4 ∷ []) × (states 0 home (asking (wire 0) (wire 0) (ones - wire 0) none ∷ []) ≡ 0 ∷ [])
+unfolding rules
+asks-needed = (refl, refl)
 
 -- class A's interrupt bit set by him: a timeout starts
 abbrev timed : Handler

@@ -20,7 +20,7 @@ use Rattle.rules.specs.Access.{value, locked, silly, bars, unlike, inOrder, ver
 use Rattle.rules.specs.Answer.{firstOf}
 use Rattle.rules.specs.Map.{decode, numberOf, isRegister, fieldRow, bits, writeOnly, readOnly, guard, isLock, isShadowed}
 use Rattle.rules.specs.Stages.{stage, stageIn}
-use Rattle.rules.specs.State.{most, alert, armed}
+use Rattle.rules.specs.State.{most, alert, receiver}
 use Rattle.rules.specs.declared.Access.{Access}
 use Rattle.rules.specs.declared.Access.the-variants.{Nothing, Read, Write, Malformed}
 use Rattle.rules.specs.declared.Field.{Field}
@@ -40,13 +40,13 @@ mine his (Alert f i) = not (his i)
 mine his (Block s j) = false
 mine his Unassigned = false
 
--- as many alerts; of those that are not the tenant's equal registers but CAUSE, equal stages and equal arming; equal interrupt bits
+-- as many alerts; of those that are not the tenant's equal registers but CAUSE, equal stages and equal receivers; equal interrupt bits
 pub record Shared (k : ℕ) (his : ℕ → Bool) (g f : Handler) : Type 0 where
   pub small : g .n ≤ most
   pub n : g .n ≡ f .n
   pub fields : (d : Field) (i : ℕ) → his i ≡ false → i < g .n → fieldRow d .moves ≡ false → alert g d i ≡ alert f d i
   pub stages : (d : Field) (i : ℕ) → his i ≡ false → i < g .n → stage g (Alert d i) ≡ stage f (Alert d i)
-  pub arms : (i : ℕ) → his i ≡ false → i < g .n → armed g i ≡ armed f i
+  pub receivers : (i : ℕ) → his i ≡ false → i < g .n → receiver g i ≡ receiver f i
   pub bit-k : bit (g .interrupts .state) k ≡ bit (f .interrupts .state) k
   pub enable-k : bit (g .interrupts .enable) k ≡ bit (f .interrupts .enable) k
 

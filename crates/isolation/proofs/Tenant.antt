@@ -8,7 +8,7 @@ use native.Mathlib.Omega.{arith}
 use borrow.Author.Tests.{lt-ltb, not-true}
 use Rattle.bits.specs.Bits.{bit}
 use Rattle.bits.proofs.IndexLaws.{and-true}
-use Rattle.laws.proofs.Samples.Arming.{acted-armed}
+use Rattle.laws.proofs.Samples.Receivers.{acted-receiver}
 use Rattle.laws.proofs.Map.Named.{named-is, committed-target, alert-target}
 use Rattle.laws.proofs.Access.RegisterFile.{acted-n}
 use Rattle.laws.proofs.Stages.StageFile.{in-most, stage-other}
@@ -123,7 +123,7 @@ module _ (k : ℕ) (his : ℕ → Bool) (g f : Handler) (s : Shared k his g f) (
         n = acted-n g x ∙ s .n ∙ sym (acted-n f y);
         fields = λ d i e m u. fields-acted d i e (omega (arith, acted-n g x)) u;
         stages = λ d i e m. stages-acted d i e (omega (arith, acted-n g x));
-        arms = λ i e m. acted-armed g x i ∙ s .arms i e (omega (arith, acted-n g x)) ∙ sym (acted-armed f y i);
+        receivers = λ i e m. acted-receiver g x i ∙ s .receivers i e (omega (arith, acted-n g x)) ∙ sym (acted-receiver f y i);
         bit-k = bit-acted;
         enable-k = enable-acted;
       }

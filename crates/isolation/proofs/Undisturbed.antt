@@ -16,7 +16,7 @@ use Rattle.class_rules.specs.Step.{classEvent, starts}
 use Rattle.escalation.proofs.ListTicks
 use Rattle.escalation.proofs.ListTicks.{input, at-next}
 use Rattle.escalation.specs.List.{IsTick, before, inputAt}
-use Rattle.laws.proofs.Samples.Arming.{happens-in, after-armed}
+use Rattle.laws.proofs.Samples.Receivers.{happens-in, after-receiver}
 use Rattle.laws.proofs.Map.Cases.{by-kind}
 use Rattle.laws.proofs.Tick.Frame.{after-still, after-stage, after-n}
 use Rattle.laws.proofs.Tick.InterruptBits.{after-enable}
@@ -24,11 +24,14 @@ use Rattle.laws.proofs.Samples.Raises.{no-local}
 use Rattle.laws.proofs.Access.RegisterFile.{acted-n}
 use Rattle.laws.proofs.Valid.ValidLaws.{facts}
 use Rattle.laws.specs.Block.{ofBlock}
+use Rattle.link_rules.specs.Receiver.{received}
+use Rattle.link_rules.specs.declared.Received.{Received}
+use Rattle.link_rules.specs.declared.Receiver.{Receiver}
 use Rattle.rules.specs.Access.{value, named, acted}
 use Rattle.rules.specs.Map.{decode, fieldRow}
 use Rattle.rules.specs.Run.{run}
-use Rattle.rules.specs.Samples.{happens, positive, negative, alertEvent, rearmed, assigned, armedAfter}
-use Rattle.rules.specs.State.{classCount, alert, armed}
+use Rattle.rules.specs.Samples.{positive, negative, givenTo, alertEvent, assigned}
+use Rattle.rules.specs.State.{classCount, alert, receiver}
 use Rattle.rules.specs.Tick.{event, hears, happensIn, after}
 use Rattle.rules.specs.Valid.{valid}
 use Rattle.rules.specs.declared.Access.{Access}
@@ -39,7 +42,6 @@ use Rattle.rules.specs.declared.Heard.{Heard}
 use Rattle.rules.specs.declared.Input.{Input}
 use Rattle.rules.specs.declared.Register.{Register}
 use Rattle.rules.specs.declared.Register.the-variants.{Alert}
-use Rattle.rules.specs.declared.Wires.{Wires}
 use Rattle.isolation.specs.Isolation.{SameTick, Alike, AlikeEnable}
 use Rattle.isolation.specs.OwnAccess.{own}
 use Rattle.isolation.specs.Owner.{mayName, byTenant, alertReaches, ButTenant, OnlyTenant, startsIn, Undisturbed}
@@ -78,15 +80,6 @@ no-event k g v i e = go (ltb i (g .n)) (placeIn (v .events) i) (eqb (alert g Fie
     go true false c d e = refl
     go false b c d e = refl
 
-module _ (k : ℕ) (his : ℕ → Bool) (g f : Handler) (w u : Wires) (s : Shared k his g f)
-    (pos : (i : ℕ) → i < g .n → his i ≡ false → positive w i ≡ positive u i) (neg : (i : ℕ) → i < g .n → his i ≡ false → negative w i ≡ negative u i) where
-  -- an alert that is not the tenant's
-  same-rearmed : (i : ℕ) → his i ≡ false → i < g .n → rearmed g w i ≡ rearmed f u i
-  unfolding rearmed
-  same-rearmed i e l =
-      ap₂ (λ (n : ℕ) (a : Bool). cond (ltb i n) (armedAfter a (positive w i) (negative w i)) a) (s .n) (s .arms i e l)
-      ∙ ap₂ (λ (p m : Bool). cond (ltb i (f .n)) (armedAfter (armed f i) p m) (armed f i)) (pos i l e) (neg i l e)
-
 -- where none of the tenant's is assigned to class k, and the others' events are the same, the same alerts' events are
 module _ (k : ℕ) (his : ℕ → Bool) (g f : Handler) (v w : Heard) (s : Shared k his g f)
     (events : (i : ℕ) → his i ≡ false → i < g .n → placeIn (v .events) i ≡ placeIn (w .events) i) where
@@ -118,12 +111,6 @@ module _ (k : ℕ) (his : ℕ → Bool) (g : Handler) (x : Input) (f : Handler) 
   read : Shared k his g1 f1
   read = shared-acted k his g f s l (x .access) (y .access) (t .access)
 
-  pos : (i : ℕ) → i < g1 .n → his i ≡ false → positive (x .sample .alerts) i ≡ positive (y .sample .alerts) i
-  pos i m = t .pos i (omega (arith, acted-n g (x .access)))
-
-  neg : (i : ℕ) → i < g1 .n → his i ≡ false → negative (x .sample .alerts) i ≡ negative (y .sample .alerts) i
-  neg i m = t .neg i (omega (arith, acted-n g (x .access)))
-
   owns : own g (x .access) k ≡ own f (y .access) k
   owns = go (t .access)
     where
@@ -131,12 +118,18 @@ module _ (k : ℕ) (his : ℕ → Bool) (g : Handler) (x : Input) (f : Handler) 
       go (inl e) = same-own k g f (x .access) (s .n) ∙ ap (λ (a : Access). own f a k) e
       go (inr e) = tenant-own k his g (x .access) (e .0) ∙ sym (tenant-own k his f (y .access) (e .1))
 
+  -- the receiver of an alert that is not the tenant's is given the same in both, and gives the same
+  same-received : (i : ℕ) → his i ≡ false → i < g .n
+      → received (givenTo (x .sample .asks) (x .sample .alerts) i) (receiver g i) ≡ received (givenTo (y .sample .asks) (y .sample .alerts) i) (receiver f i)
+  same-received i e j =
+      ap₂ (λ (a p : Bool). received (record { asks = a; pos = p; neg = negative (x .sample .alerts) i }) (receiver g i)) (t .asks i j e) (t .pos i j e)
+      ∙ ap₂ (λ (m : Bool) (r : Receiver). received (record { asks = placeIn (y .sample .asks) i; pos = positive (y .sample .alerts) i; neg = m }) r)
+      (t .neg i j e) (s .receivers i e j)
+
   events : (i : ℕ) → his i ≡ false → i < g1 .n → happensIn g x i ≡ happensIn f y i
   events i e m =
       let j : i < g .n = omega (arith, acted-n g (x .access)) in
-      happens-in g x i (s .small) j ∙ ap₂ (λ (p m : Bool). happens (armed g i) p m) (t .pos i j e) (t .neg i j e)
-      ∙ ap (λ (a : Bool). happens a (positive (y .sample .alerts) i) (negative (y .sample .alerts) i)) (s .arms i e j)
-      ∙ sym (happens-in f y i (f-small k his g f s) (omega (arith, s .n)))
+      happens-in g x i (s .small) j ∙ ap (λ (r : Received). r .event) (same-received i e j) ∙ sym (happens-in f y i (f-small k his g f s) (omega (arith, s .n)))
 
   same-assigned : assigned g1 (hears g x) k ≡ assigned f1 (hears f y) k
   unfolding assigned hears
@@ -183,10 +176,9 @@ module _ (k : ℕ) (his : ℕ → Bool) (g : Handler) (x : Input) (f : Handler) 
             frame g x d i j u ∙ read .fields d i e (omega (arith, acted-n g (x .access))) u ∙ sym (frame f y d i (omega (arith, s .n)) u);
         stages = λ d i e m. let j : i < g .n = omega (arith, after-n g x) in
             after-stage g x (Alert d i) ∙ read .stages d i e (omega (arith, acted-n g (x .access))) ∙ sym (after-stage f y (Alert d i));
-        arms = λ i e m. let j : i < g .n = omega (arith, after-n g x) in
-            after-armed g x i (omega (arith, s .small))
-            ∙ same-rearmed k his g1 f1 (x .sample .alerts) (y .sample .alerts) read pos neg i e (omega (arith, acted-n g (x .access)))
-            ∙ sym (after-armed f y i (omega (arith, s .small)));
+        receivers = λ i e m. let j : i < g .n = omega (arith, after-n g x) in
+            after-receiver g x i (s .small) j ∙ ap (λ (r : Received). r .receiver) (same-received i e j)
+            ∙ sym (after-receiver f y i (f-small k his g f s) (omega (arith, s .n)));
         bit-k = tick-equal .bit-k;
         enable-k = ap (λ (o : ℕ). bit o k) (after-enable g x) ∙ read .enable-k ∙ sym (ap (λ (o : ℕ). bit o k) (after-enable f y));
       }
@@ -212,7 +204,7 @@ module _ (k : ℕ) (his : ℕ → Bool) (first : ℕ) (h : Handler) (xs ys : Lis
   both-at : (i : ℕ) → i ≤ length xs → Both i
   unfolding run
   both-at zero m = (
-    record { small = facts h v .n; n = refl; fields = λ d i e j u. refl; stages = λ d i e j. refl; arms = λ i e j. refl; bit-k = refl; enable-k = refl },
+    record { small = facts h v .n; n = refl; fields = λ d i e j u. refl; stages = λ d i e j. refl; receivers = λ i e j. refl; bit-k = refl; enable-k = refl },
     record { class = refl; stages = refl; bit-k = refl },
   )
   both-at (suc i) m = rw (at-next h xs v i m, at-next h ys v i (omega arith)) (step i m (both-at i (omega arith)))

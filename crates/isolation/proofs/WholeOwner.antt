@@ -10,6 +10,7 @@ use borrow.Author.Tests.{eqb-true, ne-eqb}
 use lib.Dec.{eqb}
 use lib.ListN.{length}
 use Rattle.bits.specs.Bits.{bit}
+use Rattle.bits.specs.Index.{placeIn}
 use Rattle.class_rules.specs.Class.{drives}
 use Rattle.class_rules.specs.Step.{starts}
 use Rattle.escalation.specs.List.{IsTick, before, inputAt, givenAt, classRead}
@@ -86,6 +87,7 @@ record Differ (k : ℕ) (his : ℕ → Bool) (g : Handler) (x : Input) (f : Hand
   pub access : (x .access ≡ y .access) ⊎ (Tenant k his g (x .access) × Tenant k his f (y .access))
   pub pos : (i : ℕ) → i < g .n → his i ≡ false → positive (x .sample .alerts) i ≡ positive (y .sample .alerts) i
   pub neg : (i : ℕ) → i < g .n → his i ≡ false → negative (x .sample .alerts) i ≡ negative (y .sample .alerts) i
+  pub asks : (i : ℕ) → i < g .n → his i ≡ false → placeIn (x .sample .asks) i ≡ placeIn (y .sample .asks) i
   pub stations : Station k his g x × Station k his f y
 
 but-tenant : (k : ℕ) (his : ℕ → Bool) (g : Handler) (x : Input) (f : Handler) (y : Input) → Differ k his g x f y → ButTenant k his g x f y
@@ -94,6 +96,7 @@ but-tenant k his g x f y d =
       access = go (d .access);
       pos = d .pos;
       neg = d .neg;
+      asks = d .asks;
       apart = (apart k his g x (d .stations .0), apart k his f y (d .stations .1));
     }
   where

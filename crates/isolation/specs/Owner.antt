@@ -7,6 +7,7 @@ use mathlib.Core.Logic.{_⊎_}
 use mathlib.Core.Bool.{Bool, true, false, not, _&&_}
 use mathlib.Core.List.{List}
 use lib.Dec.{eqb}
+use Rattle.bits.specs.Index.{placeIn}
 use Rattle.class_rules.specs.Step.{starts}
 use Rattle.escalation.specs.List.{IsTick, before, inputAt, givenAt, classRead}
 use Rattle.rules.specs.Access.{acted, named}
@@ -57,11 +58,13 @@ pub record Apart (k : ℕ) (his : ℕ → Bool) (g : Handler) (x : Input) : Type
   pub local-2 : reaches k (acted g (x .access)) 2 ≡ false
   pub local-5 : reaches k (acted g (x .access)) 5 ≡ false
 
--- two ticks that are equal but for his accesses and his alerts' wires
+-- two ticks that are equal but for his accesses, his alerts' wires and the pings that are asked for of his alerts: asking for a ping of another's alert
+-- would turn that alert's event into an answer (request (viii))
 pub record ButTenant (k : ℕ) (his : ℕ → Bool) (g : Handler) (x : Input) (f : Handler) (y : Input) : Type 0 where
   pub access : (x .access ≡ y .access) ⊎ ((byTenant k his g (x .access) ≡ true) × (byTenant k his f (y .access) ≡ true))
   pub pos : (i : ℕ) → i < g .n → his i ≡ false → positive (x .sample .alerts) i ≡ positive (y .sample .alerts) i
   pub neg : (i : ℕ) → i < g .n → his i ≡ false → negative (x .sample .alerts) i ≡ negative (y .sample .alerts) i
+  pub asks : (i : ℕ) → i < g .n → his i ≡ false → placeIn (x .sample .asks) i ≡ placeIn (y .sample .asks) i
   pub apart : Apart k his g x × Apart k his f y
 
 -- so are all ticks of the runs with inputs xs and ys from the state h

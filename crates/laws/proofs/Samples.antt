@@ -1,4 +1,4 @@
 pub mod Heard
-pub mod Arming
+pub mod Receivers
 pub mod AtRest
 pub mod Raises

@@ -2,9 +2,9 @@
 -- Assumes nothing.
 use Prim.Native.Nat.{ℕ, _*_, _≤_, _<_}
 use mathlib.Core.Path.{_≡_}
-use mathlib.Core.Bool.{true}
+use Rattle.link_rules.specs.Receiver.{newReceiver}
 use Rattle.rules.specs.Stages.{stage}
-use Rattle.rules.specs.State.{most, words, alert, armed}
+use Rattle.rules.specs.State.{most, words, alert, receiver}
 use Rattle.rules.specs.declared.Field.{Field}
 use Rattle.rules.specs.declared.Handler.{Handler}
 use Rattle.rules.specs.declared.Register.the-variants.{Alert}
@@ -13,7 +13,7 @@ use Rattle.rules.specs.declared.Register.the-variants.{Alert}
 pub record SameAbove (h g : Handler) : Type 0 where
   pub n : g .n ≡ h .n
   pub alerts : (f : Field) (i : ℕ) → h .n ≤ i → i < most → alert g f i ≡ alert h f i
-  pub receivers : (i : ℕ) → h .n ≤ i → i < 64 * words → armed g i ≡ armed h i
+  pub receivers : (i : ℕ) → h .n ≤ i → i < 64 * words → receiver g i ≡ receiver h i
   pub stages : (f : Field) (i : ℕ) → h .n ≤ i → i < most → stage g (Alert f i) ≡ stage h (Alert f i)
 
 -- the reset value of an alert's register
@@ -23,8 +23,8 @@ atReset Field.En = 0
 atReset Field.Class = 0
 atReset Field.Cause = 0
 
--- every stored entry at reset and re-armed with no stage, those at N and above too
+-- every stored entry and receiver at reset with no stage, those at N and above too
 pub record EntriesNew (h : Handler) : Type 0 where
   pub alerts : (f : Field) (i : ℕ) → i < most → alert h f i ≡ atReset f
-  pub receivers : (i : ℕ) → i < 64 * words → armed h i ≡ true
+  pub receivers : (i : ℕ) → i < 64 * words → receiver h i ≡ newReceiver
   pub stages : (f : Field) (i : ℕ) → i < most → stage h (Alert f i) ≡ 0

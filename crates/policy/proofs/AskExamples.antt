@@ -1,15 +1,18 @@
 -- One access of a boot, and a boot that does not begin, by computation: what goes on, what stops, and the state that is given.
 -- Assumes nothing.
-use Prim.Native.Nat.{ℕ}
+use Prim.Native.Nat.{ℕ, _-_, _^_}
 use mathlib.Core.Path.{_≡_, refl}
 use mathlib.Core.Bool.{Bool, true, false}
 use mathlib.Core.List.{[], _∷_}
 use lib.IntN.{ℤ, pos, negsuc}
 use lib.ListN.{set, replicate}
+use Rattle.link_rules.specs.declared.Handshake.{Handshake}
+use Rattle.link_rules.specs.declared.Handshake.the-variants.{Ready, FirstPause}
+use Rattle.link_rules.specs.declared.Receiver.{Receiver}
 use Rattle.rules.proofs.Scenes.{rules}
 use Rattle.rules.specs.Access.{value}
 use Rattle.rules.specs.Stages.{stage}
-use Rattle.rules.specs.State.{newHandler, withAlerts, withInterrupts, withLocals, withLinks, withStages, armed}
+use Rattle.rules.specs.State.{newHandler, withAlerts, withInterrupts, withLocals, withLinks, withStages, receiver}
 use Rattle.rules.specs.declared.Field.{Field}
 use Rattle.rules.specs.declared.Handler.{Handler}
 use Rattle.rules.specs.declared.Register.{Register}
@@ -45,7 +48,7 @@ wanted = (refl, refl, refl, refl, refl, refl, refl, refl)
 abbrev classOf0 : Register
 classOf0 = Alert Field.Class 0
 
--- a new handler of 58 alerts but for the REGWEN of alert 0, the EN of local alert 5, its alerts disarmed, and a stage of alert 0's CLASS
+-- a new handler of 58 alerts but for the REGWEN of alert 0, the EN of local alert 5, its receivers acknowledging a rise, and a stage of alert 0's CLASS
 abbrev staged : ℕ → ℕ → Handler
 staged regwen code =
     withStages
@@ -54,12 +57,12 @@ staged regwen code =
       alerts = record { en = replicate 248 0; class = set (replicate 248 0) 0 code };
       locals = newHandler 58 .stages .locals;
     })
-    (withLinks (record { receivers = record { armed = replicate 4 0 } })
+    (withLinks (record { receivers = record { pausing = replicate 4 0; busy = replicate 4 (2 ^ 64 - 1); level = replicate 4 0; pending = replicate 4 0 } })
     (withLocals (record { regwen = replicate 7 1; en = set (replicate 7 0) 5 1; class = replicate 7 0; cause = replicate 7 0 })
     (withAlerts (record { regwen = set (replicate 248 1) 0 regwen; en = replicate 248 0; class = replicate 248 0; cause = replicate 248 0 }) (newHandler 58))))
 
 -- what is seen of it: whether it goes on, register and answer, and of the state the CLASS of alert 0, its stage, the CAUSE of local alert 5 and
--- whether alert 57 is re-armed, which the tick's wires do
+-- alert 57's receiver, which the tick's wires move
 pub record Seen : Type 0 where
   pub going : Bool
   pub register : ℕ
@@ -67,7 +70,7 @@ pub record Seen : Type 0 where
   pub held : ℕ
   pub code : ℕ
   pub shadow : ℕ
-  pub ready : Bool
+  pub link : Receiver
 
 abbrev seen : Progress → Seen
 seen p =
@@ -79,11 +82,17 @@ seen p =
       held = value g classOf0;
       code = stage g classOf0;
       shadow = value g (Local Field.Cause 5);
-      ready = armed g 57;
+      link = receiver g 57;
     }
 
+-- no ping is asked for
+abbrev standing : Handshake → Bool → ℕ → ℤ → ℕ → ℕ → ℕ → Seen
+standing p b r a v c s =
+    record { going = b; register = r; answer = a; held = v; code = c; shadow = s; link = record { stands = p; level = false; pending = false } }
+
+-- after one tick at (0,1) the receivers have read the drop
 abbrev gives : Bool → ℕ → ℤ → ℕ → ℕ → ℕ → Seen
-gives b r a v c s = record { going = b; register = r; answer = a; held = v; code = c; shadow = s; ready = true }
+gives = standing FirstPause
 
 -- the answer that is wanted: on, with register 0 and answer 0
 goesOn : (seen (asked (staged 1 0) (write 768 2)) ≡ gives true 0 (pos 0) 0 3 0)
@@ -98,8 +107,8 @@ stops : (seen (asked (staged 0 3) (write 768 2)) ≡ gives false 768 (negsuc 2) 
 unfolding boots
 stops = (refl, refl, refl)
 
--- an equal stage: the first write commits, the second is staged, the read drops it and finds the value
-equalStage : seen (install (asked (staged 1 3) (write 768 2)) (write 768 2 ∷ read 768 2 ∷ [])) ≡ gives true 0 (pos 0) 2 0 0
+-- an equal stage: the first write commits, the second is staged, the read drops it and finds the value; after three ticks the receivers are ready
+equalStage : seen (install (asked (staged 1 3) (write 768 2)) (write 768 2 ∷ read 768 2 ∷ [])) ≡ standing Ready true 0 (pos 0) 2 0 0
 unfolding boots
 equalStage = refl
 

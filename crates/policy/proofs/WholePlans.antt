@@ -139,12 +139,13 @@ ticksOf : (length (asks (planOf Lifecycle.Prod)) ≡ 474) × (length (asks (plan
 unfolding plans
 ticksOf = (refl, refl)
 
--- "with all wires at (0,1)", those of alerts at N and above too
+-- "with all wires at (0,1)", those of alerts at N and above too, and, by request (viii), with no ping asked for
 wires : (x : Access)
     → (rest x .access ≡ x)
     × (rest x .sample .alerts .pos ≡ 0 ∷ 0 ∷ 0 ∷ 0 ∷ [])
     × (rest x .sample .alerts .neg ≡ 18446744073709551615 ∷ 18446744073709551615 ∷ 18446744073709551615 ∷ 18446744073709551615 ∷ [])
-wires x = (refl, refl, refl)
+    × (rest x .sample .asks ≡ 0 ∷ 0 ∷ 0 ∷ 0 ∷ [])
+wires x = (refl, refl, refl, refl)
 
 -- ── lifecycles by number ──
 

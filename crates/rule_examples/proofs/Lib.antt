@@ -1,4 +1,6 @@
 pub mod SampleExamples
+pub mod HandshakeExamples
+pub mod PairExamples
 pub mod PhaseExamples
 pub mod StageExamples
 pub mod ShadowRegisterExamples

@@ -17,7 +17,7 @@ use Rattle.rules.specs.declared.Handler.{Handler}
 use Rattle.rules.specs.declared.Register.the-variants.{Only, Block}
 use Rattle.rules.specs.declared.Setting.{Setting}
 use Rattle.rules.specs.declared.Setting.the-variants.{ClrRegwen, Clr, AccumCnt, AccumThresh}
-use Rattle.rules.specs.Scenes.{ones, wired, wire, rest, raise, bothHigh, none, write}
+use Rattle.rules.specs.Scenes.{ones, wired, wire, rest, raise, pause, bothHigh, none, write}
 use Rattle.rules.specs.declared.Single.the-variants.{IntrState, IntrTest}
 use Rattle.rules.proofs.Scenes.{rules, settings, station}
 
@@ -75,13 +75,13 @@ local-5-own = refl
 -- ── a start under LOCK makes the class's own CLR_REGWEN 0; its event is of no other class, and does not wait for another class's timeout ──
 
 abbrev all : Handler
-all = run (four (replicate 4 9) 50 0) (wired (wire 0 + wire 1 + wire 2 + wire 3) (ones - wire 0 - wire 1 - wire 2 - wire 3) none ∷ rest none ∷ [])
+all = run (four (replicate 4 9) 50 0) (wired (wire 0 + wire 1 + wire 2 + wire 3) (ones - wire 0 - wire 1 - wire 2 - wire 3) none ∷ pause)
 
 locks-own : map (λ i. seen ClrRegwen (run (four (replicate 4 0) 0 0) (raise i none ∷ []))) (0 ∷ 1 ∷ 2 ∷ 3 ∷ []) ≡ butOne
 unfolding rules
 locks-own = refl
 
--- all four are in Timeout with one event counted; the second event of one
+-- all four are in Timeout with one event counted, their receivers ready again; the second event of one
 counts-in-timeout : (seen Setting.State all ≡ replicate 4 1)
     × (map (λ i. seen AccumCnt (run all (raise i none ∷ []))) (0 ∷ 1 ∷ 2 ∷ 3 ∷ [])
     ≡ (2 ∷ 1 ∷ 1 ∷ 1 ∷ []) ∷ (1 ∷ 2 ∷ 1 ∷ 1 ∷ []) ∷ (1 ∷ 1 ∷ 2 ∷ 1 ∷ []) ∷ (1 ∷ 1 ∷ 1 ∷ 2 ∷ []) ∷ [])

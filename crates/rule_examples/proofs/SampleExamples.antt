@@ -1,14 +1,14 @@
 -- Worked examples that pin step 2, the samples, by computation.
 -- Assumes nothing.
-use Prim.Native.Nat.{ℕ, suc, _+_, _-_, _^_}
+use Prim.Native.Nat.{ℕ, suc, _+_, _-_}
 use mathlib.Core.Path.{_≡_, refl}
-use mathlib.Core.Bool.{Bool, true, false}
 use mathlib.Core.List.{List, [], _∷_, _++_, map}
 use lib.IntN.{pos}
 use lib.ListN.{set, replicate}
+use Rattle.link_rules.specs.declared.Handshake.the-variants.{Acknowledged}
 use Rattle.rules.specs.Access.{value}
 use Rattle.rules.specs.Run.{run}
-use Rattle.rules.specs.State.{newHandler, local, alert, armed, withLocals}
+use Rattle.rules.specs.State.{newHandler, local, alert, receiver, withLocals}
 use Rattle.rules.specs.Tick.{after}
 use Rattle.rules.specs.declared.Access.{Access}
 use Rattle.rules.specs.declared.Field.{Field}
@@ -17,13 +17,9 @@ use Rattle.rules.specs.declared.Input.{Input}
 use Rattle.rules.specs.declared.Register.{Register}
 use Rattle.rules.specs.declared.Register.the-variants.{Only, Local, Alert, Block}
 use Rattle.rules.specs.declared.Setting.the-variants.{AccumCnt}
-use Rattle.rules.specs.Scenes.{ones, wired, wire, rest, raise, bothHigh, bothLow, none, write, gives}
+use Rattle.rules.specs.Scenes.{ones, wired, wire, rest, raise, pause, bothHigh, bothLow, none, write, gives}
 use Rattle.rules.specs.declared.Single.the-variants.{IntrState}
 use Rattle.rules.proofs.Scenes.{rules, settings, zeros, station, ready}
-
--- a word of 64 ones
-abbrev most64 : ℕ
-most64 = 2 ^ 64 - 1
 
 abbrev holds : Handler → List Input → Register → ℕ
 holds h xs q = value (run h xs) q
@@ -31,31 +27,21 @@ holds h xs q = value (run h xs) q
 abbrev accum : Handler → List Input → ℕ
 accum h xs = holds h xs (Block AccumCnt 0)
 
--- "Pair (1,0) on a re-armed alert is an event and disarms it; (0,1) re-arms it; equal wires change no arming"
-arming : (accum (ready 9) (raise 0 none ∷ []) ≡ 1)
-    × (accum (ready 9) (raise 0 none ∷ raise 0 none ∷ []) ≡ 1)
-    × (accum (ready 9) (raise 0 none ∷ rest none ∷ raise 0 none ∷ []) ≡ 2)
-    × (accum (ready 9) (raise 0 none ∷ bothHigh 0 none ∷ raise 0 none ∷ []) ≡ 1)
-    × (accum (ready 9) (raise 0 none ∷ bothLow 0 none ∷ raise 0 none ∷ []) ≡ 1)
-    × (accum (ready 9) (bothHigh 0 none ∷ raise 0 none ∷ []) ≡ 1)
-    × (accum (ready 9) (wired 0 ones none ∷ wired 0 ones none ∷ []) ≡ 0)
-unfolding rules
-arming = (refl, refl, refl, refl, refl, refl, refl)
-
--- a disabled alert at (1,0) disarms, so enabling it with the wire still high gives no event
+-- a disabled alert's receiver runs as any other, so that one enabled in the middle of a handshake has no event for the rise before, and has one for the next
 abbrev off : Handler
 off = station 1 (replicate 248 0) (replicate 248 0) 0 (settings 0x393F 0 0 zeros)
 
 abbrev enable : Access
 enable = write (Alert Field.En 0) 1
 
-disabled : (armed (run off (raise 0 none ∷ [])) 0 ≡ false)
+disabled : (receiver (run off (raise 0 none ∷ [])) 0 .stands ≡ Acknowledged)
     × (holds off (rest enable ∷ raise 0 none ∷ raise 0 enable ∷ []) (Alert Field.Cause 0) ≡ 0)
     × (holds off (rest enable ∷ raise 0 enable ∷ []) (Alert Field.Cause 0) ≡ 1)
     × (accum off (rest enable ∷ raise 0 none ∷ raise 0 enable ∷ []) ≡ 0)
+    × (accum off (rest enable ∷ raise 0 none ∷ raise 0 enable ∷ pause ++ raise 0 none ∷ []) ≡ 1)
     × (holds off (raise 0 none ∷ []) (Alert Field.Cause 0) ≡ 0)
 unfolding rules
-disabled = (refl, refl, refl, refl, refl)
+disabled = (refl, refl, refl, refl, refl, refl)
 
 -- "however many, it is one event": two alerts of a class in one tick
 together : (accum (ready 9) (wired (wire 0 + wire 1) (ones - wire 0 - wire 1) none ∷ []) ≡ 1)
@@ -78,37 +64,28 @@ every = station 248 (replicate 248 1) (replicate 248 2) 2 (settings 5 0 0 zeros)
 abbrev risen : ℕ → Handler
 risen i = after every (raise i none)
 
--- what a rise of alert i leaves: its own cause and arming, those of the alerts beside it, and the class's interrupt
+-- what a rise of alert i leaves: its own cause, those of the alerts beside it, and the class's interrupt
 abbrev marks : ℕ → List ℕ
 marks i = let h = risen i in map (λ (k : ℕ). alert h Field.Cause k) ((i - 1) ∷ i ∷ suc i ∷ []) ++ (h .interrupts .state ∷ [])
 
-abbrev arms : ℕ → List Bool
-arms i = let h = risen i in map (armed h) ((i - 1) ∷ i ∷ suc i ∷ [])
-
 places : (map marks (63 ∷ 64 ∷ 127 ∷ 128 ∷ 191 ∷ 192 ∷ 247 ∷ []) ≡ replicate 7 (0 ∷ 1 ∷ 0 ∷ 4 ∷ []))
-    × (map arms (63 ∷ 64 ∷ 127 ∷ 128 ∷ 191 ∷ 192 ∷ 247 ∷ []) ≡ replicate 7 (true ∷ false ∷ true ∷ []))
     × (alert (after every (wired (ones - wire 247) (wire 247) none)) Field.Cause 247 ≡ 0)
-    × (risen 247 .links .receivers .armed ≡ most64 ∷ most64 ∷ most64 ∷ (most64 - 2 ^ 8) ∷ [])
-    × (risen 64 .links .receivers .armed ≡ most64 ∷ (most64 - 2 ^ 63) ∷ most64 ∷ most64 ∷ [])
 unfolding rules
-places = (refl, refl, refl, refl, refl)
+places = (refl, refl)
 
 -- the state with local 2 enabled in class k
 abbrev locals2 : ℕ → Handler → Handler
 locals2 k h =
     withLocals (record { regwen = replicate 7 1; en = set (replicate 7 0) 2 1; class = set (replicate 7 0) 2 k; cause = replicate 7 0 }) h
 
--- "Samples at N and above count for nothing", and a new handler's arming is all ones for every N
+-- "Samples at N and above count for nothing"
 abbrev two : Handler
 two = locals2 0 (station 2 (replicate 248 1) (replicate 248 0) 0 (settings 5 0 0 zeros))
 
-above : (run two (wired ones 0 none ∷ []) .links .receivers .armed ≡ (most64 - 2 ^ 63 - 2 ^ 62) ∷ most64 ∷ most64 ∷ most64 ∷ [])
-    × (run two (wired (wire 2) (ones - wire 2) none ∷ []) ≡ run two (rest none ∷ []))
+above : (run two (wired (wire 2) (ones - wire 2) none ∷ []) ≡ run two (rest none ∷ []))
     × (run two (wired (ones - wire 0 - wire 1) ones none ∷ []) ≡ run two (rest none ∷ []))
-    × (newHandler 0 .links .receivers .armed ≡ replicate 4 most64)
-    × (newHandler 248 .links .receivers .armed ≡ replicate 4 most64)
 unfolding rules
-above = (refl, refl, refl, refl, refl)
+above = (refl, refl)
 
 -- "If any enabled alert has equal wires and local 2 is enabled, local 2 occurs and sets its cause. A disabled local alert never occurs."
 abbrev integrity : Handler

@@ -137,11 +137,15 @@ fullClass regwen =
       state = 7;
     }
 
+-- request (viii): any bits are receivers
+abbrev ones64 : List ℕ
+ones64 = replicate 4 (2 ^ 64 - 1)
+
 abbrev full : ℕ → Handler
 full regwen =
     record {
       n = 5;
-      links = record { receivers = record { armed = replicate 4 0 } };
+      links = record { receivers = record { pausing = ones64; busy = ones64; level = ones64; pending = ones64 } };
       classes = replicate 4 (fullClass regwen);
       alerts = record { regwen = replicate 248 regwen; en = replicate 248 1; class = replicate 248 3; cause = replicate 248 1 };
       locals = record { regwen = replicate 7 regwen; en = replicate 7 1; class = replicate 7 3; cause = replicate 7 1 };

@@ -13,7 +13,7 @@ use Rattle.rules.specs.declared.Input.{Input}
 use Rattle.rules.specs.declared.Register.the-variants.{Block}
 use Rattle.rules.specs.declared.Setting.{Setting}
 use Rattle.rules.specs.declared.Setting.the-variants.{Clr, AccumCnt, AccumThresh}
-use Rattle.rules.specs.Scenes.{ones, wired, wire, rest, raise, none, write}
+use Rattle.rules.specs.Scenes.{ones, wired, wire, rest, raise, pause, none, write}
 use Rattle.rules.proofs.Scenes.{rules, settings, station}
 
 -- ── alert k is enabled in class k; the classes have these thresholds, and stay long in Phase 0 ──
@@ -27,14 +27,14 @@ four a b c d =
 abbrev eachClass : Setting → Handler → List ℕ
 eachClass s h = map (λ k. value h (Block s k)) (0 ∷ 1 ∷ 2 ∷ 3 ∷ [])
 
--- an event of all four, and the wires at rest again
+-- an event of all four, and the wires at rest until the receivers are ready again
 abbrev all : List Input
-all = wired (wire 0 + wire 1 + wire 2 + wire 3) (ones - wire 0 - wire 1 - wire 2 - wire 3) none ∷ rest none ∷ []
+all = wired (wire 0 + wire 1 + wire 2 + wire 3) (ones - wire 0 - wire 1 - wire 2 - wire 3) none ∷ pause
 
 -- ── each class counts its own events ──
 
 abbrev some : List Input
-some = raise 1 none ∷ rest none ∷ raise 3 none ∷ rest none ∷ raise 3 none ∷ rest none ∷ raise 0 none ∷ rest none ∷ raise 3 none ∷ rest none ∷ raise 1 none ∷ []
+some = raise 1 none ∷ raise 3 none ∷ pause ++ (raise 3 none ∷ raise 0 none ∷ pause) ++ (raise 3 none ∷ raise 1 none ∷ [])
 
 counts-own : eachClass AccumCnt (run (four 9 9 9 9) some) ≡ 1 ∷ 2 ∷ 0 ∷ 3 ∷ []
 unfolding rules

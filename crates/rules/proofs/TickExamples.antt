@@ -1,6 +1,6 @@
 -- Worked examples that pin steps 3 to 5 and the order of a tick's steps, by computation; rule_examples PhaseExamples has the phases.
 -- Assumes nothing.
-use Prim.Native.Nat.{ℕ, _+_}
+use Prim.Native.Nat.{ℕ, _*_}
 use mathlib.Core.Path.{_≡_, refl}
 use mathlib.Core.List.{List, [], _∷_, _++_, map}
 use lib.ListN.{replicate}
@@ -17,7 +17,7 @@ use Rattle.rules.specs.declared.Register.the-variants.{Only, Alert, Bloc
 use Rattle.rules.specs.declared.Setting.{Setting}
 use Rattle.rules.specs.declared.Setting.the-variants.{Ctrl, ClrRegwen, Clr, AccumCnt, TimeoutCyc, EscCnt}
 use Rattle.rules.specs.declared.Ticked.{Ticked}
-use Rattle.rules.specs.Scenes.{rest, raise, none, write, configure, gives, refused}
+use Rattle.rules.specs.Scenes.{rest, raise, pause, none, write, configure, gives, refused}
 use Rattle.rules.specs.declared.Single.the-variants.{IntrState, IntrEnable, IntrTest}
 use Rattle.rules.proofs.Scenes.{rules, settings, zeros, station, pair, ready, lengths, started}
 
@@ -29,7 +29,7 @@ state h xs = holds h xs (Block Setting.State 0)
 
 -- "It sets the interrupt bit, after any clearing in step 1": a bit cleared and set in one tick ends at 1, and so does a CAUSE
 abbrev fired : Handler
-fired = run (ready 9) (raise 0 none ∷ rest none ∷ [])
+fired = run (ready 9) (raise 0 none ∷ pause)
 
 sets-after-clearing : (holds fired (raise 0 (write (Only IntrState) 1) ∷ []) (Only IntrState) ≡ 1)
     × (holds fired (rest (write (Only IntrState) 1) ∷ []) (Only IntrState) ≡ 0)
@@ -39,7 +39,7 @@ sets-after-clearing = (refl, refl, refl)
 
 -- "Threshold 2, ACCUM_CNT 0, Idle: the third event starts Phase 0, ACCUM_CNT then 3"; the second does not
 abbrev events : ℕ → List Input
-events n = lib.ListN.take (n + n) (raise 0 none ∷ rest none ∷ raise 0 none ∷ rest none ∷ raise 0 none ∷ rest none ∷ [])
+events n = lib.ListN.take (4 * n) ((raise 0 none ∷ pause) ++ (raise 0 none ∷ pause))
 
 third : (state (ready 2) (events 2) ≡ 0)
     × (state (ready 2) (events 2 ++ (raise 0 none ∷ [])) ≡ 4)

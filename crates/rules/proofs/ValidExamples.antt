@@ -12,6 +12,7 @@ use Rattle.rules.specs.declared.Access.{Access}
 use Rattle.rules.specs.declared.Answer.{Answer}
 use Rattle.rules.specs.declared.Field.{Field}
 use Rattle.rules.specs.declared.Handler.{Handler}
+use Rattle.rules.specs.declared.Wires.{Wires}
 use Rattle.rules.specs.declared.Refusal.the-variants.{BadState}
 use Rattle.rules.specs.Scenes.{raise}
 use Rattle.rules.proofs.Scenes.{rules}
@@ -75,10 +76,18 @@ places : (valid (classHolds 0 2 0) ≡ false)
 unfolding rules
 places = (refl, refl, refl, refl, refl, refl, refl)
 
--- "state unchanged, tick not run, interrupts and lines 0"
+-- "state unchanged, tick not run, interrupts and lines 0"; request (viii): all pairs (0,1), at N and above and at the places 248 to 255 too
 abbrev broken : Handler
 broken = withInterrupts (record { state = 16; enable = 15 }) (newHandler 5)
 
-refuses : ticked broken (raise 0 (Access.Write 1 3)) ≡ record { handler = broken; answer = Answer.Refused BadState; output = record { interrupts = 0; lines = 0 } }
+abbrev low : Wires
+low = record { pos = replicate 4 0; neg = replicate 4 18446744073709551615 }
+
+refuses : ticked broken (raise 0 (Access.Write 1 3))
+    ≡ record {
+      handler = broken;
+      answer = Answer.Refused BadState;
+      output = record { interrupts = 0; lines = 0; acknowledge = low; ping = low };
+    }
 unfolding rules
 refuses = refl

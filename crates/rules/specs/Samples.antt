@@ -1,12 +1,18 @@
--- "One tick", step 2: the samples, of the handler g after step 1, the wires w and the effects e of step 1.
+-- "One tick", step 2, as request (viii) writes it anew: the samples, of the handler g after step 1, the wires w and the effects e of step 1.
 -- Assumes nothing.
 use Prim.Native.Nat.{ℕ, _-_, _^_}
-use mathlib.Core.Bool.{Bool, true, false, cond, not, _&&_, _||_}
+use mathlib.Core.Bool.{Bool, cond, _&&_, _||_}
+use mathlib.Core.List.{List}
 use lib.Dec.{eqb, ltb}
 use lib.ListN.{replicate}
 use Rattle.bits.specs.Bits.{bit, bitsOf}
 use Rattle.bits.specs.Index.{each, anyTo, placeIn, wordsBy}
-use Rattle.rules.specs.State.{most, words, localCount, local, alert, armed, withLocals, withAlerts, withLocalColumn, withAlertColumn}
+use Rattle.link_rules.specs.Pair.{equal}
+use Rattle.link_rules.specs.Receiver.{received}
+use Rattle.link_rules.specs.declared.Given.{Given}
+use Rattle.link_rules.specs.declared.Received.{Received}
+use Rattle.link_rules.specs.declared.Receiver.{Receiver}
+use Rattle.rules.specs.State.{most, words, localCount, local, alert, receiver, receiversBy, withLocals, withAlerts, withLocalColumn, withAlertColumn}
 use Rattle.rules.specs.declared.Effects.{Effects}
 use Rattle.rules.specs.declared.Field.{Field}
 use Rattle.rules.specs.declared.Handler.{Handler}
@@ -14,31 +20,12 @@ use Rattle.rules.specs.declared.Heard.{Heard}
 use Rattle.rules.specs.declared.Sample.{Sample}
 use Rattle.rules.specs.declared.Wires.{Wires}
 
--- ── a sample at rest: all wires at (0,1) ──
+-- ── a sample at rest: all wires at (0,1), and no ping is asked for ──
 
 abbrev pub atRest : Sample
-atRest = record { alerts = record { pos = replicate words 0; neg = replicate words (2 ^ 64 - 1) } }
+atRest = record { alerts = record { pos = replicate words 0; neg = replicate words (2 ^ 64 - 1) }; asks = replicate words 0 }
 
--- ── one alert: its wire pair and its receiver ──
-
--- the pair (1,0), the pair (0,1), equal wires
-abbrev pub rises : Bool → Bool → Bool
-rises p m = p && not m
-
-abbrev pub falls : Bool → Bool → Bool
-falls p m = not p && m
-
-abbrev pub equal : Bool → Bool → Bool
-equal p m = (p && m) || (not p && not m)
-
--- pair (1,0) on a re-armed alert is an event and disarms it; (0,1) re-arms it; equal wires change no arming
-abbrev pub happens : Bool → Bool → Bool → Bool
-happens arm p m = arm && rises p m
-
-abbrev pub armedAfter : Bool → Bool → Bool → Bool
-armedAfter arm p m = cond (rises p m) false (cond (falls p m) true arm)
-
--- ── alert i of handler g, by the wires w; samples at N and above count for nothing ──
+-- ── alert i of handler g, by the pings that are asked for and the wires w; samples at N and above count for nothing ──
 
 abbrev pub positive : Wires → ℕ → Bool
 positive w i = placeIn (w .pos) i
@@ -49,16 +36,28 @@ negative w i = placeIn (w .neg) i
 abbrev pub alertEnabled : Handler → ℕ → Bool
 alertEnabled g i = eqb (alert g Field.En i) 1
 
+-- what its receiver is given, and gives: request (viii)
+abbrev pub givenTo : List ℕ → Wires → ℕ → Given
+givenTo asks w i = record { asks = placeIn asks i; pos = positive w i; neg = negative w i }
+
+abbrev pub receivedBy : Handler → List ℕ → Wires → ℕ → Received
+receivedBy g asks w i = received (givenTo asks w i) (receiver g i)
+
 -- the alert has an event, enabled or not
-unfoldable pub happened : Handler → Wires → ℕ → Bool
-happened g w i = ltb i (g .n) && happens (armed g i) (positive w i) (negative w i)
+unfoldable pub happened : Handler → List ℕ → Wires → ℕ → Bool
+happened g asks w i = ltb i (g .n) && receivedBy g asks w i .event
+
+-- its open ping is answered
+unfoldable pub answered : Handler → List ℕ → Wires → ℕ → Bool
+answered g asks w i = ltb i (g .n) && receivedBy g asks w i .answer
+
+-- its receiver after the tick
+unfoldable pub receiverAfter : Handler → List ℕ → Wires → ℕ → Receiver
+receiverAfter g asks w i = cond (ltb i (g .n)) (receivedBy g asks w i .receiver) (receiver g i)
 
 -- an enabled alert has equal wires
 unfoldable pub alertBroken : Handler → Wires → ℕ → Bool
 alertBroken g w i = ltb i (g .n) && (equal (positive w i) (negative w i) && alertEnabled g i)
-
-unfoldable pub rearmed : Handler → Wires → ℕ → Bool
-rearmed g w i = cond (ltb i (g .n)) (armedAfter (armed g i) (positive w i) (negative w i)) (armed g i)
 
 -- ── local alert j ──
 
@@ -71,8 +70,9 @@ raised g w e j = (eqb j 2 && anyTo (alertBroken g w) (g .n)) || bit (e .raises) 
 unfoldable pub heard : Handler → Sample → Effects → Heard
 heard g s e =
     record {
-      receivers = record { armed = wordsBy words (rearmed g (s .alerts)) };
-      events = wordsBy words (happened g (s .alerts));
+      receivers = receiversBy (receiverAfter g (s .asks) (s .alerts));
+      events = wordsBy words (happened g (s .asks) (s .alerts));
+      answers = wordsBy words (answered g (s .asks) (s .alerts));
       raises = bitsOf localCount (raised g (s .alerts) e);
     }
 

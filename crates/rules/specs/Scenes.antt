@@ -20,9 +20,14 @@ use Rattle.rules.specs.declared.Register.{Register}
 abbrev pub ones : ℕ
 ones = 2 ^ 256 - 1
 
--- an access with these positive and negative wires, each set as one number, alert 0 highest
+-- an access with these positive and negative wires and these pings asked for, each set as one number, alert 0 highest
+abbrev pub asking : ℕ → ℕ → ℕ → Access → Input
+asking a p m x =
+    let cut = unpack (replicate words 64) in
+    record { access = x; sample = record { alerts = record { pos = cut p; neg = cut m }; asks = cut a } }
+
 abbrev pub wired : ℕ → ℕ → Access → Input
-wired p m x = record { access = x; sample = record { alerts = record { pos = unpack (replicate words 64) p; neg = unpack (replicate words 64) m } } }
+wired p m x = asking 0 p m x
 
 -- alert i's place in a set of wires
 abbrev pub wire : ℕ → ℕ
@@ -35,6 +40,10 @@ rest x = record { access = x; sample = atRest }
 -- alert i at (1,0), the others at (0,1)
 abbrev pub raise : ℕ → Access → Input
 raise i x = wired (wire i) (ones - wire i) x
+
+-- request (viii): after a rise, the ticks at (0,1) until its receiver is ready again: the drop, and two of pause
+abbrev pub pause : List Input
+pause = replicate 3 (rest Access.Nothing)
 
 -- alert i at (1,1) or at (0,0), the others at (0,1)
 abbrev pub bothHigh : ℕ → Access → Input

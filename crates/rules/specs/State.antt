@@ -5,9 +5,12 @@ use mathlib.Core.Bool.{Bool, cond, _||_}
 use mathlib.Core.List.{List}
 use lib.Dec.{eqb, ltb}
 use lib.ListN.{getD, replicate}
-use Rattle.bits.specs.Index.{each, placeIn}
+use Rattle.bits.specs.Index.{each, placeIn, wordsBy}
 use Rattle.class_rules.specs.Class.{noClass}
 use Rattle.class_rules.specs.declared.Class.{Class}
+use Rattle.link_rules.specs.Codes.{handshakeOf, pausingBit, busyBit}
+use Rattle.link_rules.specs.Receiver.{newReceiver}
+use Rattle.link_rules.specs.declared.Receiver.{Receiver}
 use Rattle.rules.specs.Answer.{number}
 use Rattle.rules.specs.declared.Alerts.{Alerts}
 use Rattle.rules.specs.declared.Answer.{Answer}
@@ -17,6 +20,7 @@ use Rattle.rules.specs.declared.Interrupts.{Interrupts}
 use Rattle.rules.specs.declared.Locals.{Locals}
 use Rattle.rules.specs.declared.Made.{Made}
 use Rattle.rules.specs.declared.Links.{Links}
+use Rattle.rules.specs.declared.Receivers.{Receivers}
 use Rattle.rules.specs.declared.Refusal.the-variants.{BadCount}
 use Rattle.rules.specs.declared.Stages.{Stages}
 
@@ -67,9 +71,27 @@ alert h f i = getD (alertColumn f (h .alerts)) i 0
 abbrev pub classAt : Handler → ℕ → Class
 classAt h k = getD (h .classes) k noClass
 
--- alert i is re-armed
-abbrev pub armed : Handler → ℕ → Bool
-armed h i = placeIn (h .links .receivers .armed) i
+-- alert i's receiver
+abbrev pub receiverIn : Receivers → ℕ → Receiver
+receiverIn r i =
+    record {
+      stands = handshakeOf (placeIn (r .pausing) i) (placeIn (r .busy) i);
+      level = placeIn (r .level) i;
+      pending = placeIn (r .pending) i;
+    }
+
+abbrev pub receiver : Handler → ℕ → Receiver
+receiver h i = receiverIn (h .links .receivers) i
+
+-- the receivers of which that of alert i is f i
+abbrev pub receiversBy : (ℕ → Receiver) → Receivers
+receiversBy f =
+    record {
+      pausing = wordsBy words (λ i. pausingBit (f i .stands));
+      busy = wordsBy words (λ i. busyBit (f i .stands));
+      level = wordsBy words (λ i. f i .level);
+      pending = wordsBy words (λ i. f i .pending);
+    }
 
 -- ── the state with a part of it anew ──
 
@@ -119,7 +141,8 @@ withAlertColumn f x a =
 unfoldable pub put {ℓ} : {A : Type ℓ} → ℕ → List A → A → ℕ → A → List A
 put n xs d i v = each n (λ j. cond (eqb j i) v (getD xs j d))
 
--- ── a new handler: all REGWEN and CLR_REGWEN start at 1, all CTRL at 0x393C, every other register at 0, classes Idle, alerts re-armed ──
+-- ── a new handler: all REGWEN and CLR_REGWEN start at 1, all CTRL at 0x393C, every other register at 0, classes Idle, receivers as
+-- request (viii) has them at reset ──
 
 abbrev pub resetClass : Class
 resetClass =
@@ -148,7 +171,7 @@ unfoldable pub newHandler : ℕ → Handler
 newHandler n =
     record {
       n = n;
-      links = record { receivers = record { armed = replicate words (2 ^ 64 - 1) } };
+      links = record { receivers = receiversBy (λ i. newReceiver) };
       classes = replicate classCount resetClass;
       alerts = record { regwen = replicate most 1; en = replicate most 0; class = replicate most 0; cause = replicate most 0 };
       locals =

@@ -1,15 +1,17 @@
 -- "One tick, in order": steps 3 to 5, and the whole tick.
 -- Assumes nothing.
 use Prim.Native.Nat.{ℕ}
-use mathlib.Core.Bool.{Bool, cond, _&&_, _||_}
+use mathlib.Core.Bool.{Bool, false, cond, not, _&&_, _||_}
+use lib.Dec.{ltb}
 use Rattle.bits.specs.Bits.{bit, bitsOf}
-use Rattle.bits.specs.Index.{each, anyTo, placeIn}
+use Rattle.bits.specs.Index.{each, anyTo, placeIn, wordsBy}
 use Rattle.class_rules.specs.Class.{drives}
 use Rattle.class_rules.specs.Step.{classEvent, classStep}
 use Rattle.class_rules.specs.declared.Signals.{Signals}
+use Rattle.link_rules.specs.Receiver.{acknowledges}
 use Rattle.rules.specs.Access.{acted, answerTo, effects}
 use Rattle.rules.specs.Samples.{heard, assigned, sampled}
-use Rattle.rules.specs.State.{classCount, classAt, withInterrupts, withClasses, withLinks}
+use Rattle.rules.specs.State.{words, classCount, classAt, receiver, withInterrupts, withClasses, withLinks}
 use Rattle.rules.specs.Valid.{valid}
 use Rattle.rules.specs.declared.Answer.{Answer}
 use Rattle.rules.specs.declared.Effects.{Effects}
@@ -20,6 +22,7 @@ use Rattle.rules.specs.declared.Links.{Links}
 use Rattle.rules.specs.declared.Output.{Output}
 use Rattle.rules.specs.declared.Refusal.the-variants.{BadState}
 use Rattle.rules.specs.declared.Ticked.{Ticked}
+use Rattle.rules.specs.declared.Wires.{Wires}
 
 -- ── steps 3 and 4, of the handler g after step 1, what step 2 hears and the effects of step 1 ──
 
@@ -55,12 +58,25 @@ interrupts h = bitsOf 4 (λ k. bit (h .interrupts .state) k && bit (h .interrupt
 unfoldable pub lines : Handler → ℕ
 lines h = bitsOf 4 (λ e. anyTo (λ k. drives (classAt h k) e) classCount)
 
-unfoldable pub outputOf : Handler → Output
-outputOf h = record { interrupts = interrupts h; lines = lines h }
+-- request (viii): a pair for each alert, (1,0) where f holds and (0,1) elsewhere
+abbrev pub pairs : (ℕ → Bool) → Wires
+pairs f = record { pos = wordsBy words f; neg = wordsBy words (λ i. not (f i)) }
 
--- refusal 7: interrupts and lines 0
+-- the acknowledge pairs in a tick of the state h, by where its receivers stand before the tick's wires; (0,1) at N and above
+unfoldable pub acknowledgePairs : Handler → Wires
+acknowledgePairs h = pairs (λ i. ltb i (h .n) && acknowledges (receiver h i .stands))
+
+-- the ping pairs in the tick that reaches the state g: asking has changed their levels; (0,1) at N and above
+unfoldable pub pingPairs : Handler → Wires
+pingPairs g = pairs (λ i. ltb i (g .n) && receiver g i .level)
+
+-- in the tick from h to g
+unfoldable pub outputOf : Handler → Handler → Output
+outputOf h g = record { interrupts = interrupts g; lines = lines g; acknowledge = acknowledgePairs h; ping = pingPairs g }
+
+-- refusal 7: interrupts and lines 0, all pairs (0,1)
 abbrev pub noOutput : Output
-noOutput = record { interrupts = 0; lines = 0 }
+noOutput = record { interrupts = 0; lines = 0; acknowledge = pairs (λ i. false); ping = pairs (λ i. false) }
 
 -- ── the tick ──
 
@@ -68,9 +84,12 @@ noOutput = record { interrupts = 0; lines = 0 }
 unfoldable pub hears : Handler → Input → Heard
 hears h x = heard (acted h (x .access)) (x .sample) (effects h (x .access))
 
--- alert i has an event in it, enabled or not
+-- alert i has an event in it, enabled or not; its open ping is answered in it
 abbrev pub happensIn : Handler → Input → ℕ → Bool
 happensIn h x i = placeIn (hears h x .events) i
+
+abbrev pub answeredIn : Handler → Input → ℕ → Bool
+answeredIn h x i = placeIn (hears h x .answers) i
 
 -- class k has an event in it, and what the class meets
 abbrev pub eventIn : Handler → Input → ℕ → Bool
@@ -85,7 +104,7 @@ after h x = withLinks (linksAfter (hears h x)) (stepped (acted h (x .access)) (h
 
 -- steps 1 to 5
 unfoldable pub tick : Handler → Input → Ticked
-tick h x = let g = after h x in record { handler = g; answer = answerTo h (x .access); output = outputOf g }
+tick h x = let g = after h x in record { handler = g; answer = answerTo h (x .access); output = outputOf h g }
 
 -- refusal 7 comes first: state unchanged, tick not run
 unfoldable pub ticked : Handler → Input → Ticked

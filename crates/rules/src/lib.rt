@@ -32,10 +32,15 @@ pub struct Alerts {
     pub cause: [u8; MOST],
 }
 
-// Alert i is re-armed if bit 63 - i % 64 of word i / 64 is 1.
+// The alerts' receivers, request (viii): alert i has bit 63 - i % 64 of word i / 64 in each. Any bits are a receiver.
 #[repr(C)]
 pub struct Receivers {
-    pub armed: [u64; WORDS],
+    // where it stands: 0 0 ready, 0 1 acknowledged, 1 1 and 1 0 the first and the second tick of the pause
+    pub pausing: [u64; WORDS],
+    pub busy: [u64; WORDS],
+    // the level of its ping pair, and whether a ping is open
+    pub level: [u64; WORDS],
+    pub pending: [u64; WORDS],
 }
 
 // What stands between the wires and the registers. Steps 3 to 5 do not look at it, and a tick writes it last.
@@ -168,9 +173,11 @@ pub struct Wires {
     pub neg: [u64; WORDS],
 }
 
+// What comes in on the wires, and the alerts whose ping the caller asks for: alert i at bit 63 - i % 64 of word i / 64.
 #[repr(C)]
 pub struct Sample {
     pub alerts: Wires,
+    pub asks: [u64; WORDS],
 }
 
 pub struct Input {
@@ -208,11 +215,13 @@ pub enum Answer {
     Refused(Refusal),
 }
 
-// Interrupts and lines: class and line 0 are the lowest bits.
+// Interrupts and lines, class and line 0 at the lowest bits, in 32 bits so that there is no padding; and each alert's acknowledge and ping pair.
 #[repr(C)]
 pub struct Output {
-    pub interrupts: u8,
-    pub lines: u8,
+    pub interrupts: u32,
+    pub lines: u32,
+    pub acknowledge: Wires,
+    pub ping: Wires,
 }
 
 // A handler that was made, and the signed number that answers.
@@ -230,11 +239,12 @@ pub struct Effects {
     pub raises: u8,
 }
 
-// What step 2 hears in a tick: the receivers after it, the alerts with an event, alert i at bit 63 - i % 64 of word i / 64, and the local
-// alerts that are raised, local 0 at the lowest bit. Which of them are enabled is not looked at.
+// What step 2 hears in a tick: the receivers after it, the alerts with an event and those whose open ping is answered, alert i at bit
+// 63 - i % 64 of word i / 64, and the local alerts that are raised, local 0 at the lowest bit. Which of them are enabled is not looked at.
 pub struct Heard {
     pub receivers: Receivers,
     pub events: [u64; WORDS],
+    pub answers: [u64; WORDS],
     pub raises: u8,
 }
 

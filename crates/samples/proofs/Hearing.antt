@@ -10,11 +10,13 @@ use Rattle.bits.specs.Bits.{bitsOf}
 use Rattle.bits.specs.Index.{anyTo, wordsBy}
 use Rattle.bits.proofs.IndexLaws.{any-ext}
 use Rattle.bits.proofs.WordLaws.{placeIn-each}
-use Rattle.rules.specs.State.{most, words, localCount, armed}
-use Rattle.rules.specs.Samples.{equal, positive, negative, happened, alertBroken, rearmed, raised, heard}
+use Rattle.link_rules.specs.Pair.{equal}
+use Rattle.rules.specs.State.{most, words, localCount}
+use Rattle.rules.specs.Samples.{positive, negative, happened, answered, receiverAfter, alertBroken, raised, heard}
 use Rattle.rules.specs.declared.Effects.{Effects}
 use Rattle.rules.specs.declared.Handler.{Handler}
 use Rattle.rules.specs.declared.Heard.{Heard}
+use Rattle.rules.specs.declared.Receivers.{Receivers}
 use Rattle.rules.specs.declared.Sample.{Sample}
 use Rattle.rules.specs.declared.Wires.{Wires}
 use Rattle.events.specs.Noted.{enabledIn}
@@ -31,12 +33,12 @@ among f ws en n i small h e =
     ∙ ap (λ (t : Bool). t && enabledIn en i) (placeIn-each words (λ j. ltb j n && f j) i (omega arith))
     ∙ and-assoc (ltb i n) (f i) (enabledIn en i)
 
--- these receivers' words, events and local alerts
-abbrev hearing : List ℕ → List ℕ → ℕ → Heard
-hearing armed events raises = record { receivers = record { armed = armed }; events = events; raises = raises }
+-- these receivers, events, answers and local alerts
+abbrev hearing : Receivers → List ℕ → List ℕ → ℕ → Heard
+hearing receivers events answers raises = record { receivers = receivers; events = events; answers = answers; raises = raises }
 
 module _ (g : Handler) (x : Sample) (fx : Effects) (r : Received) (b : Bool) (mask : ℕ) (small : g .n ≤ most)
-    (received : ReceivedAll (g .n) (g .links .receivers .armed) (x .alerts .pos) (x .alerts .neg) r)
+    (received : ReceivedAll (g .n) (g .links .receivers) x r)
     (search : b ≡ anyTo (amongWords (r .equal) (g .alerts .en)) (g .n))
     (raises : mask ≡ bitsOf localCount (raisedBy b (fx .raises))) where
   abbrev w : Wires
@@ -50,7 +52,8 @@ module _ (g : Handler) (x : Sample) (fx : Effects) (r : Received) (b : Bool) (ma
   broken : b ≡ anyTo (alertBroken g w) (g .n)
   broken = search ∙ any-ext (amongWords (r .equal) (g .alerts .en)) (alertBroken g w) (g .n) breaks
 
-  pub heard-by : hearing (r .armed) (r .events) mask ≡ heard g x fx
-  unfolding heard happened rearmed raised
+  pub heard-by : hearing (r .receivers) (r .events) (r .answers) mask ≡ heard g x fx
+  unfolding heard happened answered receiverAfter raised
   heard-by =
-      λ t. hearing (received .arms t) (received .happened t) ((raises ∙ ap (λ (c : Bool). bitsOf localCount (raisedBy c (fx .raises))) broken) t)
+      λ t. hearing (received .receivers t) (received .happened t) (received .answered t)
+      ((raises ∙ ap (λ (c : Bool). bitsOf localCount (raisedBy c (fx .raises))) broken) t)

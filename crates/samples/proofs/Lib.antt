@@ -1,5 +1,6 @@
-pub mod Pairs
-pub mod FilledWords
+pub mod ReceiverWords
+pub mod StillWords
+pub mod ReceivedWords
 pub mod Hearing
 pub mod SampleSteps
 pub mod QuietSamples

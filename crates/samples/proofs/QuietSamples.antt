@@ -13,14 +13,16 @@ use Rattle.bits.specs.Index.{each, placeIn, wordsBy}
 use Rattle.bits.proofs.BitLaws.{bit-none, is-bitsOf}
 use Rattle.bits.proofs.IndexLaws.{and-true, is-each}
 use Rattle.bits.proofs.WordLaws.{placeIn-each}
+use Rattle.link_rules.specs.Pair.{equal}
 use Rattle.rules.specs.State.{most, words, localCount, local, alert, withLocals, withAlerts, withLocalColumn, withAlertColumn}
-use Rattle.rules.specs.Samples.{equal, positive, negative, alertEnabled, happened, alertBroken, rearmed, heard, alertEvent, occurs, marked, sampled, assigned}
+use Rattle.rules.specs.Samples.{positive, negative, alertEnabled, happened, receiverAfter, alertBroken, heard, alertEvent, occurs, marked, sampled, assigned}
 use Rattle.rules.specs.Tick.{linksAfter}
 use Rattle.rules.specs.declared.Effects.{Effects}
 use Rattle.rules.specs.declared.Field.{Field}
 use Rattle.rules.specs.declared.Handler.{Handler}
 use Rattle.rules.specs.declared.Heard.{Heard}
 use Rattle.rules.specs.declared.Links.{Links}
+use Rattle.rules.specs.declared.Receivers.{Receivers}
 use Rattle.rules.specs.declared.Sample.{Sample}
 use Rattle.laws.specs.Quiet.{Silent}
 use Rattle.laws.proofs.Samples.Heard.{unheard}
@@ -53,15 +55,15 @@ module _ (ws : List ℕ) (e : noneSet ws ≡ true) where
   rule-none : (f : ℕ → Bool) → ws ≡ wordsBy words f → (i : ℕ) → i < most → f i ≡ false
   rule-none f z i l = sym (placeIn-each words f i (omega arith)) ∙ ap (λ (xs : List ℕ). placeIn xs i) (sym z) ∙ place-none i l
 
--- what the wires tell is what the links alone promise
-pub linked-by : (n : ℕ) (links : Links) (x : Sample) (r : Received) (a b : Bool) → ReceivedAll n (links .receivers .armed) (x .alerts .pos) (x .alerts .neg) r
+-- what the receivers tell is what the links alone promise
+pub linked-by : (n : ℕ) (links : Links) (x : Sample) (r : Received) (a b : Bool) → ReceivedAll n (links .receivers) x r
     → a ≡ noneSet (r .events) → b ≡ noneSet (r .equal)
-    → LinkedBy n links x (record { links = record { receivers = record { armed = r .armed } }; quiet = a && b })
+    → LinkedBy n links x (record { links = record { receivers = r .receivers }; quiet = a && b })
 linked-by n links x r a b s y z =
     record {
-      arms = s .arms;
-      no-event = λ q i l. rule-none (r .events) (sym y ∙ and-true a b q .0) (happensAt n (links .receivers .armed) (x .alerts .pos) (x .alerts .neg)) (s .happened) i l;
-      none-equal = λ q i l. rule-none (r .equal) (sym z ∙ and-true a b q .1) (equalAt n (x .alerts .pos) (x .alerts .neg)) (s .equals) i l;
+      receivers = s .receivers;
+      no-event = λ q i l. rule-none (r .events) (sym y ∙ and-true a b q .0) (happensAt n (links .receivers) x) (s .happened) i l;
+      none-equal = λ q i l. rule-none (r .equal) (sym z ∙ and-true a b q .1) (equalAt n (links .receivers) x) (s .equals) i l;
     }
 
 -- ── the state after step 2 ──
@@ -106,5 +108,5 @@ module _ (g : Handler) (x : Sample) (fx : Effects) (r : Linked) (small : g .n �
 
   -- and the links are those of what was heard
   pub quiet-links : r .links ≡ linksAfter v
-  unfolding heard rearmed
-  quiet-links = ap (λ (a : List ℕ). record { receivers = record { armed = a } }) (s .arms)
+  unfolding heard receiverAfter
+  quiet-links = ap (λ (y : Receivers). record { receivers = y }) (s .receivers)

@@ -6,7 +6,6 @@ use events::broken::any_broken;
 use rules::Effects;
 use rules::Handler;
 use rules::Heard;
-use rules::Receivers;
 use rules::Sample;
 ghost use Prim.Native.Nat.{_≤_};
 ghost use mathlib.Core.Path.{_≡_};
@@ -19,19 +18,19 @@ pub fn hear(g: Handler, s: Sample, fx: Effects) -> Heard
     ensures { λ r. ⌜ r ≡ heard g s fx ⌝ }
 {
     let n = g.n;
-    let armed = g.links.receivers.armed;
-    let pos = s.alerts.pos;
-    let neg = s.alerts.neg;
-    let received = receive_all(n, armed, pos, neg);
-    let next = received.armed;
+    let before = g.links.receivers;
+    let received = receive_all(n, before, s);
+    let receivers = received.receivers;
     let events = received.events;
+    let answers = received.answers;
     let equal = received.equal;
     let en = g.alerts.en;
     let broken = any_broken(n, &equal, &en);
     let raises = raise(broken, fx.raises);
     Heard {
-        receivers: Receivers { armed: next },
-        events: events,
-        raises: raises,
+        receivers,
+        events,
+        answers,
+        raises,
     }
 }

@@ -1,8 +1,8 @@
 // Step 2 of a tick: the samples. First what is heard, then what it does.
-mod receive; // receive.rt: wire pairs and arming, 64 alerts at a time
+mod receive; // receive.rt: the receivers, 64 alerts at a time
 pub mod hear; // hear.rt: what is heard: receivers, events, local alerts raised
 pub mod links; // links.rt: the links alone
-mod locals; // locals.rt: the local alerts
+pub mod locals; // locals.rt: the local alerts
 
 use events::gather::gather;
 use rules::Handler;

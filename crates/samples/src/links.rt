@@ -1,7 +1,6 @@
 // The links alone: all that step 2 moves where no alert has an event or equal wires and step 1 raises nothing.
 use crate::receive::receive_all;
 use rules::Links;
-use rules::Receivers;
 use rules::Sample;
 use rules::WORDS;
 ghost use mathlib.Core.Path.{_≡_};
@@ -24,17 +23,13 @@ fn none_set(w: [u64; WORDS]) -> bool
 pub fn links_after(n: usize, links: Links, s: Sample) -> Linked
     ensures { λ r. ⌜ LinkedBy n links s r ⌝ }
 {
-    let armed = links.receivers.armed;
-    let pos = s.alerts.pos;
-    let neg = s.alerts.neg;
-    let received = receive_all(n, armed, pos, neg);
-    let next = received.armed;
+    let before = links.receivers;
+    let received = receive_all(n, before, s);
+    let receivers = received.receivers;
     let events = received.events;
     let equal = received.equal;
     Linked {
-        links: Links {
-            receivers: Receivers { armed: next },
-        },
+        links: Links { receivers },
         quiet: none_set(events) & none_set(equal),
     }
 }

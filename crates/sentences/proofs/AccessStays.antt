@@ -1,4 +1,4 @@
--- What step 1 of the rules leaves as it was: entries at N and above, N, the arming, and the whole state where it is refused with 5, 1, 2, 4 or 14.
+-- What step 1 of the rules leaves as it was: entries at N and above, N, the receivers, and the whole state where it is refused with 5, 1, 2, 4 or 14.
 -- Assumes nothing.
 use Prim.Native.Nat.{ℕ, _≤_, _<_}
 use mathlib.Core.Path.{_≡_, refl, sym, _∙_}
@@ -11,7 +11,7 @@ use Rattle.bits.proofs.IndexLaws.{and-true}
 use Rattle.laws.specs.Columns.{sameField}
 use Rattle.laws.specs.InMap.{inMap}
 use Rattle.laws.specs.RegisterFile.{stores, storedBy}
-use Rattle.laws.proofs.Samples.Arming.{acted-links}
+use Rattle.laws.proofs.Samples.Receivers.{acted-links}
 use Rattle.laws.proofs.Map.Cases.{pick, by-kind, by-field}
 use Rattle.laws.proofs.Access.Refusals.{refused-keeps}
 use Rattle.laws.proofs.Access.RegisterFile.{accepted-in-map, stores-accepted, acted-n}

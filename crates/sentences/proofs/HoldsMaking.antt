@@ -1,15 +1,15 @@
 -- The rule of making satisfies its sentences.
 -- Assumes nothing.
-use Prim.Native.Nat.{ℕ, _/_, _%_, _^_, _-_, _≤_, _<_}
-use mathlib.Core.Path.{_≡_, refl, sym, ap, _∙_, subst}
+use Prim.Native.Nat.{ℕ, _≤_, _<_}
+use mathlib.Core.Path.{_≡_, refl, sym, subst}
 use mathlib.Core.Bool.{true, false}
 use native.Mathlib.Omega.{arith}
 use native.Mathlib.Decide.{decLt}
 use borrow.Author.Tests.{eq-eqb, ne-eqb, lt-ltb, le-ltb}
 use lib.Dec.{eqb}
-use lib.ListN.{replicate, getD-replicate, length-replicate}
-use Rattle.bits.specs.Bits.{place}
-use Rattle.bits.proofs.BitLaws.{bit-ones}
+use lib.ListN.{getD, replicate, getD-replicate, length-replicate}
+use Rattle.bits.specs.Bits.{wordOf}
+use Rattle.bits.specs.Index.{eachFrom, wordsBy}
 use Rattle.bits.proofs.IndexLaws.{or-right}
 use Rattle.class_rules.specs.Class.{noClass}
 use Rattle.rules.specs.Answer.{number}
@@ -17,7 +17,7 @@ use Rattle.rules.specs.Stages.{noClassStages}
 use Rattle.rules.specs.State.{resetClass, newHandler, badCount, made}
 use Rattle.rules.specs.declared.ClassStages.{ClassStages}
 use Rattle.sentences.specs.Making.{Entries, NewClass, NoStages, New, Making}
-use Rattle.sentences.specs.Raw.{arming}
+use Rattle.sentences.proofs.SentenceCases.{by-phase}
 
 -- ── a new handler ──
 
@@ -44,10 +44,10 @@ unstaged = record { lengths = replicate 4 0; timeout = 0; ctrl = 0; thresh = 0 }
 no-stages : NoStages unstaged
 no-stages = record { ctrl = refl; thresh = refl; timeout = refl; lengths = repeated 4 0 }
 
-all-armed : (n i : ℕ) → i < 256 → arming (newHandler n) i ≡ true
-unfolding newHandler
-all-armed n i l =
-    ap (λ (x : ℕ). place x (i % 64)) (getD-replicate 4 (i / 64) (2 ^ 64 - 1) 0 (omega arith)) ∙ bit-ones 64 (63 - i % 64) (omega arith)
+-- words without a bit
+no-bits : Entries 4 0 (wordsBy 4 (λ i. false))
+unfolding wordOf eachFrom
+no-bits = record { many = refl; each-is = by-phase (λ v. getD (wordsBy 4 (λ i. false)) v 0 ≡ 0) refl refl refl refl }
 
 new : (n : ℕ) → New n (newHandler n)
 unfolding newHandler
@@ -66,9 +66,10 @@ new n =
       alert-cause = repeated 248 0;
       class-entries = length-replicate 4 resetClass;
       classes = λ k l. subst NewClass (sym (getD-replicate 4 k resetClass noClass l)) new-class;
-      armed = all-armed n;
-      arming-words = length-replicate 4 (2 ^ 64 - 1);
-      arming-word = λ v l. rw (getD-replicate 4 v (2 ^ 64 - 1) 0 l) (omega arith);
+      pausing = no-bits;
+      busy = no-bits;
+      level = no-bits;
+      pending = no-bits;
       staged-local-en = repeated 7 0;
       staged-local-class = repeated 7 0;
       staged-alert-en = repeated 248 0;

@@ -1,31 +1,40 @@
 -- The rules of steps 3 to 5 of the whole handler satisfy the sentences.
 -- Assumes nothing.
 use Prim.Native.Nat.{ℕ, _≤_, _<_}
-use mathlib.Core.Path.{_≡_, refl, sym, subst}
+use mathlib.Core.Path.{_≡_, refl, sym, ap, subst, _∙_}
 use mathlib.Core.Logic.{_↔_, Iff·rfl}
-use mathlib.Core.Bool.{Bool, true, _&&_}
+use mathlib.Core.Bool.{Bool, true, false, false≢true, and-false, not, _&&_}
 use native.Mathlib.Omega.{arith}
+use borrow.Author.Tests.{lt-ltb, le-ltb}
+use lib.Dec.{ltb}
 use Rattle.bits.specs.Bits.{bit, bitsOf}
 use Rattle.bits.specs.Index.{anyTo}
 use Rattle.bits.proofs.BitLaws.{bitsOf-lt, bit-bitsOf}
-use Rattle.bits.proofs.IndexLaws.{at-each, length-each}
+use Rattle.bits.proofs.IndexLaws.{true-and, at-each, length-each}
 use Rattle.class_rules.specs.Class.{noClass, drives}
 use Rattle.class_rules.specs.Step.{classStep}
-use Rattle.rules.specs.Samples.{sampled, assigned}
-use Rattle.rules.specs.State.{classAt, withLinks}
-use Rattle.rules.specs.Tick.{event, interruptNow, signals, stepped, linksAfter, interrupts, lines, outputOf}
+use Rattle.link_rules.specs.Codes.{handshakeOf}
+use Rattle.link_rules.specs.Receiver.{acknowledges}
+use Rattle.rules.specs.Samples.{heard, sampled, assigned}
+use Rattle.rules.specs.State.{classAt, receiver, withLinks}
+use Rattle.rules.specs.Tick.{event, interruptNow, signals, stepped, linksAfter, interrupts, lines, pairs, acknowledgePairs, pingPairs, outputOf}
 use Rattle.rules.specs.declared.Effects.{Effects}
 use Rattle.rules.specs.declared.Handler.{Handler}
+use Rattle.rules.specs.declared.Sample.{Sample}
 use Rattle.rules.specs.declared.Wires.{Wires}
+use Rattle.laws.proofs.Tick.Pairs.{pairs-at}
 use Rattle.sentences.specs.ClassStep.{Stepped}
 use Rattle.sentences.specs.Outputs.{ClassHasEvent, Meets, ClassesStepped, Outputs}
+use Rattle.sentences.specs.Pairs.{PairsBy, AllLow}
+use Rattle.sentences.specs.Raw.{positive, negative, pausing, busy, level, classOf}
+use Rattle.sentences.specs.Receivers.{Acknowledged}
 use Rattle.sentences.specs.Samples.{RaisesFiveOrNone}
-use Rattle.sentences.specs.Raw.{classOf}
 use Rattle.sentences.specs.Valid.{Valid}
-use Rattle.sentences.proofs.SentenceCases.{and-is, or-is, any-is, then}
+use Rattle.sentences.proofs.SentenceCases.{off, and-is, or-is, any-is, then}
 use Rattle.sentences.proofs.HoldsClass.{holds-class}
 use Rattle.sentences.proofs.HoldsLines.{drives-is}
-use Rattle.sentences.proofs.HoldsSamples.{hear, after2, holds-assigned}
+use Rattle.sentences.proofs.HoldsSamples.{holds-assigned}
+use Rattle.sentences.proofs.HoldsReceivers.{after2, four-words}
 use Rattle.sentences.proofs.SentenceWords.{holds-event}
 
 -- a test that is another says what the other says
@@ -38,9 +47,33 @@ up-to-15 f = omega (arith, bitsOf-lt 4 f)
 
 -- ── step 5 ──
 
+-- alert i's pair is (1,0) where it is below n and t says so, and (0,1) elsewhere
+module _ (n : ℕ) (On : ℕ → Type 0) (t : ℕ → Bool) (e : (i : ℕ) → (t i ≡ true) ↔ On i) where
+  abbrev shown : Wires
+  shown = pairs (λ i. ltb i n && t i)
+
+  pair-is : (i : ℕ) (b : Bool) → i < 256 → (ltb i n && t i) ≡ b → (positive shown i ≡ b) × (negative shown i ≡ not b)
+  pair-is i b l x = let p = pairs-at (λ i. ltb i n && t i) i l in (p .0 ∙ x, p .1 ∙ ap not x)
+
+  pairs-by : PairsBy n On shown
+  pairs-by =
+      record {
+        high = λ i l b o. pair-is i true b (true-and (lt-ltb i n l) (e i .1 o));
+        low = λ i l b o. pair-is i false b (ap (λ (u : Bool). ltb i n && u) (off (t i) (e i) o) ∙ and-false (ltb i n));
+        above = λ i l b. pair-is i false b (ap (λ (u : Bool). u && t i) (le-ltb i n l));
+        words = record { positives = four-words (λ i. ltb i n && t i); negatives = four-words (λ i. not (ltb i n && t i)) };
+      }
+
+-- "acknowledged": the bits 0 1
+acknowledged-is : (p b : Bool) → (acknowledges (handshakeOf p b) ≡ true) ↔ ((p ≡ false) × (b ≡ true))
+acknowledged-is false true = (λ _. (refl, refl), λ _. refl)
+acknowledged-is false false = (λ t. absurd (false≢true t), λ d. absurd (false≢true (d .1)))
+acknowledged-is true true = (λ t. absurd (false≢true t), λ d. absurd (false≢true (sym (d .0))))
+acknowledged-is true false = (λ t. absurd (false≢true t), λ d. absurd (false≢true (d .1)))
+
 pub holds-outputs : Outputs outputOf
-unfolding outputOf interrupts lines
-holds-outputs h =
+unfolding outputOf interrupts lines acknowledgePairs pingPairs
+holds-outputs g h =
     record {
       interrupt = λ k l.
           same-word (bit-bitsOf 4 (λ k. bit (h .interrupts .state) k && bit (h .interrupts .enable) k) k l)
@@ -50,42 +83,52 @@ holds-outputs h =
           (any-is _ (λ k. drives (classAt h k) e) 4 (λ k m. drives-is (classAt h k) e));
       interrupt-bits = up-to-15 _;
       line-bits = up-to-15 _;
+      acknowledge = pairs-by (g .n) (Acknowledged g) (λ i. acknowledges (receiver g i .stands)) (λ i. acknowledged-is (pausing g i) (busy g i));
+      ping = pairs-by (h .n) (λ i. level h i ≡ true) (level h) (λ i. Iff·rfl);
+    }
+
+-- refusal 7
+pub all-low : AllLow (pairs (λ i. false))
+all-low =
+    record {
+      low = λ i l. pairs-at (λ i. false) i l;
+      words = record { positives = four-words (λ i. false); negatives = four-words (λ i. true) };
     }
 
 -- ── steps 3 and 4 ──
 
 -- the state after step 4, its links those of step 2
-abbrev pub after4 : Handler → Wires → Effects → Handler
-after4 g w f = withLinks (linksAfter (hear g w f)) (stepped g (hear g w f) f)
+abbrev pub after4 : Handler → Sample → Effects → Handler
+after4 g s f = withLinks (linksAfter (heard g s f)) (stepped g (heard g s f) f)
 
-module _ (g : Handler) (w : Wires) (f : Effects) (v : Valid g) (r : RaisesFiveOrNone f) where
-  event-is : (k : ℕ) → (event g (hear g w f) k ≡ true) ↔ ClassHasEvent g w f (after2 g w f) k
+module _ (g : Handler) (s : Sample) (f : Effects) (v : Valid g) (r : RaisesFiveOrNone f) where
+  event-is : (k : ℕ) → (event g (heard g s f) k ≡ true) ↔ ClassHasEvent g s f (after2 g s f) k
   unfolding event sampled
   event-is k =
-      let a = holds-assigned g w f k (v .n) r in
-      then (holds-event (assigned g (hear g w f) k) (classAt g k)) (λ d. (a .0 (d .0), d .1), λ d. (a .1 (d .0), d .1))
+      let a = holds-assigned g s f k (v .n) r in
+      then (holds-event (assigned g (heard g s f) k) (classAt g k)) (λ d. (a .0 (d .0), d .1), λ d. (a .1 (d .0), d .1))
 
-  now : (k : ℕ) → k < 4 → bit (after4 g w f .interrupts .state) k ≡ interruptNow g (hear g w f) k
+  now : (k : ℕ) → k < 4 → bit (after4 g s f .interrupts .state) k ≡ interruptNow g (heard g s f) k
   unfolding stepped
-  now k l = bit-bitsOf 4 (interruptNow g (hear g w f)) k l
+  now k l = bit-bitsOf 4 (interruptNow g (heard g s f)) k l
 
-  meets-signals : (k : ℕ) → k < 4 → Meets g w f (after2 g w f) (after4 g w f) k (signals g (hear g w f) f k)
+  meets-signals : (k : ℕ) → k < 4 → Meets g s f (after2 g s f) (after4 g s f) k (signals g (heard g s f) f k)
   unfolding signals
   meets-signals k l = record { event = event-is k; interrupt = same-word (sym (now k l)) Iff·rfl; clear = Iff·rfl }
 
-  class-steps : (k : ℕ) → k < 4 → Stepped (signals g (hear g w f) f k) (classOf (after2 g w f) k) (classOf (after4 g w f) k)
+  class-steps : (k : ℕ) → k < 4 → Stepped (signals g (heard g s f) f k) (classOf (after2 g s f) k) (classOf (after4 g s f) k)
   unfolding stepped sampled
   class-steps k l =
-      subst (Stepped (signals g (hear g w f) f k) (classAt g k)) (sym (at-each 4 (λ k. classStep (signals g (hear g w f) f k) (classAt g k)) k noClass l))
-      (holds-class (signals g (hear g w f) f k) (classAt g k) (v .classes k l))
+      subst (Stepped (signals g (heard g s f) f k) (classAt g k)) (sym (at-each 4 (λ k. classStep (signals g (heard g s f) f k) (classAt g k)) k noClass l))
+      (holds-class (signals g (heard g s f) f k) (classAt g k) (v .classes k l))
 
-  pub holds-classes : ClassesStepped g w f (after2 g w f) (after4 g w f)
+  pub holds-classes : ClassesStepped g s f (after2 g s f) (after4 g s f)
   unfolding stepped sampled interruptNow
   holds-classes =
       record {
-        interrupt-bit = λ k l. same-word (now k l) (or-is (bit (g .interrupts .state) k) (event g (hear g w f) k) Iff·rfl (event-is k));
-        interrupt-bits = up-to-15 (interruptNow g (hear g w f));
-        signals = signals g (hear g w f) f;
+        interrupt-bit = λ k l. same-word (now k l) (or-is (bit (g .interrupts .state) k) (event g (heard g s f) k) Iff·rfl (event-is k));
+        interrupt-bits = up-to-15 (interruptNow g (heard g s f));
+        signals = signals g (heard g s f) f;
         meets = meets-signals;
         steps = λ k l. let q : k < 4 = omega arith in class-steps k q;
         entries = length-each 4 _;

@@ -1,30 +1,38 @@
 -- The rule of the whole tick satisfies the sentences: each step on its state, and refusal 7.
 -- Assumes nothing.
 use Prim.Native.Nat.{ℕ}
-use mathlib.Core.Path.{_≡_, refl, sym, ap, subst}
+use mathlib.Core.Path.{_≡_, refl, sym, ap, ap₂, subst}
 use mathlib.Core.Logic.{_⊎_, inl, inr}
-use mathlib.Core.Bool.{false}
-use lib.Dec.{eqb}
+use mathlib.Core.Bool.{false, _&&_}
+use lib.Dec.{eqb, ltb}
+use Rattle.link_rules.specs.Receiver.{acknowledges}
 use Rattle.rules.specs.Access.{verdict, accessedBy, accessed, acted, answerTo, effects}
 use Rattle.rules.specs.Answer.{refusalNumber, number}
-use Rattle.rules.specs.Tick.{hears, after, tick, ticked}
+use Rattle.rules.specs.State.{receiverIn}
+use Rattle.rules.specs.Tick.{interrupts, lines, pairs, acknowledgePairs, pingPairs, outputOf, hears, after, tick, ticked}
 use Rattle.rules.specs.Valid.{valid}
 use Rattle.rules.specs.declared.Access.{Access}
 use Rattle.rules.specs.declared.Handler.{Handler}
 use Rattle.rules.specs.declared.Input.{Input}
+use Rattle.rules.specs.declared.Links.{Links}
 use Rattle.rules.specs.declared.Ticked.{Ticked}
 use Rattle.rules.specs.declared.Verdict.{Verdict}
+use Rattle.laws.proofs.Access.RegisterFile.{acted-n}
 use Rattle.laws.proofs.Map.Cases.{pick}
+use Rattle.laws.proofs.Samples.Receivers.{acted-links}
 use Rattle.laws.proofs.Valid.KeepsAccess.{acted-valid}
 use Rattle.laws.proofs.Valid.KeepsValid.{ticked-valid}
 use Rattle.laws.proofs.Valid.Refusal7.{ticked-good, ticked-bad}
 use Rattle.sentences.specs.Numbers.{Numbers}
+use Rattle.sentences.specs.Outputs.{OutputOf}
+use Rattle.sentences.specs.Pairs.{AllLow}
 use Rattle.sentences.specs.Samples.{RaisesFiveOrNone}
 use Rattle.sentences.specs.Tick.{Runs, Refused7, Tick, Step1}
 use Rattle.sentences.specs.Valid.{Valid}
 use Rattle.sentences.proofs.SentenceCases.{off}
-use Rattle.sentences.proofs.HoldsOutputs.{holds-outputs, holds-classes}
-use Rattle.sentences.proofs.HoldsSamples.{after2, holds-samples}
+use Rattle.sentences.proofs.HoldsOutputs.{holds-outputs, all-low, holds-classes}
+use Rattle.sentences.proofs.HoldsReceivers.{after2}
+use Rattle.sentences.proofs.HoldsSamples.{holds-samples}
 use Rattle.sentences.proofs.HoldsValid.{holds-valid}
 
 -- ── step 1 ──
@@ -44,17 +52,28 @@ holds-step1 =
 -- ── the tick ──
 
 module _ (h : Handler) (x : Input) where
-  runs-tick : Valid h → Runs (accessed h (x .access)) (x .sample .alerts) (tick h x)
+  -- step 1 leaves N and the receivers, and so the acknowledge pairs
+  same-output : outputOf h (after h x) ≡ outputOf (acted h (x .access)) (after h x)
+  unfolding outputOf acknowledgePairs
+  same-output =
+      ap₂ (λ (n : ℕ) (z : Links). record {
+        interrupts = interrupts (after h x);
+        lines = lines (after h x);
+        acknowledge = pairs (λ i. ltb i n && acknowledges (receiverIn (z .receivers) i .stands));
+        ping = pingPairs (after h x);
+      }) (sym (acted-n h (x .access))) (sym (acted-links h (x .access)))
+
+  runs-tick : Valid h → Runs (accessed h (x .access)) (x .sample) (tick h x)
   unfolding tick hears after acted effects answerTo
   runs-tick v =
       let a = accessed h (x .access) in
       let u = holds-step1 .valid h (x .access) v in
       let r = holds-step1 .raises h (x .access) in
       record {
-        state2 = after2 (a .handler) (x .sample .alerts) (a .effects);
-        step2 = holds-samples (a .handler) (x .sample .alerts) (a .effects) u r;
-        steps34 = holds-classes (a .handler) (x .sample .alerts) (a .effects) u r;
-        step5 = holds-outputs (after h x);
+        state2 = after2 (a .handler) (x .sample) (a .effects);
+        step2 = holds-samples (a .handler) (x .sample) (a .effects) u r;
+        steps34 = holds-classes (a .handler) (x .sample) (a .effects) u r;
+        step5 = subst (OutputOf (a .handler) (after h x)) (sym same-output) (holds-outputs (a .handler) (after h x));
         answer = refl;
       }
 
@@ -65,6 +84,8 @@ module _ (h : Handler) (x : Input) where
         state = ap (λ (t : Ticked). t .handler) t;
         interrupts = ap (λ (t : Ticked). t .output .interrupts) t;
         lines = ap (λ (t : Ticked). t .output .lines) t;
+        acknowledge = subst (λ (t : Ticked). AllLow (t .output .acknowledge)) (sym t) all-low;
+        ping = subst (λ (t : Ticked). AllLow (t .output .ping)) (sym t) all-low;
         answer = ap (λ (t : Ticked). t .answer) t;
       }
 
@@ -73,7 +94,7 @@ holds-tick h x =
     record {
       refused = λ n. refuses h x (off (valid h) (holds-valid h) n);
       runs = λ v.
-          subst (Runs (accessed h (x .access)) (x .sample .alerts)) (sym (ticked-good h x (holds-valid h .1 v))) (runs-tick h x v);
+          subst (Runs (accessed h (x .access)) (x .sample)) (sym (ticked-good h x (holds-valid h .1 v))) (runs-tick h x v);
       stays-valid = λ v. holds-valid (ticked h x .handler) .0 (ticked-valid h x (holds-valid h .1 v));
     }
 

@@ -11,7 +11,7 @@ use Rattle.rules.specs.declared.Handler.{Handler}
 use Rattle.rules.specs.declared.Made.{Made}
 use Rattle.sentences.specs.Making.{Entries, NewClass, NoStages, New, Making}
 use Rattle.sentences.specs.Raw.{classOf, stagesOf}
-use Rattle.sentences.proofs.OnlySamples.{same-list, same-words}
+use Rattle.sentences.proofs.OnlySamples.{same-list}
 
 same-entries : (n v : ℕ) (xs ys : List ℕ) → Entries n v xs → Entries n v ys → xs ≡ ys
 same-entries n v xs ys a b = same-list n 0 xs ys (a .many) (b .many) (λ i l. a .each-is i l ∙ sym (b .each-is i l))
@@ -45,9 +45,10 @@ same-new n h k a b = λ i.
       n = (a .alerts ∙ sym (b .alerts)) i;
       links = record {
         receivers = record {
-          armed =
-              same-words (h .links .receivers .armed) (k .links .receivers .armed) (a .arming-words) (b .arming-words) (a .arming-word) (b .arming-word)
-              (λ j l. a .armed j l ∙ sym (b .armed j l)) i;
+          pausing = same-entries 4 0 (h .links .receivers .pausing) (k .links .receivers .pausing) (a .pausing) (b .pausing) i;
+          busy = same-entries 4 0 (h .links .receivers .busy) (k .links .receivers .busy) (a .busy) (b .busy) i;
+          level = same-entries 4 0 (h .links .receivers .level) (k .links .receivers .level) (a .level) (b .level) i;
+          pending = same-entries 4 0 (h .links .receivers .pending) (k .links .receivers .pending) (a .pending) (b .pending) i;
         };
       };
       classes =

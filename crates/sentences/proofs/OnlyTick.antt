@@ -21,18 +21,20 @@ use Rattle.rules.specs.declared.Input.{Input}
 use Rattle.rules.specs.declared.Output.{Output}
 use Rattle.rules.specs.declared.Refusal.{Refusal}
 use Rattle.rules.specs.declared.Refusal.the-variants.{NoRegister, WrongWay, Locked, TooWide, BadRecord, BadCount, BadState, BadLength, ShortList, NoRecord, ShortBuffer, Differs, SillyThreshold}
+use Rattle.rules.specs.declared.Sample.{Sample}
 use Rattle.rules.specs.declared.Ticked.{Ticked}
-use Rattle.rules.specs.declared.Wires.{Wires}
 use Rattle.sentences.specs.ClassStep.{Stepped}
 use Rattle.sentences.specs.Fits.{Fits}
 use Rattle.sentences.specs.Numbers.{Numbers}
 use Rattle.sentences.specs.Outputs.{ClassesStepped, OutputOf, Outputs}
+use Rattle.sentences.specs.Raw.{level, noClass, classOf}
+use Rattle.sentences.specs.Receivers.{Acknowledged}
 use Rattle.sentences.specs.Tick.{Runs, Refused7, Tick, Step1}
-use Rattle.sentences.specs.Raw.{noClass, classOf}
 use Rattle.sentences.specs.Valid.{Valid}
 use Rattle.sentences.proofs.SentenceCases.{same-test}
 use Rattle.sentences.proofs.HoldsValid.{holds-valid}
 use Rattle.sentences.proofs.OnlyClass.{same-class}
+use Rattle.sentences.proofs.OnlyPairs.{same-pairs-by, same-low}
 use Rattle.sentences.proofs.OnlySamples.{same-list, same-sampled}
 
 -- two numbers of four bits
@@ -41,8 +43,8 @@ same-bits a b l m e = bit-ext 4 a b (omega arith) (omega arith) e
 
 -- ── step 5 ──
 
-same-output : (h : Handler) (o p : Output) → OutputOf h o → OutputOf h p → o ≡ p
-same-output h o p a b = λ i.
+same-output : (g h : Handler) (o p : Output) → OutputOf g h o → OutputOf g h p → o ≡ p
+same-output g h o p a b = λ i.
     record {
       interrupts =
           same-bits (o .interrupts) (p .interrupts) (a .interrupt-bits) (b .interrupt-bits)
@@ -50,14 +52,16 @@ same-output h o p a b = λ i.
       lines =
           same-bits (o .lines) (p .lines) (a .line-bits) (b .line-bits)
           (λ e l. same-test (bit (o .lines) e) (bit (p .lines) e) (a .line e l) (b .line e l)) i;
+      acknowledge = same-pairs-by (g .n) (Acknowledged g) (o .acknowledge) (p .acknowledge) (a .acknowledge) (b .acknowledge) i;
+      ping = same-pairs-by (h .n) (λ i. level h i ≡ true) (o .ping) (p .ping) (a .ping) (b .ping) i;
     }
 
-pub only-outputs : (f g : Handler → Output) → Outputs f → Outputs g → (h : Handler) → f h ≡ g h
-only-outputs f g x y h = same-output h (f h) (g h) (x h) (y h)
+pub only-outputs : (f k : Handler → Handler → Output) → Outputs f → Outputs k → (g h : Handler) → f g h ≡ k g h
+only-outputs f k x y g h = same-output g h (f g h) (k g h) (x g h) (y g h)
 
 -- ── steps 3 and 4 ──
 
-module _ (g : Handler) (w : Wires) (f : Effects) (m h k : Handler) (fit : (j : ℕ) → j < 4 → Fits (classOf m j)) (a : ClassesStepped g w f m h) (b : ClassesStepped g w f m k) where
+module _ (g : Handler) (s : Sample) (f : Effects) (m h k : Handler) (fit : (j : ℕ) → j < 4 → Fits (classOf m j)) (a : ClassesStepped g s f m h) (b : ClassesStepped g s f m k) where
   same-state : h .interrupts .state ≡ k .interrupts .state
   same-state =
       same-bits (h .interrupts .state) (k .interrupts .state) (a .interrupt-bits) (b .interrupt-bits)
@@ -92,9 +96,9 @@ module _ (g : Handler) (w : Wires) (f : Effects) (m h k : Handler) (fit : (j : �
 
 -- ── the tick ──
 
-module _ (a : Accessed) (w : Wires) (t u : Ticked) (v : Valid (a .handler)) (x : Runs a w t) (y : Runs a w u) where
+module _ (a : Accessed) (s : Sample) (t u : Ticked) (v : Valid (a .handler)) (x : Runs a s t) (y : Runs a s u) where
   same-state2 : x .state2 ≡ y .state2
-  same-state2 = same-sampled (a .handler) w (a .effects) (x .state2) (y .state2) (x .step2) (y .step2)
+  same-state2 = same-sampled (a .handler) s (a .effects) (x .state2) (y .state2) (x .step2) (y .step2)
 
   -- step 2 leaves the classes as they were
   fit2 : (j : ℕ) → j < 4 → Fits (classOf (x .state2) j)
@@ -104,8 +108,8 @@ module _ (a : Accessed) (w : Wires) (t u : Ticked) (v : Valid (a .handler)) (x :
 
   same-handler : t .handler ≡ u .handler
   same-handler =
-      same-stepped (a .handler) w (a .effects) (x .state2) (t .handler) (u .handler) fit2 (x .steps34)
-      (subst (λ (m : Handler). ClassesStepped (a .handler) w (a .effects) m (u .handler)) (sym same-state2) (y .steps34))
+      same-stepped (a .handler) s (a .effects) (x .state2) (t .handler) (u .handler) fit2 (x .steps34)
+      (subst (λ (m : Handler). ClassesStepped (a .handler) s (a .effects) m (u .handler)) (sym same-state2) (y .steps34))
 
   pub same-ticked : t ≡ u
   same-ticked = λ i.
@@ -113,8 +117,8 @@ module _ (a : Accessed) (w : Wires) (t u : Ticked) (v : Valid (a .handler)) (x :
         handler = same-handler i;
         answer = (x .answer ∙ sym (y .answer)) i;
         output =
-            same-output (t .handler) (t .output) (u .output) (x .step5)
-            (subst (λ (h : Handler). OutputOf h (u .output)) (sym same-handler) (y .step5)) i;
+            same-output (a .handler) (t .handler) (t .output) (u .output) (x .step5)
+            (subst (λ (h : Handler). OutputOf (a .handler) h (u .output)) (sym same-handler) (y .step5)) i;
       }
 
 -- refusal 7
@@ -123,7 +127,12 @@ same-refused h t u x y = λ i.
     record {
       handler = (x .state ∙ sym (y .state)) i;
       answer = (x .answer ∙ sym (y .answer)) i;
-      output = record { interrupts = (x .interrupts ∙ sym (y .interrupts)) i; lines = (x .lines ∙ sym (y .lines)) i };
+      output = record {
+        interrupts = (x .interrupts ∙ sym (y .interrupts)) i;
+        lines = (x .lines ∙ sym (y .lines)) i;
+        acknowledge = same-low (t .output .acknowledge) (u .output .acknowledge) (x .acknowledge) (y .acknowledge) i;
+        ping = same-low (t .output .ping) (u .output .ping) (x .ping) (y .ping) i;
+      };
     }
 
 -- two ticks are one, of every state and input, over steps 1 that give one result where refusal 7 does not meet the state
@@ -134,8 +143,8 @@ only-tick p q s e f g a b h x = go (valid h) (holds-valid h)
     go : (t : Bool) → (t ≡ true) ↔ Valid h → f h x ≡ g h x
     go true v =
         let w = v .0 refl in
-        same-ticked (p h (x .access)) (x .sample .alerts) (f h x) (g h x) (s .valid h (x .access) w) (a h x .runs w)
-        (subst (λ (d : Accessed). Runs d (x .sample .alerts) (g h x)) (sym (e h (x .access) w)) (b h x .runs w))
+        same-ticked (p h (x .access)) (x .sample) (f h x) (g h x) (s .valid h (x .access) w) (a h x .runs w)
+        (subst (λ (d : Accessed). Runs d (x .sample) (g h x)) (sym (e h (x .access) w)) (b h x .runs w))
     go false v =
         let n : ¬ Valid h = λ w. false≢true (v .1 w) in same-refused h (f h x) (g h x) (a h x .refused n) (b h x .refused n)
 

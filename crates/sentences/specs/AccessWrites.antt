@@ -52,7 +52,7 @@ pub record Written (h : Handler) (x : Access) (g : Handler) : Type 0 where
   pub stays : (r : ℕ) (q : Register) → Names (h .n) r q → ¬ Changes h x q → held g q ≡ held h q
   -- "Stored entries at N and above are no registers: .. no call changes them."
   pub above : (f : Field) (i : ℕ) → h .n ≤ i → i < 248 → getD (alertList g f) i 0 ≡ getD (alertList h f) i 0
-  -- a reading: N stays, and so does the arming of the alerts, which is step 2's
+  -- a reading: N stays, and so do the alerts' receivers, which are step 2's
   pub n : g .n ≡ h .n
   pub links : g .links ≡ h .links
   -- refusals 5, 1, 2 and 4: "access does nothing"; 14 too: "So 3 and 12 are now the refusals that may change something"

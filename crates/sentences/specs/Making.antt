@@ -2,7 +2,6 @@
 -- Assumes nothing.
 use Prim.Native.Nat.{ℕ, _≤_, _<_}
 use mathlib.Core.Path.{_≡_}
-use mathlib.Core.Bool.{true}
 use mathlib.Core.List.{List}
 use lib.IntN.{pos, negℤ}
 use lib.ListN.{getD, length}
@@ -10,7 +9,7 @@ use Rattle.class_rules.specs.declared.Class.{Class}
 use Rattle.rules.specs.declared.ClassStages.{ClassStages}
 use Rattle.rules.specs.declared.Handler.{Handler}
 use Rattle.rules.specs.declared.Made.{Made}
-use Rattle.sentences.specs.Raw.{arming, classOf, stagesOf}
+use Rattle.sentences.specs.Raw.{classOf, stagesOf}
 
 -- so many entries, each at this value
 pub record Entries (count value : ℕ) (xs : List ℕ) : Type 0 where
@@ -55,10 +54,11 @@ pub record New (n : ℕ) (h : Handler) : Type 0 where
   -- the four classes
   pub class-entries : length (h .classes) ≡ 4
   pub classes : (k : ℕ) → k < 4 → NewClass (classOf h k)
-  -- "alerts re-armed": every bit of the four words
-  pub armed : (i : ℕ) → i < 256 → arming h i ≡ true
-  pub arming-words : length (h .links .receivers .armed) ≡ 4
-  pub arming-word : (v : ℕ) → v < 4 → getD (h .links .receivers .armed) v 0 ≤ 18446744073709551615
+  -- request (viii): every bit of the receivers' words of 64 is 0. So each is ready; "Acknowledge and ping pairs .. (0,1) at reset"; and no ping is open
+  pub pausing : Entries 4 0 (h .links .receivers .pausing)
+  pub busy : Entries 4 0 (h .links .receivers .busy)
+  pub level : Entries 4 0 (h .links .receivers .level)
+  pub pending : Entries 4 0 (h .links .receivers .pending)
   -- request (v): nothing is staged
   pub staged-local-en : Entries 7 0 (h .stages .locals .en)
   pub staged-local-class : Entries 7 0 (h .stages .locals .class)

@@ -11,21 +11,38 @@ use Rattle.rules.specs.declared.Field.{Field}
 use Rattle.rules.specs.declared.Handler.{Handler}
 use Rattle.rules.specs.declared.Register.{Register}
 use Rattle.rules.specs.declared.Register.the-variants.{Only, Local, Alert, Block, Unassigned}
+use Rattle.rules.specs.declared.Sample.{Sample}
 use Rattle.rules.specs.declared.Setting.{Setting}
 use Rattle.rules.specs.declared.Setting.the-variants.{Ctrl, ClrRegwen, Clr, AccumCnt, AccumThresh, TimeoutCyc, PhaseCyc, EscCnt}
 use Rattle.rules.specs.declared.Single.the-variants.{IntrState, IntrEnable, IntrTest}
 use Rattle.rules.specs.declared.Wires.{Wires}
 
--- ── alert i has bit 63 - i % 64 of word i / 64, of the wires and of the arming ──
+-- ── alert i has bit 63 - i % 64 of word i / 64: of the wires, of the pings that are asked for and of the receivers ──
+
+abbrev pub bitOfAlert : List ℕ → ℕ → Bool
+bitOfAlert ws i = bit (getD ws (i / 64) 0) (63 - i % 64)
 
 abbrev pub positive : Wires → ℕ → Bool
-positive w i = bit (getD (w .pos) (i / 64) 0) (63 - i % 64)
+positive w i = bitOfAlert (w .pos) i
 
 abbrev pub negative : Wires → ℕ → Bool
-negative w i = bit (getD (w .neg) (i / 64) 0) (63 - i % 64)
+negative w i = bitOfAlert (w .neg) i
 
-abbrev pub arming : Handler → ℕ → Bool
-arming g i = bit (getD (g .links .receivers .armed) (i / 64) 0) (63 - i % 64)
+abbrev pub asked : Sample → ℕ → Bool
+asked s i = bitOfAlert (s .asks) i
+
+-- the two bits that say where its receiver stands, the level of its ping pair, and whether a ping is open
+abbrev pub pausing : Handler → ℕ → Bool
+pausing g i = bitOfAlert (g .links .receivers .pausing) i
+
+abbrev pub busy : Handler → ℕ → Bool
+busy g i = bitOfAlert (g .links .receivers .busy) i
+
+abbrev pub level : Handler → ℕ → Bool
+level g i = bitOfAlert (g .links .receivers .level) i
+
+abbrev pub pending : Handler → ℕ → Bool
+pending g i = bitOfAlert (g .links .receivers .pending) i
 
 -- ── entry k of the four classes and of their stages; an array has its four entries, and past them there is none: never read ──
 

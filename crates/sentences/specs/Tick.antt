@@ -8,26 +8,27 @@ use Rattle.rules.specs.declared.Answer.{Answer}
 use Rattle.rules.specs.declared.Handler.{Handler}
 use Rattle.rules.specs.declared.Input.{Input}
 use Rattle.rules.specs.declared.Refusal.the-variants.{BadState}
+use Rattle.rules.specs.declared.Sample.{Sample}
 use Rattle.rules.specs.declared.Ticked.{Ticked}
-use Rattle.rules.specs.declared.Wires.{Wires}
 use Rattle.sentences.specs.Outputs.{ClassesStepped, OutputOf}
+use Rattle.sentences.specs.Pairs.{AllLow}
 use Rattle.sentences.specs.Samples.{RaisesFiveOrNone, Sampled}
 use Rattle.sentences.specs.Valid.{Valid}
 
--- ── a tick that is run: a is what step 1 gave, w are the tick's wires, and t is what the tick gives ──
+-- ── a tick that is run: a is what step 1 gave, s is the tick's sample, and t is what the tick gives ──
 
-pub record Runs (a : Accessed) (w : Wires) (t : Ticked) : Type 0 where
+pub record Runs (a : Accessed) (s : Sample) (t : Ticked) : Type 0 where
   -- "2. Samples": on the state after step 1
   pub state2 : Handler
-  pub step2 : Sampled (a .handler) w (a .effects) state2
+  pub step2 : Sampled (a .handler) s (a .effects) state2
   -- "3. Class k has an event ..", "4. The class is in one of seven states ..": on the state after step 2, to the state after the tick
-  pub steps34 : ClassesStepped (a .handler) w (a .effects) state2 (t .handler)
-  -- "5. Outputs from the state now reached"
-  pub step5 : OutputOf (t .handler) (t .output)
+  pub steps34 : ClassesStepped (a .handler) s (a .effects) state2 (t .handler)
+  -- "5. Outputs from the state now reached"; request (viii): the acknowledge pairs by the receivers before step 2
+  pub step5 : OutputOf (a .handler) (t .handler) (t .output)
   -- "1. The access, on the state before any event of this tick": its answer is the tick's
   pub answer : t .answer ≡ a .answer
 
--- ── refusal 7, "state that breaks the rule below": "state unchanged, tick not run, interrupts and lines 0" ──
+-- ── refusal 7, "state that breaks the rule below": "state unchanged, tick not run, interrupts and lines 0"; request (viii): pairs (0,1) ──
 
 pub record Refused7 (h : Handler) (t : Ticked) : Type 0 where
   -- "state unchanged, tick not run"
@@ -35,6 +36,9 @@ pub record Refused7 (h : Handler) (t : Ticked) : Type 0 where
   -- "interrupts and lines 0"
   pub interrupts : t .output .interrupts ≡ 0
   pub lines : t .output .lines ≡ 0
+  -- request (viii): "Acknowledge and ping pairs become outputs, (0,1) .. on 7"
+  pub acknowledge : AllLow (t .output .acknowledge)
+  pub ping : AllLow (t .output .ping)
   -- refusal 7 is the answer; Numbers.antt says that it is -7
   pub answer : t .answer ≡ Answer.Refused BadState
 
@@ -44,7 +48,7 @@ pub record TickOf (step1 : Handler → Access → Accessed) (h : Handler) (x : I
   -- "For an access the order is 7, 5, 1, 2, 4, 3": 7 comes before step 1
   pub refused : ¬ Valid h → Refused7 h t
   -- "1. The access, on the state before any event of this tick", the steps after it "in order"
-  pub runs : Valid h → Runs (step1 h (x .access)) (x .sample .alerts) t
+  pub runs : Valid h → Runs (step1 h (x .access)) (x .sample) t
   -- "States that calls produce never get it": refusal 7
   pub stays-valid : Valid h → Valid (t .handler)
 

@@ -33,7 +33,7 @@ fn reset_class() -> Class
     }
 }
 
-// All REGWEN and CLR_REGWEN start at 1, all CTRL at 0x393C, every other register at 0, classes Idle, alerts re-armed.
+// All REGWEN and CLR_REGWEN start at 1, all CTRL at 0x393C, every other register at 0, classes Idle, receivers ready.
 fn reset(n: usize) -> Handler
     ensures { λ r. ⌜ r ≡ newHandler n ⌝ }
 {
@@ -42,7 +42,10 @@ fn reset(n: usize) -> Handler
         n: n,
         links: Links {
             receivers: Receivers {
-                armed: [0xFFFF_FFFF_FFFF_FFFF; WORDS],
+                pausing: [0; WORDS],
+                busy: [0; WORDS],
+                level: [0; WORDS],
+                pending: [0; WORDS],
             },
         },
         classes: [class; 4],

@@ -1,3 +1,4 @@
 pub mod TickParts
+pub mod HearParts
 pub mod BatchParts
 pub mod WriteParts

@@ -3,10 +3,12 @@
 use batch::Batched;
 use boundary::tarravane_batch_24;
 use boundary::tarravane_batch_70;
+use boundary::tarravane_hear;
 use boundary::tarravane_install;
 use boundary::tarravane_new;
 use boundary::tarravane_record;
 use boundary::tarravane_tick;
+use handler::account::Account;
 use handler::tick::Answered;
 use policy::Installed;
 use rules::Handler;
@@ -17,6 +19,7 @@ ghost use mathlib.Core.Path.{_≡_};
 ghost use mathlib.Core.Bool.{true};
 ghost use Rattle.boundary.specs.Input.{inputBy};
 ghost use Rattle.escalation.specs.Escalation.{Demand3};
+ghost use Rattle.handler.specs.Account.{account};
 ghost use Rattle.policy.specs.Plan.{boot, lifecycleOf};
 ghost use Rattle.rules.specs.Answer.{number};
 ghost use Rattle.rules.specs.Run.{run};
@@ -40,6 +43,15 @@ pub fn tick(h: Handler, kind: u8, register: u16, value: u32, sample: Sample) -> 
     ensures outputs { λ r. ⌜ r .output ≡ ticked h (inputBy kind register value sample) .output ⌝ }
 {
     tarravane_tick(h, kind, register, value, sample)
+}
+
+pub fn hear(h: Handler, kind: u8, register: u16, value: u32, sample: Sample) -> Account
+    ensures { λ r. ⌜ r .events ≡ account h (inputBy kind register value sample) .events ⌝ }
+    ensures answers { λ r. ⌜ r .answers ≡ account h (inputBy kind register value sample) .answers ⌝ }
+    ensures locals { λ r. ⌜ r .locals ≡ account h (inputBy kind register value sample) .locals ⌝ }
+    ensures answer { λ r. ⌜ r .answer ≡ number (ticked h (inputBy kind register value sample) .answer) ⌝ }
+{
+    tarravane_hear(h, kind, register, value, sample)
 }
 
 pub fn batch_24(h: Handler, bytes: &[u8], out: &mut [u64]) -> Batched

@@ -15,7 +15,7 @@ use Rattle.bits.proofs.IndexLaws.{is-each}
 use Rattle.bits.proofs.FieldLaws.{pack-unpack, unpack-fits}
 use Rattle.bits.proofs.PackLaws.{unpack-append, bytes-append}
 use Rattle.trace_rules.specs.Edition.{recordBytes, alerts, tail}
-use Rattle.trace_rules.specs.Record.{head, wires, layout, accessIn, wireWords, inputOfParts, inputOfFields, heldIn, carried, inputOf}
+use Rattle.trace_rules.specs.Record.{head, wires, layout, accessIn, wireWords, noAsks, inputOfParts, inputOfFields, heldIn, carried, inputOf}
 use Rattle.rules.specs.declared.Access.{Access}
 use Rattle.trace_rules.specs.declared.Edition.{Edition}
 use Rattle.trace_rules.specs.declared.Edition.the-variants.{Alerts64, Alerts248}
@@ -127,7 +127,7 @@ module _ (e : Edition) (at : ℕ) (xs : List ℕ) (b : (i : ℕ) → getD xs i 0
   -- and its access and sample, as the code reads them one after another
   pub record-input : (f n : ℕ) (h : Head) (a r : Access) (p q : List ℕ) → f ≡ first → h ≡ headOf e f → a ≡ accessIn (fieldsOf h) [] → r ≡ carried e a → n ≡ alerts e
       → p ≡ wireWords (alerts e) pos → q ≡ wireWords (alerts e) (ofBytes (take (wireBytes e) (drop (at + 8 + n / 8) xs)))
-      → record { access = r; sample = record { alerts = record { pos = p; neg = q } } } ≡ inputOf e (take (recordBytes e) (drop at xs))
+      → record { access = r; sample = record { alerts = record { pos = p; neg = q }; asks = noAsks } } ≡ inputOf e (take (recordBytes e) (drop at xs))
   unfolding inputOf unpack
   record-input f n h a r p q u t v w m x y =
       let z : r ≡ carried e (accessIn (fieldsOf (headOf e first)) []) = w ∙ ap (carried e) (v ∙ ap (λ (g : Head). accessIn (fieldsOf g) []) (t ∙ ap (headOf e) u)) in

@@ -191,7 +191,7 @@ fn wires_at(edition: Edition, bytes: &[u8], at: usize) -> [u64; WORDS]
     }
 }
 
-// The record whose first byte is at a place: the access, the positive wires with alert 0 first, the negative wires.
+// The record whose first byte is at a place: the access, the positive wires with alert 0 first, the negative wires. It asks for no ping.
 pub fn input_at(edition: Edition, bytes: &[u8], at: usize) -> Input
     requires { ⌜ at + recordBytes edition ≤ length (now bytes) ⌝ }
     ensures { λ r. ⌜ r ≡ inputOf edition (take (recordBytes edition) (drop at (now (bytes .entry)))) ⌝ }
@@ -204,6 +204,7 @@ pub fn input_at(edition: Edition, bytes: &[u8], at: usize) -> Input
         access,
         sample: Sample {
             alerts: Wires { pos, neg },
+            asks: [0; WORDS],
         },
     }
 }

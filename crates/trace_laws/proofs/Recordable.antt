@@ -15,7 +15,7 @@ use Rattle.bits.proofs.FieldLaws.{unpack-fits}
 use Rattle.bits.proofs.IndexLaws.{true-and}
 use Rattle.rules.specs.Access.{malformed}
 use Rattle.trace_rules.specs.Edition.{registerBits, alerts}
-use Rattle.trace_rules.specs.Record.{layout, valueBits, accessIn, registerOf, valueOf, wireWords, heldIn, recordOf, recordable}
+use Rattle.trace_rules.specs.Record.{layout, valueBits, accessIn, registerOf, valueOf, wireWords, noAsks, heldIn, recordOf, recordable}
 use Rattle.trace_rules.specs.Writer.{WellFormed, HeldBy, Wired}
 use Rattle.rules.specs.declared.Access.{Access}
 use Rattle.rules.specs.declared.Access.the-variants.{Nothing, Read, Write, Malformed}
@@ -61,7 +61,7 @@ record-formed e x w t =
 
 -- with all wires at 0
 abbrev quiet : Edition → Access → Input
-quiet e a = record { access = a; sample = record { alerts = record { pos = wireWords (alerts e) 0; neg = wireWords (alerts e) 0 } } }
+quiet e a = record { access = a; sample = record { alerts = record { pos = wireWords (alerts e) 0; neg = wireWords (alerts e) 0 }; asks = noAsks } }
 
 held : (e : Edition) (a : Access) → recordable e a ≡ true → HeldBy e a
 held e a t =

@@ -100,4 +100,5 @@ same-shown e x w =
       access = refl;
       positive = λ i l. place-kept e (x .sample .alerts .pos) i (w .positive) l;
       negative = λ i l. place-kept e (x .sample .alerts .neg) i (w .negative) l;
+      asks = refl;
     }

@@ -10,12 +10,14 @@ use Rattle.trace_rules.specs.Batch.{Batched, batch}
 use Rattle.trace_rules.specs.Edition.{carry}
 use Rattle.trace_rules.specs.Record.{inputOf}
 use Rattle.rules.specs.State.{newHandler}
+use Rattle.rules.specs.Tick.{noOutput}
 use Rattle.rules.specs.declared.Access.{Access}
 use Rattle.rules.specs.declared.Answer.{Answer}
 use Rattle.trace_rules.specs.declared.Edition.{Edition}
 use Rattle.trace_rules.specs.declared.Edition.the-variants.{Alerts64, Alerts248}
 use Rattle.rules.specs.declared.Refusal.{Refusal}
 use Rattle.rules.specs.declared.Refusal.the-variants.{NoRegister, WrongWay, Locked, TooWide, BadRecord, BadState, Differs, SillyThreshold}
+use Rattle.rules.specs.declared.Wires.{Wires}
 use Rattle.rules.specs.Scenes.{refused}
 use Rattle.trace_rules.specs.Word.{wordOf}
 use Rattle.rules.proofs.Scenes.{rules}
@@ -98,10 +100,19 @@ wires248 : (inputOf Alerts248 (bytes248 0 0 (2 ^ 247) 1) .sample .alerts .pos �
 unfolding rules traces
 wires248 = (refl, refl, refl, refl)
 
+-- request (viii): traces ask for no pings, whatever bits a record has
+asks : (inputOf Alerts64 (replicate 24 255) .sample .asks ≡ 0 ∷ 0 ∷ 0 ∷ 0 ∷ [])
+    × (inputOf Alerts248 (replicate 70 255) .sample .asks ≡ 0 ∷ 0 ∷ 0 ∷ 0 ∷ [])
+unfolding rules traces
+asks = (refl, refl)
+
 -- ── words ──
 
+abbrev wordWith : Wires → Wires → ℕ → ℕ → Answer → ℕ
+wordWith acknowledge ping i l a = wordOf (record { handler = newHandler 1; answer = a; output = record { interrupts = i; lines = l; acknowledge = acknowledge; ping = ping } })
+
 abbrev wordOfParts : ℕ → ℕ → Answer → ℕ
-wordOfParts i l a = wordOf (record { handler = newHandler 1; answer = a; output = record { interrupts = i; lines = l } })
+wordOfParts = wordWith (noOutput .acknowledge) (noOutput .ping)
 
 -- "interrupts (4 bits, class 0 first), lines (4, line 0 first), refusal number (4), 20 zeros, read value or 0"
 words : (wordOfParts 1 0 Answer.Done ≡ 0x8000000000000000)
@@ -115,6 +126,11 @@ words : (wordOfParts 1 0 Answer.Done ≡ 0x8000000000000000)
     × (wordOfParts 5 10 (Answer.Value 1) ≡ 0xA500000000000001)
 unfolding rules traces
 words = (refl, refl, refl, refl, refl, refl, refl, refl, refl)
+
+-- request (viii) leaves the word as it was: the acknowledge and ping pairs are not in it, whatever they are
+pairs-unseen : (a b c d : Wires) (i l : ℕ) (x : Answer) → wordWith a b i l x ≡ wordWith c d i l x
+unfolding wordOf
+pairs-unseen a b c d i l x = refl
 
 -- "refusal number (4)", of each refusal that a tick can give: 1 to 5, 7, and 12 and 14 of the requests
 refusal-words : map (λ (m : Refusal). wordOfParts 0 0 (Answer.Refused m)) (NoRegister ∷ WrongWay ∷ Locked ∷ TooWide ∷ BadRecord ∷ BadState ∷ Differs ∷ SillyThreshold ∷ [])

@@ -11,9 +11,10 @@ use Rattle.bits.specs.Index.{each}
 use Rattle.trace_rules.specs.Record.{recordOf, recordable}
 use Rattle.trace_rules.specs.Writer.{write}
 use Rattle.rules.specs.declared.Access.{Access}
-use Rattle.trace_rules.specs.declared.Edition.the-variants.{Alerts248}
+use Rattle.trace_rules.specs.declared.Edition.{Edition}
+use Rattle.trace_rules.specs.declared.Edition.the-variants.{Alerts64, Alerts248}
 use Rattle.rules.specs.declared.Input.{Input}
-use Rattle.rules.specs.Scenes.{refused, ones, wire, wired}
+use Rattle.rules.specs.Scenes.{refused, ones, wire, asking, wired}
 use Rattle.rules.proofs.Scenes.{rules}
 use Rattle.trace_rules.proofs.TraceScenes.{traces}
 
@@ -61,6 +62,12 @@ wiresFrom b = ofBytes (each 31 (λ i. b + i)) * 2 ^ 8
 bytes-in-order : recordOf Alerts248 (wired (wiresFrom 5) (wiresFrom 36) (Access.Write 341 0x01020304)) ≡ 0x8A ∷ 0xA8 ∷ 0 ∷ 0 ∷ 1 ∷ 2 ∷ 3 ∷ 4 ∷ each 62 (λ i. 5 + i)
 unfolding rules traces
 bytes-in-order = refl
+
+-- request (viii): records hold no asks, so what a sample asks for is not written
+asks-unwritten : (e : Edition) (a p m : ℕ) (x : Access) → recordOf e (asking a p m x) ≡ recordOf e (wired p m x)
+unfolding recordOf
+asks-unwritten Alerts64 a p m x = refl
+asks-unwritten Alerts248 a p m x = refl
 
 -- ── "an access that no well-formed record holds" ──
 

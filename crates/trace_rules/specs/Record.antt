@@ -55,12 +55,16 @@ wireWords n wires = unpack (replicate words 64) (wires * 2 ^ (64 * words - n))
 abbrev pub wiresOf : ℕ → List ℕ → ℕ
 wiresOf n ws = pack (replicate words 64) ws / 2 ^ (64 * words - n)
 
+-- request (viii): "the caller asks for pings, traces and the installer for none": no record has a place for asks, and its sample has none
+abbrev pub noAsks : List ℕ
+noAsks = replicate words 0
+
 -- by the fields of the head, the wires and the tail
 abbrev pub inputOfParts : Edition → List ℕ → List ℕ → List ℕ → Input
 inputOfParts e hs ws ts =
     record {
       access = accessIn hs ts;
-      sample = record { alerts = record { pos = wireWords (alerts e) (getD ws 0 0); neg = wireWords (alerts e) (getD ws 1 0) } };
+      sample = record { alerts = record { pos = wireWords (alerts e) (getD ws 0 0); neg = wireWords (alerts e) (getD ws 1 0) }; asks = noAsks };
     }
 
 abbrev pub inputOfFields : Edition → List ℕ → Input

@@ -12,7 +12,7 @@ use Rattle.bits.specs.Index.{placeIn}
 use Rattle.rules.specs.Answer.{Case, firstOf, number}
 use Rattle.rules.specs.Access.{malformed}
 use Rattle.trace_rules.specs.Edition.{recordBytes, alerts}
-use Rattle.trace_rules.specs.Record.{heldIn, recordOf, recordable, recordCount, recordAt}
+use Rattle.trace_rules.specs.Record.{noAsks, heldIn, recordOf, recordable, recordCount, recordAt}
 use Rattle.rules.specs.State.{words}
 use Rattle.rules.specs.declared.Access.{Access}
 use Rattle.rules.specs.declared.Answer.{Answer}
@@ -75,11 +75,12 @@ pub record Wired (x : Input) : Type 0 where
   pub positive : Fit (replicate words 64) (x .sample .alerts .pos)
   pub negative : Fit (replicate words 64) (x .sample .alerts .neg)
 
--- y is x as an edition's record gives it back: the same access, and the same pair of wires of each alert that the edition speaks of
+-- y is x as an edition's record gives it back: the same access, the same pair of wires of each alert that the edition speaks of, and no asks
 pub record SameRead (e : Edition) (x y : Input) : Type 0 where
   pub access : y .access ≡ x .access
   pub positive : (i : ℕ) → i < alerts e → placeIn (y .sample .alerts .pos) i ≡ placeIn (x .sample .alerts .pos) i
   pub negative : (i : ℕ) → i < alerts e → placeIn (y .sample .alerts .neg) i ≡ placeIn (x .sample .alerts .neg) i
+  pub asks : y .sample .asks ≡ noAsks
 
 -- the same of each of a list
 pub data AllSame (e : Edition) : List Input → List Input → Type 0 where

@@ -197,6 +197,7 @@ module _ (e : Edition) (bytes : List ℕ) (p : Parts e bytes) where
             (carry e (part e bytes 1), part e bytes 3, (part e bytes 1, p .register, holds-means e (part e bytes 1)), p .value, ap (carried e) (write-is f s));
         positive = p .positive;
         negative = p .negative;
+        asks = refl;
       }
 
 pub holds-reader : Reader inputOf

@@ -17,7 +17,7 @@ use Rattle.bits.proofs.FieldLaws.{unpack-fits}
 use Rattle.rules.specs.Access.{malformed}
 use Rattle.rules.specs.Answer.{firstOf, number}
 use Rattle.trace_rules.specs.Edition.{newest}
-use Rattle.trace_rules.specs.Record.{inputOf, heldIn, recordOf, recordable, wireWords}
+use Rattle.trace_rules.specs.Record.{inputOf, heldIn, recordOf, recordable, wireWords, noAsks}
 use Rattle.trace_rules.specs.Writer.{Wired, recordsOf, anyUnrecordable, writeVerdict, write, Written}
 use Rattle.rules.specs.declared.Access.{Access}
 use Rattle.rules.specs.declared.Access.the-variants.{Malformed}
@@ -97,7 +97,7 @@ module _ (x : Input) (w : Wired x) (t : recordable newest (x .access) ≡ true) 
       }
 
 abbrev quiet : Access → Input
-quiet a = record { access = a; sample = record { alerts = record { pos = wireWords 248 0; neg = wireWords 248 0 } } }
+quiet a = record { access = a; sample = record { alerts = record { pos = wireWords 248 0; neg = wireWords 248 0 }; asks = noAsks } }
 
 -- a well-formed record holds no malformed access
 pub formed : (bytes : List ℕ) (x : Input) → ¬ Bad (form Alerts248) bytes → Holds Alerts248 bytes x → (k : ℕ) → k < 4 → Kind bytes k → malformed (x .access) ≡ false

@@ -52,7 +52,7 @@ rules =
       write-buffer = λ xs buffer. write newest xs buffer .buffer;
     }
 
-pub holds-library : Satisfies rules
+unfoldable pub holds-library : Satisfies rules
 unfolding holds-replays
 holds-library =
     record {

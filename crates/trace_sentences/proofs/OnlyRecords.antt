@@ -96,6 +96,7 @@ module _ (e : Edition) (bytes : List ℕ) (k : ℕ) (s : Kind bytes k) (x y : In
             pos = same-wires bytes (form e .positive-at) (form e .alerts) (x .sample .alerts .pos) (y .sample .alerts .pos) (a .positive) (b .positive) i;
             neg = same-wires bytes (form e .negative-at) (form e .alerts) (x .sample .alerts .neg) (y .sample .alerts .neg) (a .negative) (b .negative) i;
           };
+          asks = (a .asks ∙ sym (b .asks)) i;
         };
       }
 

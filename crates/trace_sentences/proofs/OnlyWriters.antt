@@ -64,6 +64,7 @@ same-record x b c r s =
           pos = same-bits b c 64 (inputOf newest b .sample .alerts .pos) (inputOf newest c .sample .alerts .pos) (h .positive) (k .positive) (λ j l. r .positive j l ∙ sym (s .positive j l)) i;
           neg = same-bits b c 312 (inputOf newest b .sample .alerts .neg) (inputOf newest c .sample .alerts .neg) (h .negative) (k .negative) (λ j l. r .negative j l ∙ sym (s .negative j l)) i;
         };
+        asks = (h .asks ∙ sym (k .asks)) i;
       };
     } in
     sym (written-back b (x .access) (r .access)) ∙ ap (recordOf newest) y ∙ written-back c (x .access) (s .access)

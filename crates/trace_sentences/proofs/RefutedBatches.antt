@@ -117,7 +117,7 @@ no-refused-run b =
 -- ── writers ──
 
 abbrev still : Input
-still = record { access = Nothing; sample = record { alerts = record { pos = replicate 4 0; neg = replicate 4 0 } } }
+still = record { access = Nothing; sample = record { alerts = record { pos = replicate 4 0; neg = replicate 4 0 }; asks = replicate 4 0 } }
 
 still-word : (v : ℕ) → v < 4 → getD (replicate 4 0) v 0 ≤ 18446744073709551615
 still-word = by-phase (λ v. getD (replicate 4 0) v 0 ≤ 18446744073709551615) (omega arith) (omega arith) (omega arith) (omega arith)

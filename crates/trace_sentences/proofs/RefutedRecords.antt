@@ -15,13 +15,14 @@ use Rattle.bits.proofs.IndexLaws.{and-true}
 use Rattle.rules.specs.Access.{malformed}
 use Rattle.rules.specs.Answer.{number, refusalNumber}
 use Rattle.rules.specs.State.{newHandler}
+use Rattle.rules.specs.Tick.{noOutput}
 use Rattle.rules.specs.declared.Access.{Access}
 use Rattle.rules.specs.declared.Answer.{Answer}
 use Rattle.rules.specs.declared.Input.{Input}
 use Rattle.rules.specs.declared.Refusal.the-variants.{Differs}
 use Rattle.rules.specs.declared.Ticked.{Ticked}
 use Rattle.trace_rules.specs.Edition.{carried64, carried248}
-use Rattle.trace_rules.specs.Record.{layout, accessIn, accessOf, carried, heldIn, inputOf, registerOf}
+use Rattle.trace_rules.specs.Record.{layout, accessIn, accessOf, noAsks, carried, heldIn, inputOf, registerOf}
 use Rattle.trace_rules.specs.Word.{wordBy, wordOf}
 use Rattle.trace_rules.specs.declared.Edition.{Edition}
 use Rattle.trace_rules.specs.declared.Edition.the-variants.{Alerts64, Alerts248}
@@ -45,7 +46,7 @@ hides t = wordOf (record { handler = t .handler; answer = hidden (t .answer); ou
 
 -- a tick with these lines on
 abbrev gives : Answer → ℕ → Ticked
-gives a lines = record { handler = newHandler 1; answer = a; output = record { interrupts = 0; lines = lines } }
+gives a lines = record { handler = newHandler 1; answer = a; output = record { interrupts = 0; lines = lines; acknowledge = noOutput .acknowledge; ping = noOutput .ping } }
 
 pub no-hidden-refusal : ¬ Words number hides
 unfolding wordOf wordBy pack
@@ -54,7 +55,8 @@ no-hidden-refusal w = let e = only-words number hides wordOf w holds-words (give
 -- one with line 3 first
 abbrev reversed : Ticked → ℕ
 reversed t =
-    wordOf (record { handler = t .handler; answer = t .answer; output = record { interrupts = t .output .interrupts; lines = bitsOf 4 (λ k. bit (t .output .lines) (3 - k)) } })
+    let lines = bitsOf 4 (λ k. bit (t .output .lines) (3 - k)) in
+    wordOf (record { handler = t .handler; answer = t .answer; output = record { interrupts = t .output .interrupts; lines = lines; acknowledge = t .output .acknowledge; ping = t .output .ping } })
 
 pub no-reversed-lines : ¬ Words number reversed
 unfolding wordOf wordBy pack bit bitsOf
@@ -128,7 +130,7 @@ no-number-as-it-is = other-access heldIn Alerts64 (0x44 ∷ replicate 23 0) refl
 abbrev swapped : Edition → List ℕ → Input
 swapped e bytes =
     let s = inputOf e bytes .sample .alerts in
-    record { access = inputOf e bytes .access; sample = record { alerts = record { pos = s .neg; neg = s .pos } } }
+    record { access = inputOf e bytes .access; sample = record { alerts = record { pos = s .neg; neg = s .pos }; asks = noAsks } }
 
 -- alert 0's positive wire is 1
 pub no-negative-wires-first : ¬ Reader swapped
@@ -136,3 +138,14 @@ unfolding inputOf heldIn unpack pack are-bytes
 no-negative-wires-first r =
     let e = only-reader swapped inputOf r holds-reader Alerts64 (0 ∷ 0 ∷ 0 ∷ 0 ∷ 0 ∷ 0 ∷ 0 ∷ 0 ∷ 0x80 ∷ replicate 15 0) refl (up-to-255 (0 ∷ 0 ∷ 0 ∷ 0 ∷ 0 ∷ 0 ∷ 0 ∷ 0 ∷ 0x80 ∷ replicate 15 0) refl) in
     let d = ap (λ (x : Input). getD (x .sample .alerts .pos) 0 0) e in omega (arith, d)
+
+-- request (viii): a record that asks for alert 0's ping
+abbrev asking : Edition → List ℕ → Input
+asking e bytes =
+    record { access = inputOf e bytes .access; sample = record { alerts = inputOf e bytes .sample .alerts; asks = 9223372036854775808 ∷ 0 ∷ 0 ∷ 0 ∷ [] } }
+
+pub no-asking : ¬ Reader asking
+unfolding are-bytes
+no-asking r =
+    let h = r Alerts248 (replicate 70 0) refl (up-to-255 (replicate 70 0) refl) in
+    let d = ap (λ (ws : List ℕ). getD ws 0 0) (h .asks) in omega (arith, d)

@@ -2,7 +2,7 @@
 -- Assumes nothing.
 use Prim.Native.Nat.{ℕ, _≤_, _<_}
 use mathlib.Core.Path.{_≡_, refl, sym, _∙_}
-use mathlib.Core.List.{List}
+use mathlib.Core.List.{List, [], _∷_}
 use lib.ListN.{getD, length}
 use Rattle.bits.specs.Index.{placeIn}
 use Rattle.trace_rules.specs.declared.Edition.{Edition}
@@ -19,6 +19,8 @@ module _ (read : Edition → List ℕ → Input) (r : Reader read) where
     pub access : read Alerts248 bytes .access ≡ x .access
     pub positive : (i : ℕ) → i < 248 → placeIn (read Alerts248 bytes .sample .alerts .pos) i ≡ placeIn (x .sample .alerts .pos) i
     pub negative : (i : ℕ) → i < 248 → placeIn (read Alerts248 bytes .sample .alerts .neg) i ≡ placeIn (x .sample .alerts .neg) i
+    -- request (viii): and asks for no ping, as the sample that was written if that asks for none
+    pub asks : read Alerts248 bytes .sample .asks ≡ 0 ∷ 0 ∷ 0 ∷ 0 ∷ []
 
   pub read-written : (x : Input) (bytes : List ℕ) → RecordOf x bytes → ReadBack x bytes
   read-written x bytes w =
@@ -29,6 +31,7 @@ module _ (read : Edition → List ℕ → Input) (r : Reader read) where
         access = same-access Alerts248 bytes (k .0) (k .1) (read Alerts248 bytes) (p .held .0) h (p .held .1) ∙ p .held .2;
         positive = λ i l. h .positive .wire i l ∙ w .positive i l;
         negative = λ i l. h .negative .wire i l ∙ w .negative i l;
+        asks = h .asks;
       }
 
   -- "and writing what was read gives the same bytes for every well-formed record"

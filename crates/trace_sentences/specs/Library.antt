@@ -1,4 +1,4 @@
--- All that a library's callers can call, but for the boot: two that satisfy the sentences cannot be told apart by any sequence of calls.
+-- All that a library's callers can call, but for the boot and for hearing, which is in call_sentences: two that satisfy the sentences cannot be told apart by any sequence of calls.
 -- The state is the caller's, so a call takes the state that the call before it left.
 -- Assumes nothing.
 use Prim.Native.Nat.{ℕ, _≤_, _<_}
@@ -11,6 +11,7 @@ use Rattle.rules.specs.declared.Handler.{Handler}
 use Rattle.rules.specs.declared.Input.{Input}
 use Rattle.rules.specs.declared.Made.{Made}
 use Rattle.rules.specs.declared.Output.{Output}
+use Rattle.rules.specs.declared.Wires.{Wires}
 use Rattle.sentences.specs.Making.{Making}
 use Rattle.trace_sentences.specs.Replays.{Replays}
 use Rattle.trace_sentences.specs.Writers.{Arrays, entry, Writer}
@@ -62,8 +63,16 @@ pub record Got : Type 0 where
   pub output : Output
   pub lent : List ℕ
 
+-- a call that runs no tick has no outputs: interrupts and lines 0, all pairs (0,1)
+abbrev pub low : Wires
+low =
+    record {
+      pos = 0 ∷ 0 ∷ 0 ∷ 0 ∷ [];
+      neg = 18446744073709551615 ∷ 18446744073709551615 ∷ 18446744073709551615 ∷ 18446744073709551615 ∷ [];
+    }
+
 abbrev pub off : Output
-off = record { interrupts = 0; lines = 0 }
+off = record { interrupts = 0; lines = 0; acknowledge = low; ping = low }
 
 abbrev pub got : Library → Handler → Call → Got
 got l h (make n) = record { number = l .new n .answer; output = off; lent = [] }

@@ -4,7 +4,7 @@ use Prim.Native.Nat.{ℕ, _+_, _-_, _/_, _%_, _^_, _≤_, _<_}
 use mathlib.Core.Path.{_≡_}
 use mathlib.Core.Logic.{_⊎_}
 use mathlib.Core.Bool.{Bool, true, false}
-use mathlib.Core.List.{List}
+use mathlib.Core.List.{List, [], _∷_}
 use lib.ListN.{getD, length}
 use Rattle.bits.specs.Bits.{bit}
 use Rattle.rules.specs.declared.Access.{Access}
@@ -103,6 +103,8 @@ pub record Holds (e : Edition) (bytes : List ℕ) (x : Input) : Type 0 where
   -- "64 positive wires with alert 0 first, 64 negative wires"
   pub positive : WiresAre bytes (form e .positive-at) (form e .alerts) (x .sample .alerts .pos)
   pub negative : WiresAre bytes (form e .negative-at) (form e .alerts) (x .sample .alerts .neg)
+  -- request (viii): "the caller asks for pings, traces and the installer for none"
+  pub asks : x .sample .asks ≡ 0 ∷ 0 ∷ 0 ∷ 0 ∷ []
 
 -- a reader of records: of as many bytes as the form says, each a byte
 abbrev pub Reader : (Edition → List ℕ → Input) → Type 0

@@ -25,7 +25,7 @@ pub record HeldIn (bytes : List ℕ) (a : Access) : Type 0 where
 pub record RecordOf (x : Input) (bytes : List ℕ) : Type 0 where
   -- "Reading what was written gives the same accesses ..": it is well formed and holds the access
   pub access : HeldIn bytes (x .access)
-  -- ".. and samples": bit by bit, of 248 alerts
+  -- ".. and samples": bit by bit, of 248 alerts; request (viii): a record asks for no ping, so that what a sample asks for is not in it
   pub positive : (i : ℕ) → i < 248 → bitAt bytes (64 + i) ≡ bit (getD (x .sample .alerts .pos) (i / 64) 0) (63 - i % 64)
   pub negative : (i : ℕ) → i < 248 → bitAt bytes (312 + i) ≡ bit (getD (x .sample .alerts .neg) (i / 64) 0) (63 - i % 64)
 
@@ -33,7 +33,7 @@ pub record RecordOf (x : Input) (bytes : List ℕ) : Type 0 where
 
 -- entry i of a list of accesses and samples; past its end there is none: never read
 abbrev pub noInput : Input
-noInput = record { access = Access.Nothing; sample = record { alerts = record { pos = []; neg = [] } } }
+noInput = record { access = Access.Nothing; sample = record { alerts = record { pos = []; neg = [] }; asks = [] } }
 
 abbrev pub entry : List Input → ℕ → Input
 entry xs i = getD xs i noInput

@@ -4,7 +4,7 @@
 use Prim.Native.Nat.{ℕ, zero, suc, _+_, _*_, _/_, _%_, _≤_, _<_}
 use mathlib.Core.Path.{_≡_, refl, sym, ap, _∙_, subst}
 use mathlib.Core.Bool.{Bool, true, false, cond}
-use mathlib.Core.List.{List, [], _++_}
+use mathlib.Core.List.{List, [], _∷_, _++_}
 use native.Mathlib.Nat.{le-of-suc-le-suc, not-suc-le-zero}
 use native.Mathlib.Omega.{arith}
 use borrow.Author.Tests.{eq-eqb}
@@ -38,7 +38,7 @@ abbrev entryOf : Lent → ℕ → Input
 entryOf l i =
     record {
       access = accessOf (getD (l .kinds) i 0) (getD (l .registers) i 0) (getD (l .values) i 0);
-      sample = record { alerts = record { pos = each 4 (λ v. getD (l .positive) (i * 4 + v) 0); neg = each 4 (λ v. getD (l .negative) (i * 4 + v) 0) } };
+      sample = record { alerts = record { pos = each 4 (λ v. getD (l .positive) (i * 4 + v) 0); neg = each 4 (λ v. getD (l .negative) (i * 4 + v) 0) }; asks = 0 ∷ 0 ∷ 0 ∷ 0 ∷ [] };
     }
 
 abbrev entries : Lent → List Input
@@ -118,6 +118,10 @@ module _ (l : Lent) (buffer left : List ℕ) (back : ReadBack l buffer left) (e 
           same .positive j c ∙ ap (λ (w : ℕ). place w (j % 64)) (at-each 4 (λ v. getD (l .positive) (i * 4 + v) 0) (j / 64) 0 d),
           same .negative j c ∙ ap (λ (w : ℕ). place w (j % 64)) (at-each 4 (λ v. getD (l .negative) (i * 4 + v) 0) (j / 64) 0 d),
         )
+
+    -- and no asks, as in the list
+    asks-back : read .sample .asks ≡ 0 ∷ 0 ∷ 0 ∷ 0 ∷ []
+    asks-back = same .asks
 
 -- ── writing what was read gives the same bytes, and later bytes stay ──
 

@@ -9,7 +9,7 @@ use Rattle.bits.specs.Fields.{pack, toBytes}
 use Rattle.bits.specs.Index.{anyTo}
 use Rattle.rules.specs.Answer.{firstOf}
 use Rattle.trace_rules.specs.Edition.{newest, recordBytes}
-use Rattle.trace_rules.specs.Record.{head, accessOf, headFields, recordable}
+use Rattle.trace_rules.specs.Record.{head, accessOf, noAsks, headFields, recordable}
 use Rattle.rules.specs.State.{words}
 use Rattle.rules.specs.declared.Access.{Access}
 use Rattle.rules.specs.declared.Input.{Input}
@@ -22,7 +22,7 @@ abbrev pub inputIn : ℕ → ℕ → ℕ → List ℕ → List ℕ → Input
 inputIn kind register value positive negative =
     record {
       access = accessOf kind register value;
-      sample = record { alerts = record { pos = positive; neg = negative } };
+      sample = record { alerts = record { pos = positive; neg = negative }; asks = noAsks };
     }
 
 -- the first 64 bits of a record: kind, register, zero bits, value

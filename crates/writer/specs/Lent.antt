@@ -1,4 +1,4 @@
--- How a list of accesses and samples is lent: five lists of numbers, of which entry i is tick i's.
+-- How a list of accesses and samples is lent: five lists of numbers, of which entry i is tick i's. Records hold no asks, and there is no list of them.
 -- Assumes nothing.
 use Prim.Native.Nat.{ℕ, _+_, _*_, _≤_, _<_}
 use mathlib.Core.Path.{_≡_}
@@ -9,7 +9,7 @@ use lib.IntN.{ℤ}
 use lib.ListN.{getD, length, take, drop}
 use Rattle.bits.specs.Index.{each}
 use Rattle.trace_rules.specs.Edition.{newest, recordBytes}
-use Rattle.trace_rules.specs.Record.{accessOf, kindOf, registerOf, valueOf, inputsOf}
+use Rattle.trace_rules.specs.Record.{accessOf, noAsks, kindOf, registerOf, valueOf, inputsOf}
 use Rattle.rules.specs.State.{words}
 use Rattle.trace_rules.specs.Writer.{Written, WellFormed, AllSame, writeVerdict, writeOf, write}
 use Rattle.rules.specs.declared.Input.{Input}
@@ -39,7 +39,7 @@ abbrev pub inputAt : Lent → ℕ → Input
 inputAt l i =
     record {
       access = accessOf (getD (l .kinds) i 0) (getD (l .registers) i 0) (getD (l .values) i 0);
-      sample = record { alerts = record { pos = wordsAt (l .positive) i; neg = wordsAt (l .negative) i } };
+      sample = record { alerts = record { pos = wordsAt (l .positive) i; neg = wordsAt (l .negative) i }; asks = noAsks };
     }
 
 unfoldable pub listOf : Lent → List Input
@@ -68,7 +68,7 @@ Numbers l =
     × (registerOf (inputAt l i .access) ≡ getD (l .registers) i 0)
     × (valueOf (inputAt l i .access) ≡ getD (l .values) i 0)
 
--- reading what was written gives the same accesses and the same 248 pairs of wires, for every list that is not refused
+-- reading what was written gives the same accesses and the same 248 pairs of wires, and no asks as in the list, for every list that is not refused
 abbrev pub ReadBack : Lent → List ℕ → List ℕ → Type 0
 ReadBack l buffer left =
     even l ≡ true → writeVerdict newest (listOf l) buffer ≡ Verdict.Accepted

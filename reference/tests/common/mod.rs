@@ -5,26 +5,46 @@
 pub mod policy;
 pub mod records;
 pub mod shadowed;
+pub mod waves;
 
-use reference::{Access, Handler, Ticked, Wires};
+use reference::{Access, Handler, Sample, Ticked, Wires};
 
-/// The positive and the negative wires.
-pub type Sample = (Wires, Wires);
-
-/// Every alert at rest: (0,1).
-pub const REST: Sample = ([0; 4], [u64::MAX; 4]);
+/// Every alert at rest: (0,1). No ping is asked for.
+pub const REST: Sample = Sample {
+    pos: [0; 4],
+    neg: [u64::MAX; 4],
+    asks: [0; 4],
+};
 /// Alert 0 at (1,0), the others at rest.
-pub const ALERT0: Sample = (
-    [1 << 63, 0, 0, 0],
-    [!(1 << 63), u64::MAX, u64::MAX, u64::MAX],
-);
+pub const ALERT0: Sample = Sample {
+    pos: [1 << 63, 0, 0, 0],
+    neg: [!(1 << 63), u64::MAX, u64::MAX, u64::MAX],
+    asks: [0; 4],
+};
 /// Numbers of alerts on both sides of every word, and the most.
 pub const COUNTS: [u64; 10] = [1, 63, 64, 65, 127, 128, 191, 192, 247, 248];
+
+/// A sample of these wires in which no ping is asked for.
+pub fn sampled(pos: Wires, neg: Wires) -> Sample {
+    Sample {
+        pos,
+        neg,
+        asks: [0; 4],
+    }
+}
+
+/// The sample, with a ping asked for at these places.
+pub fn asking(mut sample: Sample, places: &[usize]) -> Sample {
+    for place in places {
+        sample.asks[place / 64] |= 1 << (63 - place % 64);
+    }
+    sample
+}
 
 /// A sample with this place at this pair.
 pub fn with(mut sample: Sample, place: usize, pair: (u64, u64)) -> Sample {
     let shift = 63 - place % 64;
-    for (set, wire) in [(&mut sample.0, pair.0), (&mut sample.1, pair.1)] {
+    for (set, wire) in [(&mut sample.pos, pair.0), (&mut sample.neg, pair.1)] {
         set[place / 64] &= !(1 << shift);
         set[place / 64] |= wire << shift;
     }
@@ -44,8 +64,8 @@ pub fn new(n: u64) -> Handler {
     handler
 }
 
-pub fn tick(h: &mut Handler, access: Access, wires: Sample) -> Ticked {
-    h.tick(access, &wires.0, &wires.1)
+pub fn tick(h: &mut Handler, access: Access, sample: Sample) -> Ticked {
+    h.tick(access, &sample)
 }
 
 pub fn read(h: &mut Handler, register: u16) -> i64 {
@@ -67,9 +87,21 @@ pub fn idle(h: &mut Handler) -> Ticked {
     tick(h, Access::None, REST)
 }
 
-/// One event of alert 0; the caller lets it re-arm by a tick at rest.
+/// Alert 0 raised for one tick. From a ready receiver it is one event; the
+/// caller lets a `pause` follow before the next.
 pub fn event(h: &mut Handler) -> Ticked {
     tick(h, Access::None, ALERT0)
+}
+
+/// The ticks at rest between an alert raised for one tick and the first in
+/// which its next rise is taken: its drop and the two of pause.
+pub const PAUSE: usize = 3;
+
+/// These ticks at rest.
+pub fn pause(h: &mut Handler) {
+    for _ in 0..PAUSE {
+        idle(h);
+    }
 }
 
 /// N alerts, all enabled in class 0, class 0 with this CTRL.
@@ -100,5 +132,10 @@ impl Numbers {
 
     pub fn wires(&mut self) -> Wires {
         std::array::from_fn(|_| self.next())
+    }
+
+    /// Any wires; no ping is asked for.
+    pub fn sample(&mut self) -> Sample {
+        sampled(self.wires(), self.wires())
     }
 }

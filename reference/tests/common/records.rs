@@ -1,21 +1,23 @@
 //! Records of both editions, packed by hand, and a handler that is run by
 //! them alone.
 
-use super::{new, Sample, ALERT0, REST};
-use reference::{batch, Access, Edition, Handler, Ticked};
+use super::{new, ALERT0, PAUSE, REST};
+use reference::{batch, Access, Edition, Handler, Outcome, Sample};
 
 /// Both editions, the older first.
 pub const EDITIONS: [Edition; 2] = [Edition::First, Edition::Second];
 
-/// A record from its first 32 bits, its value and its wires.
+/// A record from its first 32 bits, its value and its wires. It has no place
+/// for pings, so none may be asked for.
 pub fn pack(edition: Edition, head: u32, value: u32, sample: Sample) -> Vec<u8> {
     let wire_bytes = match edition {
         Edition::First => 8,
         Edition::Second => 31,
     };
+    assert_eq!(sample.asks, [0; 4]);
     let mut bytes = head.to_be_bytes().to_vec();
     bytes.extend(value.to_be_bytes());
-    for set in [sample.0, sample.1] {
+    for set in [sample.pos, sample.neg] {
         let all: Vec<u8> = set.iter().flat_map(|word| word.to_be_bytes()).collect();
         bytes.extend(&all[..wire_bytes]);
     }
@@ -39,12 +41,12 @@ pub fn record(edition: Edition, access: Access, sample: Sample) -> Vec<u8> {
 }
 
 /// What a word holds.
-pub fn unpack(word: u64) -> Ticked {
+pub fn unpack(word: u64) -> Outcome {
     assert_eq!((word >> 32) & 0xF_FFFF, 0, "20 zeros");
     let refusal = (word >> 52) as i64 & 0xF;
     let value = (word & 0xFFFF_FFFF) as i64;
     assert!(refusal == 0 || value == 0);
-    Ticked {
+    Outcome {
         answer: if refusal == 0 { value } else { -refusal },
         interrupts: ((word >> 60) as u8).reverse_bits() >> 4,
         lines: ((word >> 56) as u8 & 0xF).reverse_bits() >> 4,
@@ -103,7 +105,7 @@ impl Bench {
         }
     }
 
-    pub fn tick(&mut self, access: Access, sample: Sample) -> Ticked {
+    pub fn tick(&mut self, access: Access, sample: Sample) -> Outcome {
         let access = match access {
             Access::Read { register } => Access::Read {
                 register: self.number(register),
@@ -135,12 +137,19 @@ impl Bench {
         }
     }
 
-    pub fn idle(&mut self) -> Ticked {
+    pub fn idle(&mut self) -> Outcome {
         self.tick(Access::None, REST)
     }
 
-    pub fn event(&mut self) -> Ticked {
+    pub fn event(&mut self) -> Outcome {
         self.tick(Access::None, ALERT0)
+    }
+
+    /// The ticks at rest after which alert 0's next rise is taken.
+    pub fn pause(&mut self) {
+        for _ in 0..PAUSE {
+            self.idle();
+        }
     }
 
     /// State and count of class 0.

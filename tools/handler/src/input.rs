@@ -50,17 +50,23 @@ impl Wires {
 pub struct Sample {
     /// The alerts' wires.
     pub alerts: Wires,
+    /// The alerts whose ping the caller asks for, in the wires' order of bits. Places at N and above count for nothing.
+    pub asks: [u64; WORDS],
 }
 
 impl Sample {
     /// Every input at rest.
     pub const AT_REST: Sample = Sample {
         alerts: Wires::REST,
+        asks: [0; WORDS],
     };
 
     /// These wires of the alerts, and every other input at rest.
     pub const fn of(alerts: Wires) -> Sample {
-        Sample { alerts }
+        Sample {
+            alerts,
+            ..Sample::AT_REST
+        }
     }
 }
 
@@ -68,8 +74,9 @@ impl Sample {
 fn wires_stand_where_the_header_has_them() {
     use crate::layout::offset_of;
     use std::mem::size_of;
-    assert!(size_of::<Sample>() == 64);
+    assert!(size_of::<Sample>() == 96);
     assert!(offset_of!(Sample, alerts) == 0);
+    assert!(offset_of!(Sample, asks) == 64);
     assert!(offset_of!(Wires, neg) == 32);
 }
 

@@ -1,5 +1,5 @@
 //! Where a field stands, for the tests of the layout: `std::mem::offset_of` is younger than Rust 1.63.
-use crate::{Class, ClassStages, Handler, Sample, Stages, Wires};
+use crate::{Class, ClassStages, Handler, Output, Receivers, Sample, Stages, Wires};
 
 /// A type with a value, whose fields have places.
 pub trait Laid {
@@ -27,6 +27,18 @@ impl Laid for Stages {
 impl Laid for ClassStages {
     fn some() -> ClassStages {
         Stages::some().classes[0]
+    }
+}
+
+impl Laid for Receivers {
+    fn some() -> Receivers {
+        Receivers::NEW
+    }
+}
+
+impl Laid for Output {
+    fn some() -> Output {
+        Output::AT_REST
     }
 }
 

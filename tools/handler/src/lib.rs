@@ -8,12 +8,15 @@ mod alert_names;
 mod answer;
 pub mod boot;
 mod edition;
+mod heard;
 mod input;
 mod installed;
 #[cfg(test)]
 mod layout;
 mod library;
 mod lifecycle;
+mod output;
+mod receivers;
 pub mod registers;
 mod state;
 mod word;
@@ -22,12 +25,15 @@ mod writer;
 pub use alert_names::ALERT_NAMES;
 pub use answer::{Answer, Refusal};
 pub use edition::Edition;
+pub use heard::Heard;
 pub use input::{Access, Input, Sample, Wires};
 pub use installed::Installed;
 pub use lifecycle::Lifecycle;
+pub use output::Output;
+pub use receivers::{Place, Receivers};
 pub use state::{
     AlertStages, Alerts, Class, ClassStages, Handler, Interrupts, Links, LocalStages, Locals,
-    Output, Receivers, Stages, ALERTS, CLASSES, LOCALS, PHASES, WORDS,
+    Stages, ALERTS, CLASSES, LOCALS, PHASES, WORDS,
 };
 pub use word::Word;
 pub use writer::{record, record_numbers};
@@ -39,7 +45,7 @@ pub struct Ticked {
     pub handler: Handler,
     /// What the access answers, from before the tick's events.
     pub answer: Answer,
-    /// Interrupts and lines after the tick.
+    /// Interrupts and lines after the tick, and the pairs that go to the alerts.
     pub output: Output,
 }
 
@@ -51,8 +57,8 @@ impl Handler {
     }
 
     /// One tick; the access has the register numbers of `registers::MAP`. A shadowed register takes two equal writes: the
-    /// first is staged, the second commits. Refusal 7: state unchanged, tick not run, no outputs. Refusals 1 to 5, 12 and 14:
-    /// the access changes no register, and the tick runs; 3 and 12 drop the stage of the register that it names.
+    /// first is staged, the second commits. Refusal 7: state unchanged, tick not run, outputs at rest. Refusals 1 to 5, 12 and
+    /// 14: the access changes no register, and the tick runs; 3 and 12 drop the stage of the register that it names.
     pub fn tick(self, access: Access, sample: Sample) -> Ticked {
         let (kind, register, value) = access.numbers();
         let given = library::tick(self, kind, register, value, sample);
@@ -63,15 +69,27 @@ impl Handler {
         }
     }
 
-    /// A tick for each record of the edition, a word for each. Refusals 7, 8 and 9 leave state and list unchanged; 7 also
-    /// where the handler has more alerts than the edition.
+    /// What the tick of the same access and sample hears. It changes nothing. Refusal 7: nothing is heard.
+    pub fn hear(self, access: Access, sample: Sample) -> Heard {
+        let (kind, register, value) = access.numbers();
+        let given = library::hear(self, kind, register, value, sample);
+        Heard {
+            events: given.events,
+            answers: given.answers,
+            locals: given.locals,
+            answer: Answer(given.answer),
+        }
+    }
+
+    /// A tick for each record of the edition, a word for each; records ask for no pings. Refusals 7, 8 and 9 leave state and
+    /// list unchanged; 7 also where the handler has more alerts than the edition.
     pub fn batch(self, edition: Edition, bytes: &[u8], out: &mut [Word]) -> (Handler, Answer) {
         let given = library::batch(self, edition, bytes, out);
         (given.handler, Answer(given.answer))
     }
 
-    /// Boots: installs document 002's classification of alerts 0 to 57 and its class settings, one access a tick with all
-    /// wires at rest, reads each register back right after its writes, and stops at the first refusal or difference; what
+    /// Boots: installs document 002's classification of alerts 0 to 57 and its class settings, one access a tick with every
+    /// input at rest, reads each register back right after its writes, and stops at the first refusal or difference; what
     /// was written stays. A new handler of 58 alerts or more always gets all of it. Refusals 7 and 13 (fewer than 58
     /// alerts), 7 first: state unchanged, no tick run.
     pub fn install(self, lifecycle: Lifecycle) -> Installed {

@@ -1,8 +1,9 @@
 //! The functions of `libtarravane.a`. The only unsafe lines of the tools. Their names there carry the layout's number: these
-//! structs are of layout 1, and a library of another one does not link.
+//! structs are of layout 2, and a library of another one does not link.
 use crate::edition::Edition;
 use crate::input::Sample;
-use crate::state::{Handler, Output};
+use crate::output::Output;
+use crate::state::{Handler, WORDS};
 use crate::word::Word;
 
 #[repr(C)]
@@ -16,7 +17,14 @@ pub struct Answered {
     pub handler: Handler,
     pub answer: i64,
     pub output: Output,
-    pub _spare: [u8; 6],
+}
+
+#[repr(C)]
+pub struct Heard {
+    pub events: [u64; WORDS],
+    pub answers: [u64; WORDS],
+    pub locals: u64,
+    pub answer: i64,
 }
 
 #[repr(C)]
@@ -34,11 +42,13 @@ pub struct Installed {
 }
 
 extern "C" {
-    #[link_name = "tarravane_new_layout_1"]
+    #[link_name = "tarravane_new_layout_2"]
     fn tarravane_new(n: usize) -> Made;
-    #[link_name = "tarravane_tick_layout_1"]
+    #[link_name = "tarravane_tick_layout_2"]
     fn tarravane_tick(h: Handler, kind: u8, register: u16, value: u32, sample: Sample) -> Answered;
-    #[link_name = "tarravane_batch_24_layout_1"]
+    #[link_name = "tarravane_hear_layout_2"]
+    fn tarravane_hear(h: Handler, kind: u8, register: u16, value: u32, sample: Sample) -> Heard;
+    #[link_name = "tarravane_batch_24_layout_2"]
     fn tarravane_batch_24(
         h: Handler,
         bytes: *const u8,
@@ -46,7 +56,7 @@ extern "C" {
         out: *mut Word,
         words: usize,
     ) -> Batched;
-    #[link_name = "tarravane_batch_70_layout_1"]
+    #[link_name = "tarravane_batch_70_layout_2"]
     fn tarravane_batch_70(
         h: Handler,
         bytes: *const u8,
@@ -54,7 +64,7 @@ extern "C" {
         out: *mut Word,
         words: usize,
     ) -> Batched;
-    #[link_name = "tarravane_record_layout_1"]
+    #[link_name = "tarravane_record_layout_2"]
     fn tarravane_record(
         kinds: *const u8,
         kinds_length: usize,
@@ -69,7 +79,7 @@ extern "C" {
         bytes: *mut u8,
         length: usize,
     ) -> i64;
-    #[link_name = "tarravane_install_layout_1"]
+    #[link_name = "tarravane_install_layout_2"]
     fn tarravane_install(h: Handler, lifecycle: u8) -> Installed;
 }
 
@@ -81,6 +91,11 @@ pub fn new(n: usize) -> Made {
 pub fn tick(h: Handler, kind: u8, register: u16, value: u32, sample: Sample) -> Answered {
     // Safe: integers in, integers out, no precondition.
     unsafe { tarravane_tick(h, kind, register, value, sample) }
+}
+
+pub fn hear(h: Handler, kind: u8, register: u16, value: u32, sample: Sample) -> Heard {
+    // Safe: integers in, integers out, no precondition.
+    unsafe { tarravane_hear(h, kind, register, value, sample) }
 }
 
 pub fn install(h: Handler, lifecycle: u8) -> Installed {
@@ -124,4 +139,9 @@ pub fn record(
             out.len(),
         )
     }
+}
+
+#[test]
+fn what_is_heard_has_the_size_that_the_header_has() {
+    assert!(std::mem::size_of::<Heard>() == 80);
 }

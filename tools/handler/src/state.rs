@@ -1,4 +1,6 @@
 //! The state, in the library's layout (`include/tarravane.h`). Integers alone: any bytes are a value, refusal 7 judges them.
+use crate::receivers::Receivers;
+
 /// The most alerts that a handler is made for.
 pub const ALERTS: usize = 248;
 /// The words of 64 that hold a bit of each alert.
@@ -34,19 +36,11 @@ pub struct Class {
     pub state: u32,
 }
 
-/// What the wires have left.
-#[repr(C)]
-#[derive(Clone, Copy, Debug, PartialEq, Eq)]
-pub struct Receivers {
-    /// Alert i is re-armed if bit 63 - i % 64 of word i / 64 is 1.
-    pub armed: [u64; WORDS],
-}
-
 /// What stands between the wires and the registers.
 #[repr(C)]
 #[derive(Clone, Copy, Debug, PartialEq, Eq)]
 pub struct Links {
-    /// Which alerts are re-armed.
+    /// The alerts' receivers.
     pub receivers: Receivers,
 }
 
@@ -175,16 +169,6 @@ pub struct Handler {
     pub stages: Stages,
 }
 
-/// Interrupts and lines: class and line 0 are the lowest bits.
-#[repr(C)]
-#[derive(Clone, Copy, Debug, PartialEq, Eq)]
-pub struct Output {
-    /// The interrupts that are on.
-    pub interrupts: u8,
-    /// The escalation lines that are on.
-    pub lines: u8,
-}
-
 #[test]
 fn fields_stand_where_the_header_has_them() {
     use crate::layout::offset_of;
@@ -197,12 +181,11 @@ fn fields_stand_where_the_header_has_them() {
     assert!(size_of::<Stages>() == 744);
     assert!(offset_of!(Stages, alerts) == 192);
     assert!(offset_of!(Stages, locals) == 688);
-    assert!(size_of::<Handler>() == 1952);
+    assert!(size_of::<Handler>() == 2048);
     assert!(offset_of!(Handler, links) == 8);
-    assert!(offset_of!(Handler, classes) == 40);
-    assert!(offset_of!(Handler, alerts) == 184);
-    assert!(offset_of!(Handler, locals) == 1176);
-    assert!(offset_of!(Handler, interrupts) == 1204);
-    assert!(offset_of!(Handler, stages) == 1208);
-    assert!(size_of::<Output>() == 2);
+    assert!(offset_of!(Handler, classes) == 136);
+    assert!(offset_of!(Handler, alerts) == 280);
+    assert!(offset_of!(Handler, locals) == 1272);
+    assert!(offset_of!(Handler, interrupts) == 1300);
+    assert!(offset_of!(Handler, stages) == 1304);
 }

@@ -1,6 +1,6 @@
 //! The wrapper asks the library and loses nothing on the way.
 use handler::registers::{Field, Setting, INTR_ENABLE, MAP};
-use handler::{Access, Answer, Handler, Refusal, Sample, Stages, ALERTS, WORDS};
+use handler::{Access, Answer, Handler, Output, Receivers, Refusal, Sample, Stages, ALERTS};
 use harness::configure::configure as writes;
 
 const REST: Sample = Sample::AT_REST;
@@ -35,7 +35,7 @@ fn a_handler_is_made_for_1_to_248_alerts() {
     for n in [1, 64, 65, 247, 248] {
         let h = made(n);
         assert_eq!(h, Handler { n, ..made(1) });
-        assert_eq!(h.links.receivers.armed, [u64::MAX; WORDS]);
+        assert_eq!(h.links.receivers, Receivers::NEW);
         assert_eq!(h.alerts.regwen, [1; ALERTS]);
         assert_eq!(h.alerts.class, [0; ALERTS]);
         assert_eq!(h.stages, Stages::NONE);
@@ -128,9 +128,9 @@ fn the_wires_and_registers_of_every_alert_are_its_own() {
         assert_eq!((h.alerts.en[i], h.alerts.class[i]), (1, 3));
         let t = h.tick(Access::Nothing, raised(i));
         assert_eq!((t.output.interrupts, t.output.lines), (8, 1));
-        let mut wanted = [u64::MAX; WORDS];
-        wanted[i / 64] &= !(1 << (63 - i % 64));
-        assert_eq!(t.handler.links.receivers.armed, wanted);
+        let mut wanted = Receivers::NEW;
+        wanted.busy[i / 64] |= 1 << (63 - i % 64);
+        assert_eq!(t.handler.links.receivers, wanted);
         let cause = |j| Access::Read(MAP.alert(Field::Cause, j));
         for (j, value) in [(i, 1), ((i + 1) % 248, 0), ((i + 64) % 248, 0)] {
             assert_eq!(t.handler.tick(cause(j), REST).answer, Answer(value));
@@ -150,6 +150,6 @@ fn a_damaged_state_is_refused_and_unchanged() {
         let t = h.tick(Access::Nothing, raised(0));
         assert_eq!(t.answer.value(), Err(Refusal(7)));
         assert_eq!(t.handler, h);
-        assert_eq!((t.output.interrupts, t.output.lines), (0, 0));
+        assert_eq!(t.output, Output::AT_REST);
     }
 }

@@ -4,16 +4,22 @@
 mod found;
 mod input;
 mod odd;
+mod receivers;
 mod twin;
 
 pub use found::Found;
-pub use input::{access, record, register, wires};
+pub use input::{access, asks, record, register, sample, wires};
 pub use odd::Odd;
-pub use twin::{handler_of, reference_access, reference_edition, reference_of, with_spare};
+pub use receivers::bit;
+pub use twin::{
+    handler_of, reference_access, reference_edition, reference_of, reference_sample, with_spare,
+};
 
-use handler::{Access, Answer, Edition, Handler, Sample, Ticked, Word};
+use handler::{Access, Answer, Edition, Handler, Heard, Sample, Ticked, Word};
 
 /// A call of one tick.
 pub type Tick = fn(Handler, Access, Sample) -> Ticked;
+/// A call that tells what a tick hears.
+pub type Hear = fn(Handler, Access, Sample) -> Heard;
 /// A call of a batch.
 pub type Batch = fn(Handler, Edition, &[u8], &mut [Word]) -> (Handler, Answer);

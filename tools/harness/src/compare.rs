@@ -5,6 +5,7 @@ mod case;
 mod coverage;
 mod difference;
 mod expected;
+mod handshakes;
 mod locking;
 mod program;
 mod shadowed;

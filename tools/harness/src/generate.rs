@@ -3,6 +3,7 @@
 mod damage;
 mod edges;
 mod ends;
+mod handshake;
 mod kind;
 mod long;
 mod play;
@@ -64,6 +65,7 @@ pub fn trace(edition: Edition, kind: Kind, seed: u64) -> Vec<u8> {
         Kind::Sweep => sweep::sweep(edition, rng),
         Kind::Ends => ends::ends(edition, rng),
         Kind::Edges => edges::edges(edition, rng),
+        Kind::Handshake => handshake::handshakes(edition, rng),
         Kind::Full => long::long(edition, rng, seed),
         Kind::Noise => damage::noise(edition, rng),
         Kind::Damaged => {

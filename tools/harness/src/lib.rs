@@ -12,6 +12,7 @@ pub mod configure;
 pub mod entries;
 pub mod generate;
 pub mod golden;
+pub mod met;
 pub mod opened;
 pub mod record;
 pub mod report;

@@ -2,11 +2,13 @@
 
 mod fit;
 mod place;
+mod receiver;
 mod slot;
 mod way;
 
 pub use fit::{fit, fit_thresholds};
 pub use place::Place;
+pub use receiver::Bit;
 pub use way::{Way, WAYS};
 
 use crate::rng::Rng;
@@ -104,8 +106,11 @@ fn above(places: &[Place], rng: &mut Rng, state: &mut Handler) {
             place.set(state, rng.bits());
         }
     }
-    for (w, word) in state.links.receivers.armed.iter_mut().enumerate() {
-        let used = n.saturating_sub(64 * w) as u32;
-        *word ^= rng.bits() & u64::MAX.checked_shr(used).unwrap_or(0);
+    for bit in Bit::ALL {
+        let words = bit.words(&mut state.links.receivers);
+        for (w, word) in words.iter_mut().enumerate() {
+            let used = n.saturating_sub(64 * w) as u32;
+            *word ^= rng.bits() & u64::MAX.checked_shr(used).unwrap_or(0);
+        }
     }
 }

@@ -1,7 +1,8 @@
-//! Damaged states: one tick and one small batch on the proved library and on
+//! Damaged states: one tick, what it hears, and one small batch on the proved library and on
 //! the reference, from the same state with the same input.
 
 mod both;
+mod heard;
 mod lists;
 mod pool;
 mod run;

@@ -4,6 +4,7 @@
 use handler::Edition;
 use harness::compare::{expected, Case, Coverage};
 use harness::golden::{cases, checksum, listed, Golden};
+use harness::opened::opened;
 use std::fs;
 use std::path::{Path, PathBuf};
 use std::process::{Command, Output};
@@ -19,15 +20,18 @@ fn kept() -> Vec<Golden> {
 #[test]
 fn the_file_has_the_traces_of_the_set() {
     let kept = kept();
-    assert!(kept.len() >= 300);
+    for edition in Edition::ALL {
+        let own = kept.iter().filter(|golden| golden.edition == edition);
+        assert!(own.count() >= 300);
+    }
     let all: Vec<Case> = cases().collect();
     assert_eq!(all.len(), kept.len());
     for (case, golden) in all.iter().zip(&kept) {
         assert_eq!((case.kind, case.seed), (golden.kind, golden.seed));
+        assert_eq!(case.edition, golden.edition);
         let bytes = case.bytes();
         assert_eq!(checksum(&bytes), golden.trace, "{golden}");
-        assert_ne!(bytes.first(), Some(&255));
-        assert_eq!(case.edition, Edition::Alerts64);
+        assert_eq!(opened(&bytes).edition, case.edition);
     }
 }
 
@@ -57,7 +61,9 @@ fn another_program_is_different() {
     let given = run("/bin/cat", Path::new(FILE));
     assert_eq!(given.status.code(), Some(1));
     let said = String::from_utf8(given.stdout).unwrap();
-    assert!(said.contains("DIFFERENT: trace mixed seed 1: the program gives other words"));
+    assert!(
+        said.contains("DIFFERENT: trace mixed seed 1 of 24 bytes: the program gives other words")
+    );
 }
 
 #[test]
@@ -72,7 +78,7 @@ fn without_a_name_it_is_the_file_of_the_repository() {
 
 #[test]
 fn another_trace_is_told() {
-    let text = "mixed 1 0000000000000001 0000000000000002\n";
+    let text = "70 mixed 1 0000000000000001 0000000000000002\n";
     let given = run("/bin/cat", &file("another-trace", text));
     assert_eq!(given.status.code(), Some(1));
     let said = String::from_utf8(given.stdout).unwrap();
@@ -83,7 +89,7 @@ fn another_trace_is_told() {
 fn a_file_that_is_none_is_told_in_one_line() {
     for (path, wanted) in [
         (
-            file("bad-line", "# x\nmixed one 2 3\n"),
+            file("bad-line", "# x\n24 mixed one 2 3\n"),
             "line 2 names no trace",
         ),
         (file("no-lines", "# x\n"), "no traces"),

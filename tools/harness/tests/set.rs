@@ -56,6 +56,29 @@ fn has_every_family_of_shadow_writes(coverage: &Coverage) {
     assert!(of.both > 10, "local 2 and local 5 at once: {}", of.both);
 }
 
+/// Each place of the handshake meets each pair of wires, and each family of handshakes is there.
+fn has_every_family_of_handshakes(coverage: &Coverage) {
+    let of = &coverage.handshakes;
+    for place in 0..4 {
+        for pair in 0..4 {
+            let ticks = of.met.at(place, pair);
+            assert!(ticks > 1000, "place {place} wires {pair}: {ticks}");
+        }
+    }
+    for (family, count) in [
+        ("taken", of.taken),
+        ("waited", of.waited),
+        ("gone in the pause", of.gone),
+        ("equal wires at a due acknowledgement", of.due),
+        ("equal wires at its drop", of.dropping),
+    ] {
+        assert!(count > 1000, "{family}: {count}");
+    }
+    assert!(of.enabled > 200, "enabled midway: {}", of.enabled);
+    // A trace asks for no pings.
+    assert_eq!((of.met.several, of.met.above), (0, 0));
+}
+
 /// Each family of locks at 65534 and 65535 is there.
 fn has_every_family_of_thresholds(coverage: &Coverage) {
     let of = &coverage.locking;
@@ -121,9 +144,19 @@ fn the_default_set_of_old_records_reaches_all() {
     reaches_every_alert_and_register(Edition::Alerts64, &coverage);
     has_every_family_of_shadow_writes(&coverage);
     has_every_family_of_thresholds(&coverage);
+    has_every_family_of_handshakes(&coverage);
     makes_every_move(&coverage);
     for n in [0, 1, 2, 7, 8, 9, 63, 64, 65] {
         assert!(coverage.counts.contains(&n), "N {n}");
+    }
+    each_alone(&coverage, &[0, 7, 8, 63]);
+}
+
+/// Both ends of each word or byte of wires, each alone in a tick.
+fn each_alone(coverage: &Coverage, alerts: &[usize]) {
+    for i in alerts {
+        assert!(coverage.lone_events.contains(i), "event of {i}");
+        assert!(coverage.lone_equal.contains(i), "equal wires of {i}");
     }
 }
 
@@ -134,15 +167,12 @@ fn the_default_set_of_new_records_reaches_all() {
     reaches_every_alert_and_register(Edition::Alerts248, &coverage);
     has_every_family_of_shadow_writes(&coverage);
     has_every_family_of_thresholds(&coverage);
+    has_every_family_of_handshakes(&coverage);
     makes_every_move(&coverage);
     for n in [0, 1, 9, 64, 65, 127, 128, 191, 192, 247, 248, 249, 255] {
         assert!(coverage.counts.contains(&n), "N {n}");
     }
-    // Both ends of each word of wires, each alone in a tick.
-    for i in [0, 63, 64, 127, 128, 191, 192, 247] {
-        assert!(coverage.lone_events.contains(&i), "event of {i}");
-        assert!(coverage.lone_equal.contains(&i), "equal wires of {i}");
-    }
+    each_alone(&coverage, &[0, 63, 64, 127, 128, 191, 192, 247]);
 }
 
 /// The numbers of accesses in sweeps of all the edition's alerts, refused or not.

@@ -2,7 +2,7 @@
 //! finds what it is there to find.
 
 use handler::registers::Setting;
-use handler::{Access, Answer, Edition, Handler, Sample, Ticked, Word, ALERTS};
+use handler::{Access, Answer, Edition, Handler, Output, Sample, Ticked, Word, ALERTS};
 use harness::bench::{load, start, time, time_boot, LOADS};
 use harness::calls::{handler_of, reference_of, with_spare, Found};
 use harness::compare::ANSWERS;
@@ -30,7 +30,7 @@ fn answer(state: &Handler) -> i64 {
     assert_eq!(state.batch(Edition::Alerts64, &[], &mut []), (*state, old));
     if answer.0 == -7 {
         assert_eq!(given.handler, *state);
-        assert_eq!((given.output.interrupts, given.output.lines), (0, 0));
+        assert_eq!(given.output, Output::AT_REST);
     }
     answer.0
 }
@@ -77,7 +77,7 @@ fn a_flipped_bit_over_a_field_gives_7() {
                 place.set(&mut h, value ^ (1 << bit));
                 let over = match place {
                     Place::N => h.n > ALERTS,
-                    Place::Armed(_) => false,
+                    Place::Receivers(..) => false,
                     // All classes are Idle: the six other states are not one
                     // bit away or want a count, and a count another state.
                     Place::Class(_, Setting::State | Setting::EscCnt) => true,
@@ -135,7 +135,7 @@ fn only_n_over_248_gives_7() {
 fn both_sides_hold_the_same_state() {
     let mut rng = Rng::new(7);
     let places = Place::all();
-    assert_eq!(places.len(), 3 + 4 + 4 * (12 + 7) + (4 + 2) * 255);
+    assert_eq!(places.len(), 3 + 16 + 4 * (12 + 7) + (4 + 2) * 255);
     let mut h = state(248);
     for _ in 0..100 {
         let values: Vec<u64> = places.iter().map(|_| rng.bits()).collect();
@@ -167,6 +167,10 @@ fn every_way_gives_what_it_is_for() {
         assert!([0, 7, 8, 9].iter().all(|number| batches[*number] > 100));
     }
     assert!(summary.over > 1000);
+    // Every place with pings open and asked for, on every pair of wires.
+    assert!(summary.met.least() > 200);
+    assert!(summary.met.several > 1000 && summary.met.above > 1000);
+    assert!(summary.heard.iter().all(|count| *count > 1000));
 }
 
 /// What is found with a wrong subject.
@@ -294,11 +298,11 @@ fn a_batch_that_writes_a_later_word_is_found() {
 fn a_tick_that_changes_what_is_no_alert_is_found() {
     fn tick(h: Handler, access: Access, sample: Sample) -> Ticked {
         let mut given = h.tick(access, sample);
-        given.handler.links.receivers.armed[3] |= 1;
+        given.handler.links.receivers.level[3] |= 1;
         given
     }
     let odd = found(Subject { tick, ..PROVED }).odd;
-    assert_eq!(odd.field, "re-armed alerts, word 3");
+    assert_eq!(odd.field, "receivers' level, word 3");
 }
 
 #[test]

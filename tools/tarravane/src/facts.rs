@@ -1,16 +1,19 @@
-//! What a tick tells, for every command that shows ticks. It is read off the library's states and words; wires and accesses
-//! are decoded by plain Rust.
+//! What a tick tells, for every command that shows ticks. It is read off the library's states and words, and its account of
+//! what was heard; wires and accesses are decoded by plain Rust.
 pub mod answer;
 pub mod changes;
 pub mod clears;
 pub mod events;
 pub mod lines;
 pub mod locks;
+pub mod receivers;
 pub mod stages;
 pub mod starts;
 pub mod tick;
 pub mod ticks;
 pub mod wires;
 
+#[cfg(test)]
+pub mod played;
 #[cfg(test)]
 mod tests;

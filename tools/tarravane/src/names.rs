@@ -1,6 +1,6 @@
 //! Document 01's words for the numbers of a trace.
 use handler::registers::{Naming, Register, Setting};
-use handler::{Edition, Refusal};
+use handler::{Edition, Place, Refusal};
 
 /// A register by its name, which is the same in every edition; by its number where the edition has none.
 pub fn register(naming: Naming, edition: Edition, number: u16) -> String {
@@ -76,6 +76,16 @@ pub fn short_state(number: u32) -> &'static str {
         6 => "P2",
         7 => "P3",
         _ => "?",
+    }
+}
+
+/// Where a receiver stands.
+pub fn place(place: Place) -> &'static str {
+    match place {
+        Place::Ready => "Ready",
+        Place::Acknowledged => "Acknowledged",
+        Place::FirstPause => "Pause 1",
+        Place::SecondPause => "Pause 2",
     }
 }
 

@@ -1,6 +1,7 @@
 //! The row of a tick.
 mod causes;
 mod class;
+mod receivers;
 mod said;
 mod stages;
 
@@ -53,31 +54,36 @@ fn columns(t: &Tick, said: &str, form: Form) -> String {
     }
 }
 
-/// The row in the first form that has room for it, with the line of a text, else with the wires counted; in short form
-/// causes may be left out, and are then counted. Open stages are counted at its end.
+/// The row in the first form that has room for it, with the line of a text, else with the wires counted; receivers that are
+/// not ready by their alerts, else counted. In short form causes may be left out, and are then counted. Open stages are
+/// counted at its end.
 pub fn row(naming: Naming, t: &Tick) -> String {
     let (edition, x) = (t.edition, &t.input);
     let causes = causes::set(&t.before, &t.after);
     let whole = said::whole(naming, edition, x);
     for said in [whole, said::counted(naming, edition, x)] {
         for form in [Form::Columns, Form::Squeezed] {
-            let row = columns(t, &said, form) + &causes.concat() + &stages::count(&t.after, form);
-            if row.trim_end().len() <= WIDTH {
-                return row.trim_end().to_string();
+            let start = columns(t, &said, form) + &causes.concat();
+            let stages = stages::count(&t.after, form);
+            for receivers in [receivers::list(t), receivers::count(t)] {
+                let row = format!("{start}{receivers}{stages}");
+                if row.trim_end().len() <= WIDTH {
+                    return row.trim_end().to_string();
+                }
             }
         }
     }
-    let stages = stages::count(&t.after, Form::Short);
-    let room = |short: &String| WIDTH.saturating_sub(short.len() + stages.len());
+    let end = receivers::count(t) + &stages::count(&t.after, Form::Short);
+    let room = |short: &String| WIDTH.saturating_sub(short.len() + end.len());
     let mut short = columns(t, &said::shortest(naming, edition, x), Form::Short);
     if room(&short) < causes::least(&causes) {
         short = columns(t, &said::numbered(edition, x), Form::Short);
     }
     let room = room(&short);
-    short + &causes::fitted(&causes, room) + &stages
+    short + &causes::fitted(&causes, room) + &end
 }
 
-/// The row with every wire, cause and open stage, and the bytes of a malformed record, however wide.
+/// The row with every wire, cause, receiver that is not ready and open stage, and the bytes of a malformed record, however wide.
 pub fn wide_row(naming: Naming, t: &Tick) -> String {
     let said = if t.is_malformed() {
         said::raw(&t.record, &t.input)
@@ -85,7 +91,8 @@ pub fn wide_row(naming: Naming, t: &Tick) -> String {
         said::whole(naming, t.edition, &t.input)
     };
     let causes = causes::set(&t.before, &t.after).concat();
-    let row = columns(t, &said, Form::Columns) + &causes + &stages::list(naming, &t.after);
+    let end = receivers::list(t) + &stages::list(naming, &t.after);
+    let row = columns(t, &said, Form::Columns) + &causes + &end;
     row.trim_end().to_string()
 }
 

@@ -38,7 +38,7 @@ fn editions_differ_in_their_title_alone() {
     let text = String::from_utf8(given("record", &["--back", "-"], &old)).expect("text");
     let text = text.replace("edition 24", "edition 70");
     let new = given("record", &["-"], text.as_bytes());
-    assert_eq!(new.len(), 2 + 70 * 33);
+    assert_eq!(new.len(), 2 + 70 * 37);
     for words in [&["-"][..], &["-", "--summary"], &["-", "--only-changes"]] {
         let [old, new] = [&old, &new].map(|bytes| explained(words, bytes));
         assert_ne!(old[0], new[0]);

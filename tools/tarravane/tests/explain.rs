@@ -28,7 +28,7 @@ fn numbers(rows: &[String]) -> Vec<u64> {
 #[test]
 fn the_broken_seal_is_told_tick_by_tick() {
     let rows = rows(&[&example("broken-seal.trace")], &[]);
-    assert_eq!(numbers(&rows), (1..=33).collect::<Vec<u64>>());
+    assert_eq!(numbers(&rows), (1..=37).collect::<Vec<u64>>());
     let has = |tick: usize, words: &[&str]| {
         words
             .iter()
@@ -39,12 +39,54 @@ fn the_broken_seal_is_told_tick_by_tick() {
     has(14, &["write CLASSA_CTRL 0x393f", "committed"]);
     has(15, &["write CLASSA_REGWEN 0", "done"]);
     has(16, &["none wires 0=10 ", "Idle 0/1", "ALERT0"]);
-    has(17, &["read CLASSA_ACCUM_CNT", " 1 "]);
-    has(20, &["---- 0---", "Ph0 1/3"]);
-    has(22, &["write CLASSA_CLR 1", "refused: locked", "Ph0 3/3"]);
-    has(23, &["read CLASSA_STATE", "4 Ph0", "---- -1--", "Ph1 1/3"]);
-    has(32, &["7 Ph3", "---- ----", "Term 0/3"]);
-    has(33, &["3 Term", "---- ----"]);
+    has(17, &["read CLASSA_ACCUM_CNT", " 1 ", "Idle     [ack 0]"]);
+    has(18, &["none", "Idle     [pause1 0]"]);
+    has(19, &["none", "Idle     [pause2 0]"]);
+    has(20, &["none wires 0=10 ", "Idle 0/2"]);
+    has(24, &["---- 0---", "Ph0 1/3"]);
+    has(26, &["write CLASSA_CLR 1", "refused: locked", "Ph0 3/3"]);
+    has(27, &["read CLASSA_STATE", "4 Ph0", "---- -1--", "Ph1 1/3"]);
+    has(36, &["7 Ph3", "---- ----", "Term 0/3"]);
+    has(37, &["3 Term", "---- ----"]);
+    let shaken = rows.iter().filter(|row| row.ends_with(" 0]"));
+    assert_eq!(shaken.count(), 9);
+}
+
+/// A rise in the pause is no event, and waits for its end; one that is gone before is lost.
+#[test]
+fn a_rise_that_waits_is_told() {
+    let text = "alerts 1
+        write ALERT0_EN 1
+        write ALERT0_EN 1
+        none wires 0=10             # 3: taken
+        none
+        none wires 0=10             # 5: it waits, and is lost
+        none
+        none wires 0=10             # 7: taken
+        none
+        none wires 0=10             # 9: it waits
+        none wires 0=10
+        none wires 0=10             # 11: taken
+        none wires 0=10";
+    let trace = given("record", &["-"], text.as_bytes());
+    let rows = rows(&["-"], &trace);
+    for (row, end) in rows[2..].iter().zip([
+        "ALERT0",
+        "[ack 0]",
+        "[pause1 0]",
+        "[pause2 0]",
+        "Idle",
+        "[ack 0]",
+        "[pause1 0]",
+        "[pause2 0]",
+        "Idle",
+        "[ack 0]",
+    ]) {
+        assert!(row.ends_with(end), "{row}");
+    }
+    let summary = explained(&["--summary", "-"], &trace).join("\n");
+    let events = "  ALERT0: 3 events, first at 3, last at 11\n";
+    assert!(summary.contains(events), "{summary}");
 }
 
 #[test]
@@ -71,7 +113,7 @@ fn a_range_of_ticks() {
         numbers(&rows(&["--from", "13", "--to", "15", &seal], &[])),
         [13, 14, 15]
     );
-    assert_eq!(numbers(&rows(&[&seal, "--from", "32"], &[])), [32, 33]);
+    assert_eq!(numbers(&rows(&[&seal, "--from", "36"], &[])), [36, 37]);
     assert_eq!(numbers(&rows(&[&seal, "--to", "1"], &[])), [1]);
 }
 
@@ -81,12 +123,12 @@ fn a_range_past_the_end_is_told() {
     let seal = example("broken-seal.trace");
     for (words, why) in [
         (
-            &["--from", "34"][..],
-            "--from 34: the trace has only 33 ticks",
+            &["--from", "38"][..],
+            "--from 38: the trace has only 37 ticks",
         ),
         (
             &["--from", "99", "--to", "100", "--only-changes"],
-            "--from 99: the trace has only 33 ticks",
+            "--from 99: the trace has only 37 ticks",
         ),
     ] {
         let (rows, said) = ended("explain", &[words, &[&seal]].concat(), &[], 0);
@@ -107,7 +149,7 @@ fn a_range_past_the_end_is_told() {
 #[test]
 fn only_changes() {
     let seal = rows(&["--only-changes", &example("broken-seal.trace")], &[]);
-    assert_eq!(numbers(&seal), [15, 16, 18, 20, 22, 23, 26, 29, 32]);
+    assert_eq!(numbers(&seal), [15, 16, 20, 24, 26, 27, 30, 33, 36]);
     assert!(seal[4].contains("write CLASSA_CLR 1              refused: locked"));
     let refused = rows(&["--only-changes", &example("refused-accesses.trace")], &[]);
     assert_eq!(numbers(&refused), [7, 8, 9, 10, 11, 13, 16, 17, 18, 19]);
@@ -148,7 +190,7 @@ fn standard_input() {
 #[test]
 fn a_file_may_have_the_name_of_an_option() {
     let seal = example("broken-seal.trace");
-    assert_eq!(rows(&["--", &seal], &[]).len(), 33);
+    assert_eq!(rows(&["--", &seal], &[]).len(), 37);
     assert_eq!(rows(&["--to", "3", "--", &seal], &[]).len(), 3);
     let said = refused("explain", &["--", "--help"], &[]);
     assert!(said.starts_with("cannot open --help: "), "{said}");
@@ -206,12 +248,12 @@ fn a_crowded_tick_fits() {
         let [thresh, count] = [Setting::AccumThresh, Setting::EscCnt].map(|s| map.class(0, s));
         let raised = write(thresh, u64::from(u32::MAX), all_at(edition, 0b10));
         let read = record(edition, 1, count.into(), 0, Wires::REST);
-        bytes.extend([raised, read].concat().repeat(11_000));
+        bytes.extend([raised, read.repeat(3)].concat().repeat(5_500));
         let (rows, first) = (rows(&["-"], &bytes), 2 * (2 * alerts + 8));
         assert_eq!(rows.len(), first + 22_000);
         assert!(rows[first].contains(" +"), "{}", rows[first]);
         let last = &rows[first + 21_999];
-        assert!(last.contains("Ph0 22000/11000"), "{last}");
+        assert!(last.contains("Ph0 22000/5500"), "{last}");
     }
 }
 
@@ -329,6 +371,9 @@ fn each_command_has_its_own_help() {
     let staged = ["[2 staged]", "committed", "refused: differs", "unstaged"];
     helps("explain", &staged, "two equal lines");
     helps("record", &["two equal lines"], "unstaged");
+    let receivers = ["[ack 0]", "[pause1 0]", "[pause2 0]", "^3"];
+    helps("explain", &receivers, "ALERT0_ACK");
+    helps("wave", &["ALERT0_PLACE", "ALERT0_ACK"], "[ack 0]");
     let help = String::from_utf8(given("explain", &["--help"], &[])).expect("text");
     let order = "The answer is given before the tick's events;";
     assert!(help.contains(order));

@@ -152,9 +152,9 @@ fn clear_locked_by_software() {
     assert_eq!(
         told("clear-locked-by-software")[..3],
         [
-            "class A: 1 start; clears accepted at 19, refused at 22, 29, 36",
-            "  start at 28 by ALERT0; locked, no LOCK; Ph0 28, Ph1 30, Ph2 32, Ph3 34, Term 36",
-            "    line 0 28-29, line 1 30-31, line 2 32-33, line 3 34-35",
+            "class A: 1 start; clears accepted at 19, refused at 23, 32, 39",
+            "  start at 31 by ALERT0; locked, no LOCK; Ph0 31, Ph1 33, Ph2 35, Ph3 37, Term 39",
+            "    line 0 31-32, line 1 33-34, line 2 35-36, line 3 37-38",
         ]
     );
 }
@@ -182,12 +182,12 @@ fn fast_track() {
             "class A: 1 start; clears accepted none, refused at 25",
             "  start at 23 by ALERT0; locked, LOCK set; Ph0 23, Ph1 27, Ph2 28, Ph3 29, Term 30",
             "    line 2 23-26",
-            "class B: 1 start; clears accepted at 36, refused none",
-            "  start at 34 by ALERT1; locked, no LOCK; Ph0 34, cleared 36",
-            "    line 1 34-35",
+            "class B: 1 start; clears accepted at 38, refused none",
+            "  start at 36 by ALERT1; locked, no LOCK; Ph0 36, cleared 38",
+            "    line 1 36-37",
             "events:",
             "  ALERT0: 1 event, at 23",
-            "  ALERT1: 2 events, first at 32, last at 34",
+            "  ALERT1: 2 events, first at 32, last at 36",
         ]
     );
 }

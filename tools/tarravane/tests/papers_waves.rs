@@ -5,7 +5,7 @@ use common::page::section;
 use common::repository;
 use std::fs;
 
-/// The rows of a wave of a class, and of a pair, by their place in a line that the case prints.
+/// The rows of a wave of a class, of a pair, and of a receiver, by their place in a line that the case prints.
 const CLASS: &[(&str, usize)] = &[
     ("CLASSA_STATE", 1),
     ("CLASSA_ESC_CNT", 2),
@@ -21,6 +21,17 @@ const PAIR: &[(&str, usize)] = &[
     ("CLASSB_ACCUM_CNT", 6),
     ("interrupts", 7),
     ("lines", 8),
+];
+
+const RECEIVER: &[(&str, usize)] = &[
+    ("alert_p", 0),
+    ("alert_n", 1),
+    ("CLASSA_ACCUM_CNT", 3),
+    ("CLASSB_ACCUM_CNT", 4),
+    ("ack_p", 5),
+    ("ack_n", 6),
+    ("ping_p", 7),
+    ("ping_n", 8),
 ];
 
 /// The lines that a case prints below its name, in words.
@@ -65,6 +76,8 @@ fn the_waves_are_those_of_the_cases() {
         let block = rest.split("```").nth(1).expect("a block");
         match wave.as_str() {
             "W5" | "W6" => check(&wave, block, CLASS),
+            "W1" => check(&wave, block, RECEIVER),
+            "W2" => check(&wave, block, &[&[("asked", 2)], RECEIVER].concat()),
             "W4" => check(
                 &wave,
                 block,
@@ -78,5 +91,5 @@ fn the_waves_are_those_of_the_cases() {
         }
         shown.push(wave);
     }
-    assert_eq!(shown, ["W1", "W3", "W4", "W5", "W6"]);
+    assert_eq!(shown, ["W1", "W2", "W3", "W4", "W5", "W6"]);
 }

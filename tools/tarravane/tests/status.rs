@@ -189,10 +189,10 @@ fn rows_before_a_cut_stay() {
     let [all, cut] = [all, cut].map(|rows| String::from_utf8(rows).expect("text"));
     let rows = |text: &str| {
         text.lines()
-            .take(34)
+            .take(38)
             .map(str::to_string)
             .collect::<Vec<_>>()
     };
     assert_eq!(rows(&all), rows(&cut));
-    assert!(cut.ends_with("cut: 23 bytes after tick 32, too few for a record\n"));
+    assert!(cut.ends_with("cut: 23 bytes after tick 36, too few for a record\n"));
 }

@@ -32,15 +32,15 @@ fn the_broken_seal() {
     assert_eq!(
         of_example("broken-seal"),
         "\
-alerts: 2; records of 24 bytes; ticks: 33
-class A: 1 start; clears accepted none, refused at 22
-  start at 20 by ALERT0; locked, LOCK set; Ph0 20, Ph1 23, Ph2 26, Ph3 29, Term 32
-    line 0 20-22, line 1 23-25, line 2 26-28, line 3 29-31
+alerts: 2; records of 24 bytes; ticks: 37
+class A: 1 start; clears accepted none, refused at 26
+  start at 24 by ALERT0; locked, LOCK set; Ph0 24, Ph1 27, Ph2 30, Ph3 33, Term 36
+    line 0 24-26, line 1 27-29, line 2 30-32, line 3 33-35
 class B: no start; no clear
 class C: no start; no clear
 class D: no start; no clear
 events:
-  ALERT0: 3 events, first at 16, last at 20
+  ALERT0: 3 events, first at 16, last at 24
 shadow writes: 7 staged, 7 committed; dropped none; open at the end none
 other refusals: none
 "
@@ -152,21 +152,25 @@ fn a_start_by_the_timeout() {
         "alerts 1
         configure ALERT0_EN 1
         configure CLASSA_ACCUM_THRESH 9
-        configure CLASSA_TIMEOUT_CYC 2
+        configure CLASSA_TIMEOUT_CYC 4
         configure CLASSA_PHASE0_CYC 100
         configure CLASSA_CTRL 0x393f
         none wires 0=10             # 11: Timeout, count 1
         none
-        none wires 0=10             # 13: an event, but no trigger
+        none
+        none
+        none wires 0=10             # 15: an event, but no trigger
         none",
     );
     assert_eq!(
         starts(&all),
         [
-            "  start at 13 by the timeout; not locked, LOCK set; Ph0 13",
-            "    line 0 13-end",
+            "  start at 15 by the timeout; not locked, LOCK set; Ph0 15",
+            "    line 0 15-end",
         ]
     );
+    let events = "  ALERT0: 2 events, first at 11, last at 15".to_string();
+    assert!(all.contains(&events), "{all:?}");
 }
 
 /// The class that drives a line is the one that it stands under; a trigger in Timeout is one by alerts.
@@ -184,8 +188,10 @@ fn two_classes_on_one_line() {
         configure CLASSA_CTRL 0x5
         configure CLASSB_CTRL 0x5
         none wires 0=10             # 19: A to Timeout
-        none wires 1=10             # 20: B starts
-        none wires 0=10             # 21: A starts
+        none
+        none
+        none wires 1=10             # 22: B starts
+        none wires 0=10             # 23: A starts
         write CLASSA_REGWEN 0
         none
         none",
@@ -195,11 +201,11 @@ fn two_classes_on_one_line() {
         shown[1..7],
         [
             "class A: 1 start; no clear",
-            "  start at 21 by ALERT0; not locked, no LOCK; Ph0 21, Ph1 24",
-            "    line 0 21-23",
+            "  start at 23 by ALERT0; not locked, no LOCK; Ph0 23, Ph1 26",
+            "    line 0 23-25",
             "class B: 1 start; no clear",
-            "  start at 20 by ALERT1; not locked, no LOCK; Ph0 20, Ph1 23, Ph2 24",
-            "    line 0 20-22",
+            "  start at 22 by ALERT1; not locked, no LOCK; Ph0 22, Ph1 25, Ph2 26",
+            "    line 0 22-24",
         ]
     );
 }
@@ -208,9 +214,9 @@ fn two_classes_on_one_line() {
 #[test]
 fn long_lists_are_counted() {
     let head = "alerts 1\nconfigure ALERT0_EN 1\nconfigure CLASSA_PHASE0_CYC 1000\nconfigure CLASSA_CTRL 0x5\n";
-    let again = "none wires 0=10\nwrite CLASSA_CLR 1\n".repeat(20);
+    let again = "none wires 0=10\nwrite CLASSA_CLR 1\nnone\nnone\n".repeat(20);
     let all = summary(&format!("{head}{again}"));
-    let ticks = "8, 10, 12, 14, 16, 18, 20, 22";
+    let ticks = "8, 12, 16, 20, 24, 28, 32, 36";
     assert_eq!(
         all[1],
         format!("class A: 20 starts; clears accepted at {ticks} and 12 more, refused none")
@@ -219,9 +225,9 @@ fn long_lists_are_counted() {
     assert_eq!(starts.len(), 2 * 8 + 1);
     assert_eq!(
         starts[14],
-        "  start at 21 by ALERT0; not locked, no LOCK; Ph0 21, cleared 22"
+        "  start at 35 by ALERT0; not locked, no LOCK; Ph0 35, cleared 36"
     );
-    assert_eq!(starts[15], "    line 0 21-21");
+    assert_eq!(starts[15], "    line 0 35-35");
     assert_eq!(starts[16], "  and 12 later starts");
     let blink = "configure CLASSA_CTRL 0x1\nconfigure CLASSA_CTRL 0x5\n".repeat(10);
     let all = summary(&format!("{head}none wires 0=10\n{blink}"));

@@ -8,7 +8,7 @@ use common::vcd::Dump;
 use common::wave::{dump, wave};
 use common::{ended, example, examples, given};
 use handler::registers::{Setting, LETTERS};
-use handler::{Edition, Wires};
+use handler::{Edition, Place, Wires};
 use harness::compare::{generated, Case};
 use std::fs;
 
@@ -67,11 +67,40 @@ fn clears(edition: Edition, t: &Ran, k: usize) -> bool {
     t.record[..8] == head[..8] && t.word.refusal().is_none()
 }
 
-/// The pair, event and cause of an alert in a tick.
+/// The pair, event and cause of an alert in a tick. Traces ask for no pings, so a rise that is taken is an event.
 fn alert(edition: Edition, t: &Ran, i: usize) -> (u8, bool, bool) {
-    let armed = |h: &handler::Handler| h.links.receivers.armed[i / 64] >> (63 - i % 64) & 1 == 1;
-    let event = armed(&t.before) && !armed(&t.after);
-    (t.pair(edition, i), event, t.after.alerts.cause[i] == 1)
+    let pair = t.pair(edition, i);
+    let event = pair == 0b10 && place(t, i) == Place::Ready;
+    (pair, event, t.after.alerts.cause[i] == 1)
+}
+
+/// Where the receiver of an alert stands as a tick begins.
+fn place(t: &Ran, i: usize) -> Place {
+    t.before.links.receivers.place(i)
+}
+
+/// Place and acknowledge pair of an alert that has a handshake, and of no other unless all are asked for.
+fn check_receiver(dump: &Dump, ticks: &[Ran], i: usize, all: bool) {
+    let name = |what: &str| format!("alerts.ALERT{i}_{what}");
+    let shaken = |t: &Ran| place(t, i) != Place::Ready;
+    assert_eq!(dump.has(&name("PLACE")), all || ticks.iter().any(shaken));
+    assert_eq!(dump.has(&name("ACK")), dump.has(&name("PLACE")));
+    assert_eq!(
+        [dump.has(&name("PING")), dump.has(&name("ANSWER"))],
+        [all; 2]
+    );
+    for t in ticks.iter().filter(|_| dump.has(&name("PLACE"))) {
+        let stands = match place(t, i) {
+            Place::Ready => "Ready",
+            Place::Acknowledged => "Acknowledged",
+            Place::FirstPause => "Pause_1",
+            Place::SecondPause => "Pause_2",
+        };
+        assert_eq!(dump.at(&name("PLACE"), t.number), stands);
+        let acknowledges = stands == "Acknowledged";
+        assert_eq!(dump.is_on(&name("ACK"), t.number), acknowledges);
+        assert!(!all || !dump.is_on(&name("PING"), t.number));
+    }
 }
 
 /// What is in the dump of alert i: all that the ticks say of it. Nothing only where it never moves.
@@ -116,7 +145,10 @@ fn check(bytes: &[u8], all: bool) {
         }
     }
     let n = ticks.first().map_or(0, |t| t.before.n);
-    (0..n).for_each(|i| check_alert(&dump, edition, &ticks, i, all));
+    for i in 0..n {
+        check_alert(&dump, edition, &ticks, i, all);
+        check_receiver(&dump, &ticks, i, all);
+    }
     assert!(!dump.has(&format!("alerts.ALERT{n}_PAIR")));
     check_locals(&dump, &ticks, all);
     assert_eq!(dump.end, ticks.len() as u64 + 1);
@@ -163,10 +195,11 @@ fn alerts_that_never_move_are_left_out() {
     let some = dump(&far, &[]);
     let alerts = some.names.iter().filter(|name| name.starts_with("alerts."));
     let alerts: Vec<&String> = alerts.collect();
-    let wanted = ["PAIR", "EVENT", "CAUSE"].map(|what| format!("alerts.ALERT247_{what}"));
+    let wanted = ["PAIR", "EVENT", "CAUSE", "PLACE", "ACK"];
+    let wanted = wanted.map(|what| format!("alerts.ALERT247_{what}"));
     assert_eq!(alerts, wanted.iter().collect::<Vec<_>>());
     let all = dump(&far, &["--all"]);
-    assert_eq!(all.names.len() - some.names.len(), 3 * 247 + 2 * 7);
+    assert_eq!(all.names.len() - some.names.len(), 7 * 247 + 2 + 2 * 7);
 }
 
 #[test]
@@ -215,7 +248,7 @@ fn accesses_are_told_in_words() {
     assert_eq!(told(19), ["malformed", "-", "-", "refused:_malformed"]);
     assert_eq!(told(20), ["read", "CLASSA_ACCUM_CNT", "-", "1"]);
     let dump = common::wave::dump(&trace("broken-seal"), &[]);
-    assert_eq!(dump.at("access.ANSWER", 23), "4_Ph0");
+    assert_eq!(dump.at("access.ANSWER", 27), "4_Ph0");
     assert_eq!(dump.at("access.VALUE", 14), "0x393f");
 }
 
@@ -240,6 +273,36 @@ fn stages_that_are_dropped_are_told() {
     }
 }
 
+/// A rise that comes too early waits: no event, until the pause is over and the wire still high.
+#[test]
+fn a_handshake_is_shown_tick_by_tick() {
+    let text = "alerts 1
+        none wires 0=10
+        none
+        none wires 0=10
+        none wires 0=10
+        none wires 0=10
+        none
+        none";
+    let dump = dump(&given("record", &["-"], text.as_bytes()), &[]);
+    let places = [
+        "Ready",
+        "Ready",
+        "Acknowledged",
+        "Pause_1",
+        "Pause_2",
+        "Ready",
+        "Acknowledged",
+        "Pause_1",
+    ];
+    for (tick, place) in (0..).zip(places) {
+        assert_eq!(dump.at("alerts.ALERT0_PLACE", tick), place);
+        let on = |what: &str| dump.is_on(&format!("alerts.ALERT0_{what}"), tick);
+        assert_eq!(on("ACK"), place == "Acknowledged");
+        assert_eq!(on("EVENT"), [1, 5].contains(&tick));
+    }
+}
+
 /// What can be shown is shown, and the end says why there is no more.
 #[test]
 fn damaged_traces_have_a_dump() {
@@ -249,8 +312,8 @@ fn damaged_traces_have_a_dump() {
         let dump = Dump::parse(&text);
         assert_eq!(said.len(), 1);
         assert!(said[0].starts_with("cut: "), "{said:?}");
-        assert_eq!(dump.at("trace.END", 32), said[0].replace(' ', "_"));
-        assert_eq!((dump.at("trace.END", 31), dump.end), ("-", 33));
+        assert_eq!(dump.at("trace.END", 36), said[0].replace(' ', "_"));
+        assert_eq!((dump.at("trace.END", 35), dump.end), ("-", 37));
         let (text, said) = wave(&[255, 0], "vcd", words, 1);
         let dump = Dump::parse(&text);
         assert_eq!(said.len(), 1);

@@ -10,7 +10,7 @@ use handler::{Edition, Wires};
 use harness::generate::{self, Kind};
 use harness::rng::Rng;
 
-/// Rest, with an event in the middle: the calm before and after it is folded, and counted.
+/// Rest, with an event in the middle: the calm before it and after its handshake is folded, and counted.
 #[test]
 fn calm_is_folded_and_marked() {
     let edition = Edition::NEWEST;
@@ -25,12 +25,13 @@ fn calm_is_folded_and_marked() {
     .concat();
     let picture = picture(&bytes, &[]);
     let folds = texts(&picture, "fold");
-    assert_eq!(folds, ["1000 ticks folded", "1999 ticks folded"]);
+    assert_eq!(folds, ["1000 ticks folded", "1997 ticks folded"]);
     assert_eq!(
         texts(&picture, "number fold level"),
-        ["1-1000", "1003-3001"]
+        ["1-1000", "1005-3001"]
     );
-    assert_eq!(texts(&picture, "number level"), ["1001", "1002"]);
+    let shown = ["1001", "1002", "1003", "1004"];
+    assert_eq!(texts(&picture, "number level"), shown);
     assert_eq!(picture.matches("class=\"tear\"").count(), 3);
     assert!(picture.contains(">ALERT1</text>") && !picture.contains(">ALERT0</text>"));
 }

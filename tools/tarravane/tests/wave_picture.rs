@@ -77,9 +77,9 @@ fn the_caption_answers() {
         told,
         [
             "first event: ALERT0 at 16",
-            "class A: 1 start; clears accepted none, refused at 22",
-            "start at 20 by ALERT0; locked, LOCK set; Ph0 20, Ph1 23, Ph2 26, Ph3 29, Term 32; \
-             line 0 20-22, line 1 23-25, line 2 26-28, line 3 29-31",
+            "class A: 1 start; clears accepted none, refused at 26",
+            "start at 24 by ALERT0; locked, LOCK set; Ph0 24, Ph1 27, Ph2 30, Ph3 33, Term 36; \
+             line 0 24-26, line 1 27-29, line 2 30-32, line 3 33-35",
             "classes B, C, D: no start; no clear",
             "other refusals: none",
         ]
@@ -154,6 +154,8 @@ fn alerts_that_rose_or_broke_have_lanes() {
         ("disabled", 1),
         ("raised", 3),
         ("broken", 3),
+        ("ack", 2),
+        ("pause", 3),
     ] {
         assert_eq!(marks(&picture, class), number, "{class}");
     }
@@ -210,13 +212,13 @@ fn damaged_traces_have_a_picture() {
 #[test]
 fn what_is_not_read_is_not_judged() {
     let seal = trace("broken-seal");
-    let (_, said) = wave(&seal[..seal.len() - 1], "svg", &["--to", "32"], 0);
+    let (_, said) = wave(&seal[..seal.len() - 1], "svg", &["--to", "36"], 0);
     assert!(said.is_empty());
-    let (picture, said) = wave(&seal[..seal.len() - 1], "svg", &["--from", "32"], 1);
+    let (picture, said) = wave(&seal[..seal.len() - 1], "svg", &["--from", "36"], 1);
     assert_eq!(texts(&picture, "bad"), said);
-    let (picture, said) = wave(&seal, "svg", &["--from", "34"], 0);
-    assert_eq!(said, ["--from 34: the trace has only 33 ticks"]);
-    assert!(texts(&picture, "about")[0].ends_with("; ticks 1 to 33, none shown"));
+    let (picture, said) = wave(&seal, "svg", &["--from", "38"], 0);
+    assert_eq!(said, ["--from 38: the trace has only 37 ticks"]);
+    assert!(texts(&picture, "about")[0].ends_with("; ticks 1 to 37, none shown"));
 }
 
 #[test]

@@ -226,7 +226,7 @@ module _ (h : Handler) where
     pub refused-output : drops m ≡ false
         → tick h (record { access = x; sample = s }) .output ≡ tick h (record { access = Access.Nothing; sample = s }) .output
     unfolding tick
-    refused-output d = ap outputOf (refused-as-none d)
+    refused-output d = ap (outputOf h) (refused-as-none d)
 
     -- so too where refusal 7 is asked first
     pub refused-ticked : drops m ≡ false

@@ -8,17 +8,14 @@ use native.Mathlib.Omega.{arith}
 use borrow.Author.Tests.{ltb-true, lt-ltb, eqb-true, ne-eqb}
 use lib.Dec.{eqb, ltb}
 use lib.ListN.{getD, getD-replicate}
-use Rattle.bits.proofs.BitLaws.{bit-ones}
 use Rattle.bits.proofs.IndexLaws.{and-true}
-use Rattle.bits.specs.Bits.{place}
-use Rattle.bits.specs.Index.{placeIn}
+use Rattle.link_rules.specs.Receiver.{newReceiver}
 use Rattle.rules.specs.Access.{store, fieldStored, named, acted, effects}
 use Rattle.rules.specs.Map.{decode, numberOf, isRegister}
 use Rattle.rules.specs.Run.{run}
-use Rattle.bits.specs.Index.{placeIn}
 use Rattle.rules.specs.Samples.{alertEvent, sampled}
 use Rattle.rules.specs.Stages.{stageIn, stage}
-use Rattle.rules.specs.State.{most, words, alert, alertColumn, armed, withStages, withLinks, newHandler, badCount, made}
+use Rattle.rules.specs.State.{most, words, alert, alertColumn, receiver, receiverIn, withStages, withLinks, newHandler, badCount, made}
 use Rattle.rules.specs.Tick.{hears, stepped, linksAfter, after, tick, ticked}
 use Rattle.rules.specs.Valid.{valid}
 use Rattle.rules.specs.declared.Access.{Access}
@@ -48,7 +45,7 @@ use Rattle.laws.proofs.Valid.KeepsValid.{new-stage}
 use Rattle.laws.proofs.Stages.StageFile.{in-most, stage-other}
 use Rattle.laws.proofs.Stages.StageLaws.{number-none}
 use Rattle.laws.proofs.State.StateLaws.{alert-store, alert-sampled}
-use Rattle.laws.proofs.Samples.Heard.{heard-above}
+use Rattle.laws.proofs.Samples.Heard.{receiver-by, heard-above}
 
 -- a state with the same N, alerts, links and stages
 kept : (h g : Handler) → g .n ≡ h .n → g .alerts ≡ h .alerts → g .links ≡ h .links → g .stages ≡ h .stages → SameAbove h g
@@ -56,7 +53,7 @@ kept h g n a r s =
     record {
       n = n;
       alerts = λ f i l b. ap (λ (x : Alerts). getD (alertColumn f x) i 0) a;
-      receivers = λ i l b. ap (λ (x : Links). placeIn (x .receivers .armed) i) r;
+      receivers = λ i l b. ap (λ (x : Links). receiverIn (x .receivers) i) r;
       stages = λ f i l b. ap (λ (x : Stages). stageIn x (Alert f i)) s;
     }
 
@@ -146,7 +143,7 @@ module _ (g : Handler) (v : Heard) (fx : Effects) where
 
 -- links that leave the receivers there
 linked-above : (h g : Handler) (x : Links) → SameAbove h g
-    → ((i : ℕ) → h .n ≤ i → i < words * 64 → placeIn (x .receivers .armed) i ≡ armed h i) → SameAbove h (withLinks x g)
+    → ((i : ℕ) → h .n ≤ i → i < words * 64 → receiverIn (x .receivers) i ≡ receiver h i) → SameAbove h (withLinks x g)
 linked-above h g x a r = record { n = a .n; alerts = a .alerts; receivers = r; stages = a .stages }
 
 -- ── ticks ──
@@ -180,14 +177,13 @@ new-alerts n Field.En i l = getD-replicate most i 0 0 l
 new-alerts n Field.Class i l = getD-replicate most i 0 0 l
 new-alerts n Field.Cause i l = getD-replicate most i 0 0 l
 
-pub new-armed : (n i : ℕ) → i < 64 * words → armed (newHandler n) i ≡ true
+pub new-receiver : (n i : ℕ) → i < 64 * words → receiver (newHandler n) i ≡ newReceiver
 unfolding newHandler
-new-armed n i l =
-    ap (λ (x : ℕ). place x (i % 64)) (getD-replicate words (i / 64) (2 ^ 64 - 1) 0 (omega arith)) ∙ bit-ones 64 (63 - i % 64) (omega arith)
+new-receiver n i l = receiver-by (λ j. newReceiver) i (omega (arith, l))
 
 pub made-entries : (n : ℕ) → EntriesNew (made n .handler)
 unfolding made
 made-entries n =
     pick (λ (m : Made). EntriesNew (m .handler)) (badCount n) _ _
-    (λ _. record { alerts = new-alerts 0; receivers = new-armed 0; stages = λ f i l. new-stage 0 (Alert f i) (lt-ltb i most l) })
-    (λ _. record { alerts = new-alerts n; receivers = new-armed n; stages = λ f i l. new-stage n (Alert f i) (lt-ltb i most l) })
+    (λ _. record { alerts = new-alerts 0; receivers = new-receiver 0; stages = λ f i l. new-stage 0 (Alert f i) (lt-ltb i most l) })
+    (λ _. record { alerts = new-alerts n; receivers = new-receiver n; stages = λ f i l. new-stage n (Alert f i) (lt-ltb i most l) })

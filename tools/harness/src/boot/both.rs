@@ -16,7 +16,7 @@ pub fn boot(
 ) -> Option<Odd> {
     let wanted = reference_install(*state, lifecycle);
     let got = install(*state, lifecycle);
-    summary.boot(lifecycle, &wanted);
+    summary.boot(state, lifecycle, &wanted);
     let pairs = [
         ("answer", wanted.answer.0, got.answer.0),
         ("register", wanted.register.into(), got.register.into()),

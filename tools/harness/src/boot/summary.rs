@@ -1,7 +1,7 @@
 //! What a run over boots reached.
 
 use super::way::WAYS;
-use handler::{Installed, Lifecycle};
+use handler::{Handler, Installed, Lifecycle, WORDS};
 use std::collections::BTreeSet;
 use std::fmt;
 
@@ -18,6 +18,9 @@ pub struct Summary {
     /// Boots that came to their end, by lifecycle; the last are of numbers
     /// that are none.
     pub whole: [u64; Lifecycle::ALL.len() + 1],
+    /// Of these, ones that began with an alert that had acknowledged, in the
+    /// first tick of the pause, in the second, and with an open ping.
+    pub links: [u64; 4],
     /// Boots that stopped or were refused, by answer: 3, 7, 12, 13.
     pub refused: [u64; REFUSED.len()],
     /// Boots that stopped in any other way.
@@ -27,10 +30,11 @@ pub struct Summary {
 }
 
 impl Summary {
-    /// Takes in a boot by what the reference gave.
-    pub(super) fn boot(&mut self, lifecycle: u8, wanted: &Installed) {
+    /// Takes in a boot by the state before it and what the reference gave.
+    pub(super) fn boot(&mut self, state: &Handler, lifecycle: u8, wanted: &Installed) {
         self.boots += 1;
         if wanted.is_whole() {
+            self.begins(state);
             let column = usize::from(lifecycle).min(Lifecycle::ALL.len());
             self.whole[column] += 1;
             return;
@@ -42,6 +46,34 @@ impl Summary {
         }
         if wanted.register != 0 {
             self.stops.insert((answer, wanted.register));
+        }
+    }
+}
+
+impl Summary {
+    /// Where the receivers stand before a boot that comes to its end.
+    fn begins(&mut self, state: &Handler) {
+        let handler::Receivers {
+            pausing,
+            busy,
+            pending,
+            ..
+        } = state.links.receivers;
+        let any = |of: fn(u64, u64, u64) -> u64| {
+            let word = |w: usize| {
+                let live = u64::MAX.checked_shr(state.n.saturating_sub(64 * w) as u32);
+                of(pausing[w], busy[w], pending[w]) & !live.unwrap_or(0)
+            };
+            (0..WORDS).any(|w| word(w) != 0)
+        };
+        let found = [
+            any(|pausing, busy, _| !pausing & busy),
+            any(|pausing, busy, _| pausing & busy),
+            any(|pausing, busy, _| pausing & !busy),
+            any(|_, _, pending| pending),
+        ];
+        for (count, is) in self.links.iter_mut().zip(found) {
+            *count += u64::from(is);
         }
     }
 }
@@ -58,6 +90,11 @@ impl fmt::Display for Summary {
         for (name, count) in names.into_iter().chain(["over 5"]).zip(self.whole) {
             write!(out, " {name} {count}")?;
         }
+        let [acknowledged, first, second, open] = self.links;
+        write!(
+            out,
+            "\nbegun with an alert acknowledged {acknowledged}, in the first tick of the pause {first}, in the second {second}, with a ping open {open}"
+        )?;
         let at = |answer| self.stops.iter().filter(|stop| stop.0 == answer).count();
         write!(
             out,

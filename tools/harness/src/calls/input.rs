@@ -1,10 +1,10 @@
-//! What a call gets: an access, wires, or a record of both.
+//! What a call gets: an access, a sample, or a record of both.
 
 use crate::generate::{far, WRITTEN};
 use crate::record::{largest, pack, Head, KIND3, NONE, READ, WRITE};
 use crate::rng::Rng;
 use handler::registers::{Field, Map, Setting, MAP};
-use handler::{Access, Edition, Wires, CLASSES, LOCALS};
+use handler::{Access, Edition, Sample, Wires, CLASSES, LOCALS, WORDS};
 
 /// A register number: mostly an assigned one, now and then a CLR.
 pub fn register(map: Map, rng: &mut Rng) -> u16 {
@@ -50,6 +50,25 @@ pub fn wires(rng: &mut Rng) -> Wires {
         };
     }
     wires
+}
+
+/// No ping asked for, few, many or all, at N and above too.
+pub fn asks(rng: &mut Rng) -> [u64; WORDS] {
+    let way = rng.weighted(&[4, 2, 2, 1]);
+    [0; WORDS].map(|none: u64| match way {
+        0 => none,
+        1 => rng.bits() & rng.bits() & rng.bits() & rng.bits(),
+        2 => rng.bits(),
+        _ => u64::MAX,
+    })
+}
+
+/// Any wires, and any pings asked for.
+pub fn sample(rng: &mut Rng) -> Sample {
+    Sample {
+        alerts: wires(rng),
+        asks: asks(rng),
+    }
 }
 
 /// Any record, one in eight malformed.

@@ -1,7 +1,9 @@
 //! What a comparison with the reference finds.
 
+use super::receivers::bit;
 use crate::spoil::Place;
-use handler::Handler;
+use handler::{Handler, Wires};
+use reference::Pairs;
 
 /// Something that is not as the reference has it.
 #[derive(Debug)]
@@ -50,6 +52,19 @@ impl Odd {
             place.to_string()
         });
         Some(Odd::new(call, name, hex(wanted), hex(got)))
+    }
+
+    /// The first pair of 256 that differs.
+    pub fn pairs(call: &'static str, name: &str, wanted: &Pairs, got: &Wires) -> Option<Odd> {
+        if (wanted.pos, wanted.neg) == (got.pos, got.neg) {
+            return None;
+        }
+        let wanted = |i| (bit(&wanted.pos, i), bit(&wanted.neg, i));
+        let got = |i| (bit(&got.pos, i), bit(&got.neg, i));
+        let i = (0..256).find(|i| wanted(*i) != got(*i))?;
+        let show = |(p, n)| format!("({},{})", u8::from(p), u8::from(n));
+        let field = format!("{name} pair {i}");
+        Some(Odd::new(call, field, show(wanted(i)), show(got(i))))
     }
 
     /// The word at this place of a call's list.

@@ -1,9 +1,10 @@
-//! The same state and access on both sides. Each struct is written out whole,
-//! so that no field can be forgotten.
+//! The same state, access and sample on both sides. Each struct is written out
+//! whole, so that no field can be forgotten.
 
+use super::receivers::{handler_receivers, reference_receivers, with_spare_bits};
 use handler::{
     Access, AlertStages, Alerts, Class, ClassStages, Edition, Handler, Interrupts, Links,
-    LocalStages, Locals, Receivers, Stages, ALERTS, WORDS,
+    LocalStages, Locals, Sample, Stages, Wires,
 };
 use reference::stages::SourceStages;
 use reference::Source;
@@ -34,7 +35,7 @@ pub fn reference_of(state: &Handler) -> reference::Handler {
             class: alerts.class[i],
             cause: alerts.cause[i],
         }),
-        armed: from_fn(|i| (state.links.receivers.armed[i / 64] >> (63 - i % 64)) & 1 == 1),
+        receivers: reference_receivers(&state.links.receivers),
         classes: from_fn(|k| reference_class(&state.classes[k])),
         stages: reference_stages(&state.stages),
     }
@@ -78,14 +79,11 @@ fn reference_stages(stages: &Stages) -> reference::Stages {
     }
 }
 
-/// The bits of the last word of re-armed alerts that are no alert's.
-const SPARE: u64 = (1 << (64 * WORDS - ALERTS)) - 1;
-
-/// The state with those bits of another one: the reference has no such bits,
-/// and no call changes them.
+/// The state with the receivers' bits that are no alert's of another one: the
+/// reference has no such bits, and no call changes them.
 pub fn with_spare(mut state: Handler, other: &Handler) -> Handler {
-    let last = &mut state.links.receivers.armed[WORDS - 1];
-    *last = *last & !SPARE | other.links.receivers.armed[WORDS - 1] & SPARE;
+    let receivers = &mut state.links.receivers;
+    *receivers = with_spare_bits(*receivers, &other.links.receivers);
     state
 }
 
@@ -93,14 +91,10 @@ pub fn with_spare(mut state: Handler, other: &Handler) -> Handler {
 /// as in a new one.
 pub fn handler_of(state: &reference::Handler) -> Handler {
     let (locals, alerts) = (&state.locals, &state.alerts);
-    let bit = |i: usize| u64::from(*state.armed.get(i).unwrap_or(&true));
-    let word = |w: usize| (0..64).fold(0, |word, at| word << 1 | bit(64 * w + at));
     Handler {
         n: state.n as usize,
         links: Links {
-            receivers: Receivers {
-                armed: from_fn(word),
-            },
+            receivers: handler_receivers(&state.receivers),
         },
         classes: from_fn(|k| handler_class(&state.classes[k])),
         alerts: Alerts {
@@ -167,6 +161,15 @@ pub fn reference_edition(edition: Edition) -> reference::Edition {
         Edition::Alerts64 => reference::Edition::First,
         Edition::Alerts248 => reference::Edition::Second,
     }
+}
+
+/// The reference's sample.
+pub fn reference_sample(sample: &Sample) -> reference::Sample {
+    let Sample {
+        alerts: Wires { pos, neg },
+        asks,
+    } = *sample;
+    reference::Sample { pos, neg, asks }
 }
 
 /// The reference's access.

@@ -2,7 +2,8 @@
 
 use super::coverage::Coverage;
 use reference::handler::ALERT_INTEGRITY;
-use reference::Handler;
+use reference::wires::wire;
+use reference::{Handler, Place, Sample};
 
 /// The only one, if there is one alone.
 fn only(mut found: impl Iterator<Item = usize>) -> Option<usize> {
@@ -10,23 +11,19 @@ fn only(mut found: impl Iterator<Item = usize>) -> Option<usize> {
     found.next().is_none().then_some(first)
 }
 
-/// The wire of alert i in the bytes of a set.
-fn wire(set: &[u8], i: usize) -> bool {
-    set[i / 8] >> (7 - i % 8) & 1 == 1
-}
-
 impl Coverage {
-    /// Takes in one tick: the handler before and after, and the bytes of its
-    /// wires, the positive set first.
-    pub fn alone(&mut self, before: &Handler, after: &Handler, wires: &[u8]) {
-        let (pos, neg) = wires.split_at(wires.len() / 2);
+    /// Takes in one tick of a trace, which asks for no pings: the handler
+    /// before and after, and the sample.
+    pub fn alone(&mut self, before: &Handler, after: &Handler, sample: &Sample) {
         let enabled = |i: &usize| after.alerts[*i].en == 1;
         let events = (0..after.n as usize).filter(enabled);
-        let events = events.filter(|i| before.armed[*i] && !after.armed[*i]);
+        let taken = (Place::Ready, Place::Acknowledged);
+        let moved = |i: usize| (before.receivers[i].place, after.receivers[i].place);
+        let events = events.filter(|i| moved(*i) == taken);
         self.lone_events.extend(only(events));
         if after.locals[ALERT_INTEGRITY].en == 1 {
             let equal = (0..after.n as usize).filter(enabled);
-            let equal = equal.filter(|i| wire(pos, *i) == wire(neg, *i));
+            let equal = equal.filter(|i| wire(&sample.pos, *i) == wire(&sample.neg, *i));
             self.lone_equal.extend(only(equal));
         }
     }

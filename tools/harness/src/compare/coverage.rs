@@ -1,5 +1,6 @@
 //! What a set of traces reached, taken from the reference while it runs.
 
+use super::handshakes::Handshakes;
 use super::locking::Locking;
 use super::shadowed::Shadowed;
 use crate::record::{Head, NONE, READ};
@@ -52,6 +53,8 @@ pub struct Coverage {
     /// Alerts that alone of the enabled ones had equal wires, with local 2
     /// enabled.
     pub lone_equal: BTreeSet<usize>,
+    /// What became of handshakes.
+    pub handshakes: Handshakes,
     /// What became of stages.
     pub shadowed: Shadowed,
     /// What became of class locks by thresholds of 65534 and 65535.
@@ -123,7 +126,8 @@ impl Coverage {
             self.registers.len(),
             self.causes.len()
         )?;
-        write!(out, "{}{}", self.shadowed, self.locking)
+        write!(out, "{}{}", self.handshakes, self.shadowed)?;
+        write!(out, "{}", self.locking)
     }
 
     /// What the classes reached.

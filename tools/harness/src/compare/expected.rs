@@ -4,7 +4,8 @@ use super::coverage::Coverage;
 use crate::calls::reference_edition;
 use crate::opened::opened;
 use crate::record::Head;
-use reference::{batch, Handler};
+use reference::trace::parse;
+use reference::{batch, Handler, Sample};
 use std::fmt::Write;
 
 /// What the reference prints for the bytes; counts what it reached.
@@ -22,6 +23,7 @@ pub fn expected(bytes: &[u8], coverage: &mut Coverage) -> Vec<u8> {
     let rest = records.remainder();
     let mut text = String::new();
     coverage.shadowed.begin();
+    coverage.handshakes.begin();
     for record in records {
         let before = handler.clone();
         let mut word = [0];
@@ -29,7 +31,11 @@ pub fn expected(bytes: &[u8], coverage: &mut Coverage) -> Vec<u8> {
         let head = Head::of(input.edition, record);
         coverage.access(input.edition, head, word[0]);
         coverage.tick(&before, &handler, word[0]);
-        coverage.alone(&before, &handler, &record[8..]);
+        let (_, pos, neg) = parse(edition, record);
+        let asks = [0; 4];
+        let sample = Sample { pos, neg, asks };
+        coverage.alone(&before, &handler, &sample);
+        coverage.handshakes.tick(&before, &handler, &sample);
         let shadowed = &mut coverage.shadowed;
         shadowed.tick(input.edition, head, word[0], &before, &handler);
         coverage.locking.tick(input.edition, head, word[0], &before);

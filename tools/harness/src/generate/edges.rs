@@ -11,6 +11,9 @@ use handler::{Edition, CLASSES};
 pub(super) const DOWN: (u64, u64) = (0, 1);
 pub(super) const UP: (u64, u64) = (1, 0);
 
+/// The ticks from one event of an alert to the next that it can have: rise, drop, and the rest of the pause.
+pub(super) const HANDSHAKE: usize = 4;
+
 /// A trace of such parts, for one class after another.
 pub fn edges(edition: Edition, mut rng: Rng) -> Vec<u8> {
     let n = rng.pick(counts(edition)).max(2);
@@ -55,12 +58,14 @@ impl Scene {
         self.configure(self.map.class(k, Setting::Ctrl), 0x393D);
     }
 
-    /// One event of the first alert.
+    /// One event of the first alert, its drop and the pause: the next rise is taken again.
     pub(super) fn rise(&mut self, register: u16) {
         self.set(self.active[0], UP);
         self.read(register);
         self.set(self.active[0], DOWN);
-        self.read(register);
+        for _ in 0..HANDSHAKE - 1 {
+            self.read(register);
+        }
     }
 
     /// Reads what a class shows.
@@ -79,7 +84,8 @@ impl Scene {
 
     /// In phase p an event is counted and a clear ends the escalation, at the phase's last tick too; line p alone is on.
     fn clear_in_phase(&mut self, k: usize, p: usize) {
-        let length = 4;
+        // Both ways end after two handshakes and p lengths more: at the last tick of phase p.
+        let length = 2 * HANDSHAKE as u32;
         self.settings(k, 0, 0, length);
         self.configure(self.map.class(k, Setting::Ctrl), 0x3901 | 4 << p);
         let state = self.map.class(k, Setting::State);
@@ -89,8 +95,7 @@ impl Scene {
                 self.read(state);
             }
             if last {
-                self.none();
-                self.none();
+                (0..HANDSHAKE).for_each(|_| self.none());
             } else {
                 self.rise(self.map.class(k, Setting::AccumCnt));
             }

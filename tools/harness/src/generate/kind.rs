@@ -31,10 +31,12 @@ pub enum Kind {
     Threshold,
     /// Each class and phase alone, values at the edges of a width, two things in one tick.
     Edges,
+    /// Handshakes: rises and equal wires in each of their places.
+    Handshake,
 }
 
 /// Every kind with its name on the command line.
-pub const KINDS: [(Kind, &str); 14] = [
+pub const KINDS: [(Kind, &str); 15] = [
     (Kind::Mixed, "mixed"),
     (Kind::Escalate, "escalate"),
     (Kind::Timeout, "timeout"),
@@ -49,6 +51,7 @@ pub const KINDS: [(Kind, &str); 14] = [
     (Kind::Shadow, "shadow"),
     (Kind::Threshold, "threshold"),
     (Kind::Edges, "edges"),
+    (Kind::Handshake, "handshake"),
 ];
 
 impl Kind {
@@ -65,7 +68,7 @@ impl Kind {
             .map(|entry| entry.0)
     }
 
-    /// The kind of the trace at a place of a set: one in a hundred is long, three have edges.
+    /// The kind of the trace at a place of a set: one in a hundred is long, three have edges, four are of handshakes.
     pub fn at(place: u64) -> Kind {
         const ROUND: [Kind; 10] = [
             Kind::Mixed,
@@ -82,6 +85,7 @@ impl Kind {
         match place % 100 {
             99 => Kind::Full,
             24 | 49 | 74 => Kind::Edges,
+            11 | 36 | 61 | 86 => Kind::Handshake,
             _ => ROUND[(place % 10) as usize],
         }
     }

@@ -1,5 +1,6 @@
 //! Long traces: an accumulator at its end, and long phases.
 
+use super::edges::{DOWN, HANDSHAKE, UP};
 use super::play::step;
 use super::profile::profile;
 use super::scene::Scene;
@@ -15,15 +16,15 @@ const MOST: u64 = 65535;
 /// then goes on with weighted steps.
 pub fn long(edition: Edition, mut rng: Rng, seed: u64) -> Vec<u8> {
     let n = rng.pick(match edition {
-        Edition::Alerts64 => &[2, 9, 64],
-        Edition::Alerts248 => &[2, 65, 248],
+        Edition::Alerts64 => &[4, 9, 64],
+        Edition::Alerts248 => &[4, 65, 248],
     });
     let mut scene = Scene::new(edition, rng, n);
-    scene.active = vec![0, scene.n - 1];
+    scene.active = vec![0, scene.n - 1, 1, scene.n - 2];
     scene.equal = 0;
     scene.moving = false;
     let (k, map) = (scene.focus, scene.map);
-    // In turn: two alerts take turns, one alert, equal wires.
+    // In turn: four alerts take turns, two of them, equal wires.
     let way = seed % 3;
     set_up(&mut scene, way);
     let other = (k + 1) % CLASSES;
@@ -54,13 +55,10 @@ pub fn long(edition: Edition, mut rng: Rng, seed: u64) -> Vec<u8> {
 fn set_up(scene: &mut Scene, way: u64) {
     let (k, map) = (scene.focus, scene.map);
     let other = (k + 1) % CLASSES;
-    let last = scene.n - 1;
-    for i in [0, last] {
+    let enabled = [4, 2, 1][way as usize];
+    for (at, i) in scene.active.clone().into_iter().enumerate() {
         scene.configure(map.alert(Field::Class, i), k as u32);
-    }
-    scene.configure(map.alert(Field::En, 0), 1);
-    if way == 0 {
-        scene.configure(map.alert(Field::En, last), 1);
+        scene.configure(map.alert(Field::En, i), u32::from(at < enabled));
     }
     if way == 2 {
         scene.configure(map.local(Field::Class, 2), k as u32);
@@ -82,17 +80,19 @@ fn set_up(scene: &mut Scene, way: u64) {
     scene.write(INTR_TEST, 1 << other);
 }
 
-/// The wires that give an event in each tick, or in each second one.
+/// The wires that give an event in each tick, or in each second one: an alert rises once in a handshake, and is at rest else.
 fn drive(scene: &mut Scene, way: u64, at: u64) {
-    let last = scene.n - 1;
-    let (up, down) = ((1, 0), (0, 1));
-    let (first, second) = if at % 2 == 0 { (up, down) } else { (down, up) };
+    let turn = at as usize % HANDSHAKE;
     match way {
-        0 => {
-            scene.set(0, first);
-            scene.set(last, second);
-        }
-        1 => scene.set(0, first),
+        0 => raise(scene, turn),
+        1 if turn % 2 == 0 => raise(scene, turn / 2),
+        1 => scene.set_active(DOWN),
         _ => scene.set(0, if at % 2 == 0 { (0, 0) } else { (1, 1) }),
     }
+}
+
+/// One of the active alerts is up, the others are at rest.
+fn raise(scene: &mut Scene, at: usize) {
+    scene.set_active(DOWN);
+    scene.set(scene.active[at], UP);
 }

@@ -49,7 +49,10 @@ impl Scene {
     pub fn burst(&mut self, gap: u64) {
         self.moving = false;
         self.set_active((0, 1));
-        self.watch();
+        // A drop and the pause, wherever an alert stands.
+        for _ in 0..3 {
+            self.watch();
+        }
         self.set_active((1, 0));
         for _ in 0..gap {
             self.watch();

@@ -39,10 +39,7 @@ pub fn sweep(edition: Edition, mut rng: Rng) -> Vec<u8> {
         }
     }
     raise_each(&mut scene);
-    // Old traces, of which the golden set has the words, stay as they were.
-    if edition != Edition::Alerts64 {
-        break_each(&mut scene);
-    }
+    break_each(&mut scene);
     scene.finish()
 }
 
@@ -52,6 +49,8 @@ fn raise_each(scene: &mut Scene) {
     let map = scene.map;
     scene.moving = false;
     (scene.pos, scene.neg) = (Wires::REST.pos, Wires::REST.neg);
+    // A drop and the pause, wherever an alert stands.
+    (0..3).for_each(|_| scene.none());
     for i in 0..scene.n {
         scene.configure(map.alert(Field::En, i), 1);
     }

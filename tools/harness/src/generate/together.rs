@@ -10,7 +10,8 @@ impl Scene {
     pub(super) fn timeout_at_the_trigger(&mut self, k: usize) {
         let timeout = self.map.class(k, Setting::TimeoutCyc);
         for trigger in [true, false] {
-            self.settings(k, u32::from(trigger), 5, 2);
+            // The first event starts the timeout, which is not due before the second.
+            self.settings(k, 1, 9, 2);
             self.rise(self.map.class(k, Setting::State));
             self.write(timeout, 0);
             if trigger {
@@ -53,7 +54,7 @@ impl Scene {
             self.set(i, UP);
             self.set(j, pair);
             self.read(self.map.alert(Field::Cause, j));
-            // Disarmed and with equal wires: local 2 occurs again, its cause is 1 already.
+            // Equal wires in any place of the handshake: local 2 occurs again, its cause is 1 already.
             self.set(j, (1, 1));
             self.read(self.map.class(other, Setting::AccumCnt));
             self.write(self.map.alert(Field::Cause, i), 1);

@@ -10,6 +10,8 @@ use std::path::Path;
 /// A trace by its name, what its bytes were, and the words of the program.
 #[derive(Clone, Copy, Debug, PartialEq, Eq)]
 pub struct Golden {
+    /// The form of its records.
+    pub edition: Edition,
     /// What the trace is about.
     pub kind: Kind,
     /// Its seed.
@@ -29,21 +31,26 @@ pub fn checksum(bytes: &[u8]) -> u64 {
 
 impl Golden {
     /// What a program gives for a trace, and how many lines it printed.
-    pub fn of(path: &Path, kind: Kind, seed: u64) -> io::Result<(Golden, u64)> {
-        let case = Case {
-            edition: Edition::Alerts64,
+    pub fn of(path: &Path, case: Case) -> io::Result<(Golden, u64)> {
+        let Case {
+            edition,
             kind,
             seed,
-            records: None,
-        };
+            ..
+        } = case;
         let bytes = case.bytes();
         let ran = program(path, &bytes)?;
         if let Some(ended) = ended(&ran) {
-            let what = format!("trace {} {seed}: {ended}", kind.name());
+            let what = format!(
+                "trace {} {seed} of {}: {ended}",
+                kind.name(),
+                edition.bytes()
+            );
             return Err(io::Error::new(io::ErrorKind::Other, what));
         }
         let lines = ran.output.iter().filter(|byte| **byte == b'\n').count();
         let golden = Golden {
+            edition,
             kind,
             seed,
             trace: checksum(&bytes),
@@ -52,15 +59,28 @@ impl Golden {
         Ok((golden, lines as u64))
     }
 
+    /// The trace as a case of the harness.
+    pub fn case(&self) -> Case {
+        Case {
+            edition: self.edition,
+            kind: self.kind,
+            seed: self.seed,
+            records: None,
+        }
+    }
+
     /// The trace of a line, as `Display` writes it.
     pub fn named(line: &str) -> Option<Golden> {
         let words: Vec<&str> = line.split(' ').collect();
-        let [kind, seed, trace, words] = match words[..] {
-            [kind, seed, trace, words] => [kind, seed, trace, words],
+        let [bytes, kind, seed, trace, words] = match words[..] {
+            [bytes, kind, seed, trace, words] => [bytes, kind, seed, trace, words],
             _ => return None,
         };
         let hex = |digits: &str| u64::from_str_radix(digits, 16).ok();
+        let bytes: usize = bytes.parse().ok()?;
+        let mut editions = Edition::ALL.into_iter();
         Some(Golden {
+            edition: editions.find(|edition| edition.bytes() == bytes)?,
             kind: Kind::named(kind)?,
             seed: seed.parse().ok()?,
             trace: hex(trace)?,
@@ -71,8 +91,9 @@ impl Golden {
 
 impl fmt::Display for Golden {
     fn fmt(&self, out: &mut fmt::Formatter) -> fmt::Result {
-        let (kind, seed) = (self.kind.name(), self.seed);
-        write!(out, "{kind} {seed} {:016x} {:016x}", self.trace, self.words)
+        let (bytes, kind, seed) = (self.edition.bytes(), self.kind.name(), self.seed);
+        let (trace, words) = (self.trace, self.words);
+        write!(out, "{bytes} {kind} {seed} {trace:016x} {words:016x}")
     }
 }
 
@@ -90,20 +111,23 @@ mod tests {
     #[test]
     fn a_line_gives_its_trace() {
         let golden = Golden {
+            edition: Edition::Alerts248,
             kind: Kind::Sweep,
             seed: 9,
             trace: 1,
             words: u64::MAX,
         };
-        let line = "sweep 9 0000000000000001 ffffffffffffffff";
+        let line = "70 sweep 9 0000000000000001 ffffffffffffffff";
         assert_eq!(golden.to_string(), line);
         assert_eq!(Golden::named(line), Some(golden));
         for other in [
             "",
-            "sweep 9 1",
-            "swept 9 1 2",
-            "sweep x 1 2",
-            "sweep 9 1 2 3",
+            "70 sweep 9 1",
+            "sweep 9 1 2",
+            "71 sweep 9 1 2",
+            "70 swept 9 1 2",
+            "24 sweep x 1 2",
+            "24 sweep 9 1 2 3",
         ] {
             assert_eq!(Golden::named(other), None, "{other}");
         }

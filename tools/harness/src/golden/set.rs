@@ -8,13 +8,15 @@ use std::fmt;
 use std::io;
 use std::path::Path;
 
-/// The traces of the set: the first ones of the fixed set and of damaged input.
-/// Those that begin with 255 are left out: such an input is no old one.
+/// The traces of the set: of each edition the first ones of the fixed set and
+/// of damaged input. Those whose first byte damage made another edition's are
+/// left out.
 pub fn cases() -> impl Iterator<Item = Case> {
-    let old = Edition::Alerts64;
-    let whole = generated(old, DEFAULT_SEED).take(300);
-    let all = whole.chain(damage(old, DEFAULT_SEED).take(100));
-    all.filter(move |case| opened(&case.bytes()).edition == old)
+    let all = Edition::ALL.into_iter().flat_map(|edition| {
+        let whole = generated(edition, DEFAULT_SEED).take(300);
+        whole.chain(damage(edition, DEFAULT_SEED).take(100))
+    });
+    all.filter(|case| opened(&case.bytes()).edition == case.edition)
 }
 
 /// The traces of a file's lines; a line that begins with # is a comment. Gives
@@ -55,11 +57,15 @@ pub struct Other {
 impl fmt::Display for Other {
     fn fmt(&self, out: &mut fmt::Formatter) -> fmt::Result {
         let (kind, seed) = (self.kept.kind.name(), self.kept.seed);
+        let bytes = self.kept.edition.bytes();
         let what = match self.kept.trace == self.now.trace {
             true => "the program gives other words",
             false => "the generator gives another trace",
         };
-        writeln!(out, "DIFFERENT: trace {kind} seed {seed}: {what}")?;
+        writeln!(
+            out,
+            "DIFFERENT: trace {kind} seed {seed} of {bytes} bytes: {what}"
+        )?;
         writeln!(out, "kept: {}", self.kept)?;
         write!(out, "now:  {}", self.now)
     }
@@ -68,7 +74,7 @@ impl fmt::Display for Other {
 /// Holds a program against the traces; gives the first that differs.
 pub fn compare(path: &Path, traces: &[Golden], kept: &mut Kept) -> io::Result<Option<Other>> {
     for golden in traces {
-        let (now, lines) = Golden::of(path, golden.kind, golden.seed)?;
+        let (now, lines) = Golden::of(path, golden.case())?;
         if now != *golden {
             return Ok(Some(Other { kept: *golden, now }));
         }

@@ -1,6 +1,7 @@
 //! The places of a state: every stored field by name, with the most that it
 //! may hold and the bits that are kept for it.
 
+use super::receiver::Bit;
 use handler::registers::{Field, Setting, INTR_BITS};
 use handler::{ALERTS, CLASSES, LOCALS, WORDS};
 use std::fmt;
@@ -10,8 +11,8 @@ use std::fmt;
 pub enum Place {
     /// The number of alerts.
     N,
-    /// A word of re-armed alerts.
-    Armed(usize),
+    /// A word of the receivers.
+    Receivers(Bit, usize),
     /// INTR_STATE.
     IntrState,
     /// INTR_ENABLE.
@@ -34,7 +35,9 @@ impl Place {
     /// Every place of a state.
     pub fn all() -> Vec<Place> {
         let mut all = vec![Place::N, Place::IntrState, Place::IntrEnable];
-        all.extend((0..WORDS).map(Place::Armed));
+        for bit in Bit::ALL {
+            all.extend((0..WORDS).map(|word| Place::Receivers(bit, word)));
+        }
         for k in 0..CLASSES {
             // CLR holds no value.
             all.extend(Setting::READABLE.map(|setting| Place::Class(k, setting)));
@@ -52,10 +55,10 @@ impl Place {
     }
 
     /// The most that it may hold: the largest value of a register, and one
-    /// more in a stage. N and the re-armed alerts have another rule or none.
+    /// more in a stage. N and the receivers have another rule or none.
     pub fn most(self) -> Option<u64> {
         let bits = match self {
-            Place::N | Place::Armed(_) => return None,
+            Place::N | Place::Receivers(..) => return None,
             Place::IntrState | Place::IntrEnable => INTR_BITS,
             Place::Class(_, setting) | Place::ClassStage(_, setting) => setting.bits(),
             Place::Alert(field, _) | Place::Local(field, _) => field.bits(),
@@ -82,7 +85,7 @@ impl Place {
     /// what stands above is tried from C (`tests/boundary-states.c`).
     pub fn kept(self) -> u32 {
         match self {
-            Place::N | Place::Armed(_) => 64,
+            Place::N | Place::Receivers(..) => 64,
             Place::Class(_, setting) => setting.bits().next_power_of_two().max(8),
             // One bit more, for the value plus 1; that of CTRL is as wide as
             // that of ACCUM_THRESH.
@@ -97,7 +100,7 @@ impl fmt::Display for Place {
     fn fmt(&self, out: &mut fmt::Formatter) -> fmt::Result {
         match self {
             Place::N => write!(out, "N"),
-            Place::Armed(word) => write!(out, "re-armed alerts, word {word}"),
+            Place::Receivers(bit, word) => write!(out, "receivers' {}, word {word}", bit.name()),
             Place::IntrState => write!(out, "INTR_STATE"),
             Place::IntrEnable => write!(out, "INTR_ENABLE"),
             Place::Class(k, setting) => write!(out, "class {k} {}", setting.name()),

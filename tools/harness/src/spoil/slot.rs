@@ -41,7 +41,9 @@ impl Place {
     fn slot(self, state: &mut Handler) -> Slot<'_> {
         match self {
             Place::N => Slot::Size(&mut state.n),
-            Place::Armed(word) => Slot::Long(&mut state.links.receivers.armed[word]),
+            Place::Receivers(bit, word) => {
+                Slot::Long(&mut bit.words(&mut state.links.receivers)[word])
+            }
             Place::IntrState => Slot::Half(&mut state.interrupts.state),
             Place::IntrEnable => Slot::Half(&mut state.interrupts.enable),
             Place::Class(k, setting) => class_slot(&mut state.classes[k], setting),

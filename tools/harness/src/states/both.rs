@@ -1,50 +1,83 @@
 //! One call on both sides, and the first thing that differs.
 
+use super::heard::heard;
 use super::lists::Lists;
 use super::subject::Subject;
 use super::summary::Summary;
 use crate::calls::{
-    access, handler_of, reference_access, reference_edition, reference_of, wires, with_spare, Odd,
+    access, handler_of, reference_access, reference_edition, reference_of, reference_sample,
+    sample, with_spare, Odd,
 };
 use crate::rng::Rng;
-use handler::{Edition, Handler, Sample};
+use handler::{Edition, Handler, Heard, Ticked};
 
 /// The answer to a state that breaks the rule.
 const BROKEN: i64 = -7;
 
-/// One tick on both sides.
+/// One tick on both sides, and what it hears.
 pub fn tick(
     subject: &Subject,
     state: &Handler,
     rng: &mut Rng,
     summary: &mut Summary,
 ) -> Option<Odd> {
-    let (access, wires) = (access(rng), wires(rng));
+    let (access, sample) = (access(rng), sample(rng));
+    let given = (reference_access(access), reference_sample(&sample));
     let mut twin = reference_of(state);
     let valid = twin.valid();
-    let wanted = twin.tick(reference_access(access), &wires.pos, &wires.neg);
-    let got = (subject.tick)(*state, access, Sample::of(wires));
+    let hears = heard(&twin, given.0, &given.1);
+    if valid {
+        summary.met.tick(&twin, &given.1);
+        summary.hears(&hears);
+    }
+    let wanted = twin.tick(given.0, &given.1);
     if valid {
         summary.ticks[wanted.answer.min(0).unsigned_abs() as usize] += 1;
     }
-    let (interrupts, lines) = (got.output.interrupts, got.output.lines);
+    let got = (subject.tick)(*state, access, sample);
+    let sevens = [!valid, got.answer.0 == BROKEN].map(i64::from);
+    Odd::first("tick", &[("answer 7", sevens[0], sevens[1])])
+        .or_else(|| ticked_odd(&wanted, &got))
+        .or_else(|| {
+            let wanted = with_spare(handler_of(&twin), state);
+            Odd::state("tick", &wanted, &got.handler)
+        })
+        .or_else(|| hear_odd(&hears, &(subject.hear)(*state, access, sample)))
+}
+
+/// What a tick gives otherwise than the reference, the state apart.
+fn ticked_odd(wanted: &reference::Ticked, got: &Ticked) -> Option<Odd> {
+    let out = &got.output;
+    let numbers = [
+        ("answer", wanted.answer, got.answer.0),
+        (
+            "interrupts",
+            wanted.interrupts.into(),
+            out.interrupts.into(),
+        ),
+        ("lines", wanted.lines.into(), out.lines.into()),
+    ];
+    Odd::first("tick", &numbers)
+        .or_else(|| Odd::pairs("tick", "acknowledge", &wanted.acknowledge, &out.acknowledge))
+        .or_else(|| Odd::pairs("tick", "ping", &wanted.ping, &out.ping))
+}
+
+/// What is heard otherwise than the reference hears it.
+fn hear_odd(wanted: &Heard, got: &Heard) -> Option<Odd> {
+    let words = |name, wanted: [u64; 4], got: [u64; 4]| {
+        let hex = |words| format!("{words:x?}");
+        (wanted != got).then(|| Odd::new("hear", name, hex(wanted), hex(got)))
+    };
+    let locals = (wanted.locals as i64, got.locals as i64);
     Odd::first(
-        "tick",
+        "hear",
         &[
-            (
-                "answer 7",
-                i64::from(!valid),
-                i64::from(got.answer.0 == BROKEN),
-            ),
-            ("answer", wanted.answer, got.answer.0),
-            ("interrupts", wanted.interrupts.into(), interrupts.into()),
-            ("lines", wanted.lines.into(), lines.into()),
+            ("answer", wanted.answer.0, got.answer.0),
+            ("local alerts", locals.0, locals.1),
         ],
     )
-    .or_else(|| {
-        let wanted = with_spare(handler_of(&twin), state);
-        Odd::state("tick", &wanted, &got.handler)
-    })
+    .or_else(|| words("events", wanted.events, got.events))
+    .or_else(|| words("answered pings", wanted.answers, got.answers))
 }
 
 /// One small batch of either edition on both sides.

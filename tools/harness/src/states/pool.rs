@@ -1,10 +1,12 @@
 //! States that traces come to.
 
-use crate::calls::{handler_of, reference_edition};
+use crate::calls::{asks, handler_of, reference_edition};
 use crate::generate::{trace, Kind};
 use crate::opened::opened;
 use crate::rng::Rng;
 use handler::{Edition, Handler};
+use reference::trace::parse;
+use reference::Sample;
 
 /// States that are taken from the same trace.
 pub const BLOCK: u64 = 64;
@@ -18,7 +20,8 @@ pub struct Pool {
 }
 
 impl Pool {
-    /// Runs the block's trace in the reference and stops at random places.
+    /// Runs the block's trace in the reference, with pings asked for now and
+    /// then, and stops at random places.
     pub fn new(block: u64) -> Pool {
         let mut rng = Rng::new(block);
         // The kinds of a round come in both editions.
@@ -37,7 +40,13 @@ impl Pool {
         let mut states = Vec::new();
         for stop in stops {
             for record in &records[done..stop as usize] {
-                assert_eq!(reference::batch(&mut state, edition, record, &mut [0]), 0);
+                let (access, pos, neg) = parse(edition, record);
+                let asks = if rng.once_in(32) {
+                    asks(&mut rng)
+                } else {
+                    [0; 4]
+                };
+                state.tick(access, &Sample { pos, neg, asks });
             }
             done = stop as usize;
             states.push(handler_of(&state));

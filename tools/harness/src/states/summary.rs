@@ -1,8 +1,9 @@
 //! What a run over states reached.
 
 use crate::compare::ANSWERS;
+use crate::met::Met;
 use crate::spoil::WAYS;
-use handler::Edition;
+use handler::{Edition, Heard, WORDS};
 use std::fmt;
 
 /// Counts over all states of a set.
@@ -18,6 +19,11 @@ pub struct Summary {
     pub over: u64,
     /// Ticks of accepted states by refusal number, 0 for accepted.
     pub ticks: [u64; 15],
+    /// What the receivers of accepted states met in them.
+    pub met: Met,
+    /// Those with an event, with an answered ping, with an occurring local
+    /// alert.
+    pub heard: [u64; 3],
 }
 
 impl Summary {
@@ -25,6 +31,15 @@ impl Summary {
     pub(super) fn batch(&mut self, edition: Edition, answer: i64, valid: bool) {
         self.batches[edition as usize][answer.unsigned_abs() as usize] += 1;
         self.over += u64::from(valid && answer == -7);
+    }
+
+    /// Takes in what a tick of an accepted state hears.
+    pub(super) fn hears(&mut self, heard: &Heard) {
+        let any = [heard.events, heard.answers].map(|words| words != [0; WORDS]);
+        let all = [any[0], any[1], heard.locals != 0];
+        for (count, some) in self.heard.iter_mut().zip(all) {
+            *count += u64::from(some);
+        }
     }
 
     /// States that got refusal 7.
@@ -58,6 +73,12 @@ impl fmt::Display for Summary {
         for number in &ANSWERS[1..] {
             write!(out, ", refusal {number}: {}", self.ticks[*number])?;
         }
+        let [events, answers, locals] = self.heard;
+        write!(
+            out,
+            "\n{}ticks with an event {events}, with an answered ping {answers}, with a local alert {locals}",
+            self.met
+        )?;
         for (edition, batches) in Edition::ALL.into_iter().zip(self.batches) {
             let bytes = edition.bytes();
             write!(out, "\nbatches of {bytes} bytes: accepted {}", batches[0])?;

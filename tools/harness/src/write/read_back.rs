@@ -2,8 +2,7 @@
 
 use super::subject::Subject;
 use super::summary::Summary;
-use crate::calls::reference_access;
-use crate::calls::Odd;
+use crate::calls::{reference_access, reference_sample, Odd};
 use crate::entries::{Entries, Row};
 use crate::record::{wires_of, WRITTEN_BYTES};
 use handler::{Edition, Handler, Sample, Ticked, Word};
@@ -73,10 +72,11 @@ fn proved_odd(subject: &Subject, n: usize, rows: &[Row], bytes: &[u8]) -> Option
 
 /// The word of a tick of the subject.
 fn ticked_word(given: &Ticked) -> u64 {
-    word(&reference::Ticked {
+    let four = |bits: u32| u8::try_from(bits).expect("four bits");
+    word(&reference::Outcome {
         answer: given.answer.0,
-        interrupts: given.output.interrupts,
-        lines: given.output.lines,
+        interrupts: four(given.output.interrupts),
+        lines: four(given.output.lines),
     })
 }
 
@@ -91,7 +91,8 @@ fn reference_odd(n: usize, rows: &[Row], bytes: &[u8], summary: &mut Summary) ->
     }
     for (at, (row, got)) in rows.iter().zip(&words).enumerate() {
         let access = reference_access(row.access());
-        let wanted = word(&state.tick(access, &row.wires.pos, &row.wires.neg));
+        let sample = reference_sample(&Sample::of(row.wires));
+        let wanted = word(&state.tick(access, &sample).outcome());
         if wanted != *got {
             return Some(Odd::word(REFERENCE_BATCH, at, wanted, *got));
         }

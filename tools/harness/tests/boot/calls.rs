@@ -53,6 +53,13 @@ pub const TICKS: &[Slip] = &[
     Ticks("all wires low", |entry| {
         rewired(entry, |wires| wires.neg.fill(0))
     }),
+    Ticks("pings asked for", |entry| {
+        let mut ticks = inputs(entry);
+        ticks
+            .iter_mut()
+            .for_each(|tick| tick.sample.asks.fill(u64::MAX));
+        ticks
+    }),
     Ticks("only 64 alerts at rest", |entry| {
         rewired(entry, |wires| wires.neg[1..].fill(0))
     }),

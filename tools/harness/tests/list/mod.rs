@@ -1,5 +1,6 @@
 //! The slips: a piece of the reference's text and what replaces it.
 
+mod handshake;
 mod patterns;
 mod stages;
 mod threshold;
@@ -8,7 +9,12 @@ use crate::copied::Slip;
 
 /// Every slip; the default set must find each of them.
 pub fn slips() -> impl Iterator<Item = &'static Slip> {
-    let later = [stages::STAGES, threshold::THRESHOLD, patterns::PATTERNS];
+    let later = [
+        stages::STAGES,
+        threshold::THRESHOLD,
+        patterns::PATTERNS,
+        handshake::HANDSHAKE,
+    ];
     RULES.iter().chain(later.into_iter().flatten())
 }
 
@@ -53,11 +59,11 @@ const RULES: &[Slip] = &[
     Slip {
         name: "samples dropped on a refusal",
         file: "handler.rs",
-        right: "let mut assigned = self.sample(pos, neg);",
+        right: "let mut assigned = self.sample(&sample.pos, &sample.neg);",
         wrong: "let mut assigned = if answer < 0 {
             [false; CLASSES]
         } else {
-            self.sample(pos, neg)
+            self.sample(&sample.pos, &sample.neg)
         };",
     },
     Slip {
@@ -73,11 +79,15 @@ const RULES: &[Slip] = &[
     }",
     },
     Slip {
-        name: "(0,0) re-arms",
-        file: "handler.rs",
-        right: "equal |= alert.en == 1;",
-        wrong: "equal |= alert.en == 1;
-                self.armed[i] |= !p;",
+        name: "(0,0) is read as (0,1)",
+        file: "receiver.rs",
+        right: "        if pos == neg {
+            return false;
+        }",
+        wrong: "        let neg = neg || !pos;
+        if pos == neg {
+            return false;
+        }",
     },
     Slip {
         name: "accumulator stays at 65534",
@@ -170,16 +180,21 @@ const RULES: &[Slip] = &[
                 self.intr_state |= bit;",
     },
     Slip {
-        name: "a disabled alert's event does not disarm",
+        name: "a disabled alert's rise is not taken",
         file: "handler.rs",
-        right: "self.armed[i] = false;",
-        wrong: "self.armed[i] = alert.en == 0;",
+        right: "            if self.receivers[i].read(p, n) && alert.en == 1 {",
+        wrong: "            let before = self.receivers[i].place;
+            let risen = self.receivers[i].read(p, n);
+            if risen && alert.en == 0 {
+                self.receivers[i].place = before;
+            }
+            if risen && alert.en == 1 {",
     },
     Slip {
         name: "equal wires of a disabled alert occur",
         file: "handler.rs",
-        right: "equal |= alert.en == 1;",
-        wrong: "equal = true;",
+        right: "equal |= p == n && alert.en == 1;",
+        wrong: "equal |= p == n;",
     },
     Slip {
         name: "samples at N and above count",
@@ -208,8 +223,9 @@ const RULES: &[Slip] = &[
         name: "access after the samples",
         file: "handler.rs",
         right: "let (answer, cleared) = self.access(access);
-        let mut assigned = self.sample(pos, neg);",
-        wrong: "let mut assigned = self.sample(pos, neg);
+        self.ask(&sample.asks);
+        let mut assigned = self.sample(&sample.pos, &sample.neg);",
+        wrong: "let mut assigned = self.sample(&sample.pos, &sample.neg);
         let (answer, cleared) = self.access(access);",
     },
     Slip {

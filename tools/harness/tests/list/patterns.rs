@@ -30,8 +30,8 @@ pub const PATTERNS: &[Slip] = &[
     Slip {
         name: "alert 63's equal wires not seen",
         file: "handler.rs",
-        right: "equal |= alert.en == 1;",
-        wrong: "equal |= alert.en == 1 && i != 63;",
+        right: "equal |= p == n && alert.en == 1;",
+        wrong: "equal |= p == n && alert.en == 1 && i != 63;",
     },
     Slip {
         name: "3 before 4 at CLR only",
@@ -63,13 +63,11 @@ pub const PATTERNS: &[Slip] = &[
     Slip {
         name: "only the first alert's class has its event",
         file: "handler.rs",
-        right: "                    assigned[usize::from(alert.class)] = true;
-                }
+        right: "                assigned[usize::from(alert.class)] = true;
             }
         }",
-        wrong: "                    if assigned == [false; CLASSES] {
-                        assigned[usize::from(alert.class)] = true;
-                    }
+        wrong: "                if assigned == [false; CLASSES] {
+                    assigned[usize::from(alert.class)] = true;
                 }
             }
         }",
@@ -103,10 +101,10 @@ pub const PATTERNS: &[Slip] = &[
         if cleared && self.esc_cnt < length {",
     },
     Slip {
-        name: "equal wires matter only on a re-armed alert",
+        name: "equal wires of one alert hold the others' receivers",
         file: "handler.rs",
-        right: "equal |= alert.en == 1;",
-        wrong: "equal |= alert.en == 1 && self.armed[i];",
+        right: "if self.receivers[i].read(p, n) && alert.en == 1 {",
+        wrong: "if !equal && self.receivers[i].read(p, n) && alert.en == 1 {",
     },
     Slip {
         name: "a local alert occurs only while its cause is 0",
@@ -119,10 +117,8 @@ pub const PATTERNS: &[Slip] = &[
     Slip {
         name: "a locked alert has no event",
         file: "handler.rs",
-        right: "if alert.en == 1 {
-                    alert.cause = 1;",
-        wrong: "if alert.en == 1 && alert.regwen == 1 {
-                    alert.cause = 1;",
+        right: "if self.receivers[i].read(p, n) && alert.en == 1 {",
+        wrong: "if self.receivers[i].read(p, n) && alert.en == 1 && alert.regwen == 1 {",
     },
     Slip {
         name: "no start while CLR_REGWEN is 0",
@@ -147,11 +143,13 @@ pub const PATTERNS: &[Slip] = &[
                 if cleared && self.enabled() {",
     },
     Slip {
-        name: "clearing a CAUSE re-arms",
+        name: "clearing a CAUSE ends the handshake",
         file: "access.rs",
         right: "            Register::Alert(field, i) => write_source(&mut self.alerts[i], field, value),",
         wrong: "            Register::Alert(field, i) => {
-                self.armed[i] |= field == SourceField::Cause && value == 1;
+                if field == SourceField::Cause && value == 1 {
+                    self.receivers[i].place = crate::receiver::Place::Ready;
+                }
                 write_source(&mut self.alerts[i], field, value)
             }",
     },

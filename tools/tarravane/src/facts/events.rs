@@ -1,13 +1,7 @@
-//! Events of alerts, and local alerts that occur.
+//! Events of alerts, answers to pings and local alerts that occur: the library's own account of what the tick heard.
 use super::tick::Tick;
-use super::wires;
 use crate::alert_bits::{self, AlertBits};
-use handler::{Handler, Refusal};
-use std::array::from_fn;
-
-/// Local alert 2, alert integrity, and local alert 5, shadow update error: no other can occur.
-const INTEGRITY: usize = 2;
-const SHADOW_UPDATE: usize = 5;
+use handler::{Handler, LOCALS};
 
 /// Where an event of a class comes from.
 #[derive(Clone, Copy, Debug, PartialEq, Eq)]
@@ -20,13 +14,9 @@ pub fn is_enabled(h: &Handler, alert: usize) -> bool {
     h.alerts.en[alert] == 1
 }
 
-/// The bits of the alerts that have an event, enabled or not: those that the tick disarmed.
+/// The bits of the alerts that have an event, enabled or not.
 pub fn bits(t: &Tick) -> AlertBits {
-    let (before, after) = (
-        t.before.links.receivers.armed,
-        t.after.links.receivers.armed,
-    );
-    from_fn(|word| before[word] & !after[word])
+    t.heard.events
 }
 
 /// The alerts that have an event, enabled or not.
@@ -34,19 +24,15 @@ pub fn alerts(t: &Tick) -> impl Iterator<Item = usize> {
     alert_bits::alerts(bits(t))
 }
 
-/// Does an enabled alert have equal wires?
-fn fails(t: &Tick) -> bool {
-    alert_bits::alerts(wires::broken(t)).any(|i| is_enabled(&t.after, i))
+/// The bits of the alerts whose open ping is answered, by a rise that is no event.
+pub fn answers(t: &Tick) -> AlertBits {
+    t.heard.answers
 }
 
-/// The local alerts that occur: by equal wires, and by a write that differs from its stage.
-pub fn locals(t: &Tick) -> impl Iterator<Item = usize> + '_ {
-    let differs = t.word.refusal() == Some(Refusal::DIFFERS);
-    let raised = [(INTEGRITY, fails(t)), (SHADOW_UPDATE, differs)];
-    let occurs = raised.into_iter().filter(|(_, raised)| *raised);
-    occurs
-        .map(|(j, _)| j)
-        .filter(|&j| t.after.locals.en[j] == 1)
+/// The local alerts that occur.
+pub fn locals(t: &Tick) -> impl Iterator<Item = usize> {
+    let occurs = t.heard.locals;
+    (0..LOCALS).filter(move |j| occurs >> j & 1 == 1)
 }
 
 /// The events that are assigned to class k: of enabled alerts, then of local alerts. EN and CLASS are those after the access,

@@ -1,16 +1,19 @@
 //! The facts of many ticks of both editions, against what the library's counts, states and words say.
 use super::clears::{clear, Clear};
-use super::events::{of_class, Source};
+use super::events::{answers, bits, of_class, Source};
 use super::lines::drives;
 use super::locks::locked;
+use super::played::asked;
+use super::receivers::{acknowledged, at, ping_levels, pinged};
 use super::stages::{change, open, staged, Change};
 use super::starts::{start, IDLE, TIMEOUT};
 use super::tick::Tick;
-use super::ticks::Ticks;
-use crate::alert_bits::put;
+use super::ticks::{called, Ticks};
+use super::wires::raised;
+use crate::alert_bits::{alerts, below, count, is_set, put};
 use crate::trace::record::written;
 use handler::registers::{Field, Register, Setting, INTR_STATE};
-use handler::{Access, Edition, Handler, Input, Refusal, Sample, Wires, CLASSES};
+use handler::{Access, Edition, Handler, Input, Place, Refusal, Sample, Wires, CLASSES, WORDS};
 use harness::configure::configure;
 use harness::rng::Rng;
 
@@ -102,19 +105,108 @@ fn inputs(rng: &mut Rng, edition: Edition) -> Vec<Input> {
 /// The ticks of a handler.
 const TICKS: usize = 600;
 
+/// A new handler, of which some pings may have been asked for.
+fn handler(rng: &mut Rng, edition: Edition) -> Handler {
+    let new = Handler::new(edition.alerts()).0;
+    let pinged = used(edition).into_iter().filter(|_| rng.once_in(3));
+    asked(new, &pinged.collect::<Vec<_>>())
+}
+
+/// Records, of which a few are malformed.
+fn records(rng: &mut Rng, edition: Edition) -> Vec<u8> {
+    let inputs = inputs(rng, edition);
+    let mut bytes = written(edition, &inputs).expect("records");
+    for record in bytes.chunks_mut(edition.bytes()) {
+        // The last of the zero bits.
+        record[3] |= u8::from(rng.once_in(30));
+    }
+    bytes
+}
+
 /// The ticks of fresh handlers of an edition, shown to a check.
 fn each_of(edition: Edition, check: &mut dyn FnMut(&Tick)) {
     let mut rng = Rng::new(1);
     for _ in 0..200 {
-        let inputs = inputs(&mut rng, edition);
-        let bytes = written(edition, &inputs).expect("records");
+        let bytes = records(&mut rng, edition);
         let mut from = &bytes[..];
-        let handler = Handler::new(edition.alerts()).0;
+        let handler = handler(&mut rng, edition);
         let mut ticks = Ticks::new(&mut from, "t", edition, handler);
         while let Some(tick) = ticks.take().expect("a tick") {
             check(&tick);
         }
         assert_eq!((ticks.number(), ticks.cut()), (TICKS as u64, None));
+    }
+}
+
+/// The account is of the very tick that the record runs: by call it has the same answer, state and pairs.
+#[test]
+fn what_is_heard_is_of_the_same_tick() {
+    for edition in Edition::ALL {
+        let (mut malformed, mut acknowledges, mut pings) = (0, 0, 0);
+        each_of(edition, &mut |t| {
+            let access = called(edition, t.input.access, t.word);
+            let given = t.before.tick(access, t.input.sample);
+            assert_eq!((given.answer, given.handler), (t.heard.answer, t.after));
+            let answer = t.word.refusal().map_or(Ok(t.word.value()), Err);
+            assert_eq!(given.answer.value(), answer, "tick {}", t.number);
+            let pairs = |pos: [u64; WORDS]| Wires {
+                pos,
+                neg: pos.map(|word| !word),
+            };
+            assert_eq!(given.output.acknowledge, pairs(acknowledged(t)));
+            assert_eq!(given.output.ping, pairs(ping_levels(t)));
+            malformed += u64::from(t.is_malformed());
+            acknowledges += count(acknowledged(t));
+            pings += count(ping_levels(t));
+        });
+        assert!(malformed > 1000 && acknowledges > 1000 && pings > 1000);
+    }
+}
+
+/// A ready receiver takes a rise: as the answer to an open ping, else as an event.
+#[test]
+fn a_rise_that_is_taken_is_an_event_or_an_answer() {
+    for edition in Edition::ALL {
+        let (mut events, mut answered, mut waiting) = (0, 0, 0);
+        each_of(edition, &mut |t| {
+            let (ready, raised, pinged) = (at(t, Place::Ready), raised(t), pinged(t));
+            for word in 0..WORDS {
+                let taken = ready[word] & raised[word];
+                assert_eq!(bits(t)[word], taken & !pinged[word], "tick {}", t.number);
+                assert_eq!(answers(t)[word], taken & pinged[word], "tick {}", t.number);
+                waiting += (raised[word] & !ready[word]).count_ones();
+            }
+            events += count(bits(t));
+            answered += count(answers(t));
+        });
+        assert!(
+            events > 1000 && answered > 100 && waiting > 1000,
+            "{answered}"
+        );
+    }
+}
+
+/// Each alert below N stands at one place, the one that the state has for it.
+#[test]
+fn a_receiver_stands_at_one_place() {
+    for edition in Edition::ALL {
+        let mut seen = [0; 4];
+        each_of(edition, &mut |t| {
+            let places = [
+                Place::Ready,
+                Place::Acknowledged,
+                Place::FirstPause,
+                Place::SecondPause,
+            ];
+            for i in alerts(below(t.after.n)) {
+                for (place, seen) in places.into_iter().zip(&mut seen) {
+                    let stands = t.before.links.receivers.place(i) == place;
+                    assert_eq!(is_set(&at(t, place), i), stands);
+                    *seen += u64::from(stands);
+                }
+            }
+        });
+        assert!(seen.iter().all(|number| *number > 1000), "{seen:?}");
     }
 }
 

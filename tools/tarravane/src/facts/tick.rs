@@ -1,6 +1,9 @@
 //! One tick.
 use handler::registers::Register;
-use handler::{Access, Edition, Handler, Input, Refusal, Sample, Word};
+use handler::{Access, Edition, Handler, Heard, Input, Refusal, Sample, Word};
+
+/// The refusal of a malformed record.
+pub const MALFORMED: Refusal = Refusal(5);
 
 pub struct Tick {
     /// The first record is tick 1.
@@ -11,6 +14,8 @@ pub struct Tick {
     pub input: Input,
     pub before: Handler,
     pub after: Handler,
+    /// What the tick hears, as the library says.
+    pub heard: Heard,
     /// The word of the tick before; 0 before the first.
     pub last: Word,
     pub word: Word,
@@ -29,6 +34,7 @@ impl Tick {
             },
             before: new,
             after: new,
+            heard: new.hear(Access::Nothing, Sample::AT_REST),
             last: Word::default(),
             word: Word::default(),
         }
@@ -45,6 +51,6 @@ impl Tick {
     }
 
     pub fn is_malformed(&self) -> bool {
-        self.word.refusal() == Some(Refusal(5))
+        self.word.refusal() == Some(MALFORMED)
     }
 }

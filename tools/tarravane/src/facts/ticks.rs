@@ -1,9 +1,9 @@
 //! The ticks of a trace, one after another, so that memory stays bounded. The library runs each.
-use super::tick::Tick;
+use super::tick::{Tick, MALFORMED};
 use crate::progress::Progress;
 use crate::source::filled;
 use crate::trace::{cut, record};
-use handler::{Edition, Handler, Word};
+use handler::{Access, Edition, Handler, Heard, Input, Word};
 use std::io::Read;
 
 pub struct Ticks<'a, R> {
@@ -14,6 +14,25 @@ pub struct Ticks<'a, R> {
     word: Word,
     number: u64,
     left: usize,
+}
+
+/// A number that names no register in a tick by call, which has the newest numbers.
+const NAMELESS: u16 = 3;
+
+/// The access of a record as a tick by call has it.
+pub(super) fn called(edition: Edition, access: Access, word: Word) -> Access {
+    let number = |number| edition.registers().carry(number).unwrap_or(NAMELESS);
+    match access {
+        _ if word.refusal() == Some(MALFORMED) => Access::Malformed,
+        Access::Read(register) => Access::Read(number(register)),
+        Access::Write(register, value) => Access::Write(number(register), value),
+        other => other,
+    }
+}
+
+/// What the tick of a record hears: the library is asked for the same tick by call.
+fn heard(before: Handler, edition: Edition, input: &Input, word: Word) -> Heard {
+    before.hear(called(edition, input.access, word), input.sample)
 }
 
 impl<'a, R: Read> Ticks<'a, R> {
@@ -58,10 +77,12 @@ impl<'a, R: Read> Ticks<'a, R> {
         }
         self.number += 1;
         (self.handler, self.word) = (after, words[0]);
+        let input = record::input(edition, &record);
         Ok(Some(Tick {
             number: self.number,
             edition,
-            input: record::input(edition, &record),
+            heard: heard(before, edition, &input, words[0]),
+            input,
             record,
             before,
             after,

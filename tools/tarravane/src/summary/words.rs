@@ -12,7 +12,7 @@ pub fn count(number: u64, thing: &str) -> String {
 }
 
 /// Rising numbers, three neighbours or more as a range: `0,1,4-9`.
-fn ranges(numbers: &[usize]) -> String {
+pub fn ranges(numbers: &[usize]) -> String {
     let runs = parts(numbers, |a, b| a + 1 == *b);
     let words = runs.iter().map(|run| match **run {
         [first, _, .., last] if run.len() > 2 => format!("{first}-{last}"),

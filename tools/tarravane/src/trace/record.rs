@@ -71,7 +71,7 @@ pub fn written(edition: Edition, inputs: &[Input]) -> Result<Vec<u8>, Refusal> {
 #[cfg(test)]
 mod tests {
     use super::*;
-    use handler::{Handler, Word};
+    use handler::{Handler, Place, Word};
     use harness::rng::Rng;
 
     /// An input that a record of the edition holds; places without a wire are at rest.
@@ -138,8 +138,9 @@ mod tests {
                 for alert in [0, last] {
                     let at = |words: [u64; WORDS]| words[alert / 64] >> (63 - alert % 64) & 1;
                     let Wires { pos, neg } = one.sample.alerts;
-                    let event = (at(pos), at(neg)) == (1, 0);
-                    assert_eq!(at(after.links.receivers.armed) == 0, event);
+                    let taken = (at(pos), at(neg)) == (1, 0);
+                    let place = after.links.receivers.place(alert);
+                    assert_eq!(place == Place::Acknowledged, taken);
                 }
             }
         }

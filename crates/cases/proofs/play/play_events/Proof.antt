@@ -14,11 +14,11 @@ abbrev μ-loop : tie.MeasureT-loop
 loop-holds : tie.Need-loop-holds Inv-loop μ-loop
 loop-holds c = search needs
 
+pause-requires : tie.Need-pause-requires Inv-loop μ-loop
+pause-requires c κs = search needs
+
 play-requires : tie.Need-play-requires Inv-loop μ-loop
 play-requires c κs = search needs
-
-play-requires-2 : tie.Need-play-requires-2 Inv-loop μ-loop
-play-requires-2 c κs = search needs
 
 add-counter : tie.Need-add-counter Inv-loop μ-loop
 add-counter c = search needs
@@ -39,8 +39,8 @@ play-events-spec =
     Inv-loop
     μ-loop
     loop-holds
+    pause-requires
     play-requires
-    play-requires-2
     add-counter
     loop-less
     loop-again

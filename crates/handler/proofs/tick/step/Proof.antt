@@ -20,20 +20,24 @@ interrupts-after-requires c κs = search needs
 classes-after-requires : tie.Need-classes-after-requires
 classes-after-requires c κs = search needs
 
-output-requires : tie.Need-output-requires
-output-requires c κs = search needs
+interrupts-on-requires : tie.Need-interrupts-on-requires
+interrupts-on-requires c κs = search needs
+
+lines-on-requires : tie.Need-lines-on-requires
+lines-on-requires c κs = search needs
 
 returns : tie.Need-returns
 returns c =
-    let o = c .before in
-    let s = o .before .before .before .before .before in
-    tick-by _ _ _ _ _ _ _ _
+    let l = c .before .before .before in
+    let s = l .before .before .before .before in
+    tick-by _ _ _ _ _ _ _ _ _
     (s .before .before .before .before .access .ensures)
     (s .before .hear .ensures)
     (s .sample .ensures)
-    (o .before .before .interrupts-after .ensures)
-    (o .before .classes-after .ensures)
-    (o .output .ensures)
+    (l .before .interrupts-after .ensures)
+    (l .classes-after .ensures)
+    (c .before .interrupts-on .ensures)
+    (c .lines-on .ensures)
 
 pub step-spec : {M : Type 1} → statement M
 step-spec =
@@ -44,5 +48,6 @@ step-spec =
     sample-requires
     interrupts-after-requires
     classes-after-requires
-    output-requires
+    interrupts-on-requires
+    lines-on-requires
     returns)

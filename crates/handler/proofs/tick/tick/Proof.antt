@@ -2,6 +2,7 @@
 -- Assumes nothing.
 use mathlib.Core.Path.{sym, _∙_}
 use Rattle.laws.proofs.Valid.ValidLaws.{facts}
+use Rattle.rules.specs.Tick.{acknowledgePairs, pingPairs}
 use Rattle.handler.proofs.Answers.{answered-good, answered-bad}
 use borrow.Author.Needs.{needs}
 use Rattle.handler.proofs.tick.tick.Statement.{statement}
@@ -13,21 +14,51 @@ is-valid-requires c κs = search needs
 step-requires : tie.Need-step-requires
 step-requires c κs = facts _ (sym (c .before .is-valid .ensures) ∙ c .if1 .taken) .n
 
+acknowledge-pairs-requires : tie.Need-acknowledge-pairs-requires
+acknowledge-pairs-requires c κs = search needs
+
+ping-pairs-requires : tie.Need-ping-pairs-requires
+ping-pairs-requires c κs = search needs
+
 signed-requires : tie.Need-signed-requires
 signed-requires c κs = search needs
+
+cast-t13 : tie.Need-cast-t13
+cast-t13 c = search needs
+
+cast-t14 : tie.Need-cast-t14
+cast-t14 c = search needs
 
 signed-requires-2 : tie.Need-signed-requires-2
 signed-requires-2 c κs = search needs
 
+no-output-requires : tie.Need-no-output-requires
+no-output-requires c κs = search needs
+
 returns : tie.Need-returns
+unfolding acknowledgePairs pingPairs
 returns c =
-    let v = c .before .before .before .before in
-    answered-good _ _ _ _ (sym (v .before .is-valid .ensures) ∙ v .if1 .taken) (c .before .before .before .step .ensures) (c .signed .ensures)
+    let p = c .before .before .before in
+    let s = p .before .before .before .before .before in
+    answered-good _ _ _ _ _ _ (sym (s .before .before .is-valid .ensures) ∙ s .before .if1 .taken) (s .step .ensures) (p .before .acknowledge-pairs .ensures)
+    (p .ping-pairs .ensures) (c .before .before .signed .ensures)
 
 returns-2 : tie.Need-returns-2
-returns-2 c = answered-bad _ _ _ (sym (c .before .before .is-valid .ensures) ∙ c .before .if1 .left) (c .signed2 .ensures)
+returns-2 c =
+    answered-bad _ _ _ _ (sym (c .before .before .before .is-valid .ensures) ∙ c .before .before .if1 .left) (c .before .signed2 .ensures) (c .no-output .ensures)
 
 pub tick-spec : {M : Type 1} → statement M
 tick-spec =
     tie.close
-    (tie.spec is-valid-requires step-requires signed-requires signed-requires-2 returns returns-2)
+    (tie.spec
+    is-valid-requires
+    step-requires
+    acknowledge-pairs-requires
+    ping-pairs-requires
+    signed-requires
+    cast-t13
+    cast-t14
+    signed-requires-2
+    no-output-requires
+    returns
+    returns-2)

@@ -16,8 +16,8 @@ raise-requires c κs = search needs
 
 returns : tie.Need-returns
 returns c =
-    let r = c .before .before .before .before .before .before .before .before in
-    let s = r .before .before .before .before in
+    let r = c .before .before .before .before .before .before .before .before .before in
+    let s = r .before .before in
     heard-by (s .args .g) (s .args .s) (s .args .fx) _ _ _ (s .pre) (r .receive-all .ensures) (c .before .any-broken .ensures) (c .raise .ensures)
 
 pub hear-spec : {M : Type 1} → statement M

@@ -17,7 +17,7 @@ none-set-requires-2 c κs = search needs
 returns : tie.Need-returns
 returns c =
     let r = c .before .before .before .before .before in
-    let a = r .before .before .before .before .args in
+    let a = r .before .before .args in
     linked-by (a .n) (a .links) (a .s) _ _ _ (r .receive-all .ensures) (c .before .none-set .ensures) (c .none-set2 .ensures)
 
 pub links-after-spec : {M : Type 1} → statement M

@@ -1,5 +1,7 @@
 -- `new::reset` meets its contract.
 -- Assumes nothing.
+use Rattle.bits.specs.Bits.{wordOf}
+use Rattle.bits.specs.Index.{eachFrom}
 use Rattle.rules.specs.State.{newHandler}
 use borrow.Author.Needs.{needs}
 use Rattle.state.proofs.new.reset.Statement.{statement}
@@ -12,7 +14,7 @@ none-requires : tie.Need-none-requires
 none-requires c κs = search needs
 
 returns : tie.Need-returns
-unfolding newHandler
+unfolding newHandler eachFrom wordOf
 returns c = rw (c .before .reset-class .ensures, c .none .ensures)
 
 pub reset-spec : {M : Type 1} → statement M

@@ -14,13 +14,13 @@ pub const FILE: &str = "tools/harness/golden.txt";
 
 /// The first line of the file.
 const TITLE: &str =
-    "# kind, seed, checksum of the trace, checksum of the words: harness golden REPLAY --write";
+    "# bytes of a record, kind, seed, checksum of the trace, checksum of the words: harness golden REPLAY --write";
 
 /// Prints the set as the program gives it.
 pub fn keep(path: &str) -> Result<bool, Trouble> {
     let mut lines = vec![TITLE.to_string()];
     for case in cases() {
-        let golden = Golden::of(&program(path), case.kind, case.seed);
+        let golden = Golden::of(&program(path), case);
         lines.push(golden.map_err(Trouble::Run)?.0.to_string());
     }
     let mut out = io::stdout();
@@ -41,7 +41,8 @@ pub fn hold(path: &str, file: &str) -> Result<bool, Trouble> {
     let found = compare(&program(path), &traces, &mut kept).map_err(Trouble::Run)?;
     let command = |other: &Other| {
         let (kind, seed) = (other.kept.kind.name(), other.kept.seed);
-        format!("repeat {} {kind} {seed}", program(path).display())
+        let (path, bytes) = (program(path), other.kept.edition.bytes());
+        format!("repeat {} {kind} {seed} --edition {bytes}", path.display())
     };
     tell(begin, &kept, found, command)
 }

@@ -9,7 +9,7 @@ const USAGE: &str = "usage:
   harness fuzz REPLAY SECONDS [--seed S]         fresh seeds until the time is over
   harness repeat REPLAY KIND SEED [--records R]  one trace, or its first R records
   harness trace KIND SEED [--records R]          the bytes of a trace
-  harness golden REPLAY [FILE]                   old traces against the words that FILE keeps,
+  harness golden REPLAY [FILE]                   kept traces against the words that FILE keeps,
                                                  else those in tools/harness/golden.txt
   harness golden REPLAY --write                  such a file of what REPLAY gives
   harness states [--states N] [--seed S]         damaged states through the proved library

@@ -1,9 +1,10 @@
 //! What a picture shows of the alerts in one tick, or in several that are folded.
-use crate::alert_bits::{self, put, AlertBits};
+use crate::alert_bits::{self, is_set, put, AlertBits};
 use crate::facts::events::{self, is_enabled};
+use crate::facts::receivers::{at, ping_levels, BUSY};
 use crate::facts::tick::Tick;
 use crate::facts::wires;
-use handler::{LOCALS, WORDS};
+use handler::{Place, LOCALS, WORDS};
 use std::array::from_fn;
 
 /// The alerts for which something holds: in some of the ticks, and in all of them.
@@ -35,6 +36,10 @@ pub struct Alerts {
     pub raised: Over,
     /// With equal wires.
     pub broken: Over,
+    /// Whose receiver stands at each place but ready, in the order of the handshake.
+    busy: [Over; BUSY.len()],
+    /// Whose ping pair is (1,0).
+    pub pings: Over,
     /// With an event while enabled, and while disabled.
     pub events: AlertBits,
     pub disabled: AlertBits,
@@ -60,6 +65,8 @@ impl Alerts {
         Alerts {
             raised: Over::new(wires::raised(t)),
             broken: Over::new(wires::broken(t)),
+            busy: BUSY.map(|place| Over::new(at(t, place))),
+            pings: Over::new(ping_levels(t)),
             events: enabled,
             disabled,
             locals,
@@ -72,6 +79,8 @@ impl Alerts {
         Alerts {
             raised: self.raised.joined(&next.raised),
             broken: self.broken.joined(&next.broken),
+            busy: from_fn(|at| self.busy[at].joined(&next.busy[at])),
+            pings: self.pings.joined(&next.pings),
             events: or(&self.events, &next.events),
             disabled: or(&self.disabled, &next.disabled),
             locals: from_fn(|j| self.locals[j] || next.locals[j]),
@@ -79,15 +88,33 @@ impl Alerts {
         }
     }
 
-    /// The alerts that rose or broke.
+    /// The alerts that rose or broke, or whose receiver is not at rest.
     pub fn moved(&self) -> AlertBits {
-        let all = [
-            &self.raised.some,
-            &self.broken.some,
-            &self.events,
-            &self.disabled,
-        ];
-        from_fn(|word| all.iter().fold(0, |or, bits| or | bits[word]))
+        let [ack, first, second] = &self.busy;
+        let over = [&self.raised, &self.broken, ack, first, second, &self.pings];
+        let some = over.map(|over| &over.some).into_iter();
+        let all = some.chain([&self.events, &self.disabled]);
+        from_fn(|word| all.clone().fold(0, |or, bits| or | bits[word]))
+    }
+
+    /// Is a receiver other than ready?
+    pub fn are_busy(&self) -> bool {
+        self.busy.iter().any(|over| over.some != [0; WORDS])
+    }
+
+    /// Where the receiver of an alert stands; nothing where it moved.
+    pub fn place(&self, i: usize) -> Option<Place> {
+        let mut stands = BUSY.into_iter().zip(&self.busy);
+        match stands.find(|(_, over)| is_set(&over.some, i)) {
+            Some((place, over)) => is_set(&over.all, i).then_some(place),
+            None => Some(Place::Ready),
+        }
+    }
+
+    /// Does a receiver come to a place other than ready, from the tick before on?
+    pub fn go_on(&self, before: &Alerts) -> bool {
+        let mut both = self.busy.iter().zip(&before.busy);
+        both.any(|(now, last)| (0..WORDS).any(|word| now.some[word] & !last.some[word] != 0))
     }
 
     /// Are the wires the same as in the tick before?

@@ -29,7 +29,7 @@ impl Cell {
         Cell {
             first: t.number,
             last: t.number,
-            weight: weight(t, !alerts.same_wires(before)),
+            weight: weight(t, !alerts.same_wires(before), alerts.go_on(before)),
             states: from_fn(|k| Held::new(t.after.classes[k].state)),
             interrupts: from_fn(|k| Held::new(t.word.interrupt(k))),
             lines: from_fn(|e| Held::new(t.word.line(e))),
@@ -44,6 +44,11 @@ impl Cell {
 
     pub fn ticks(&self) -> u64 {
         self.last - self.first + 1
+    }
+
+    /// Is a receiver other than ready?
+    pub fn has_handshake(&self) -> bool {
+        self.alerts.are_busy()
     }
 
     /// The units of width that it takes.

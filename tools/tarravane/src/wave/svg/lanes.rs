@@ -3,6 +3,7 @@ mod accesses;
 mod alerts;
 mod classes;
 mod outputs;
+mod receivers;
 mod spans;
 
 use super::axis::Axis;

@@ -50,6 +50,16 @@ const SIGNS: [Sign; 11] = [
     }),
 ];
 
+/// Of the handshake, where there is one.
+const HANDSHAKE: [Sign; 2] = [
+    ("acknowledged", |page, x, y| {
+        marks::strip(page, "ack", x, y + 3.0, SIGN)
+    }),
+    ("pause, in which a rise waits", |page, x, y| {
+        marks::strip(page, "pause", x, y + 3.0, SIGN)
+    }),
+];
+
 /// Draws a sign right of the last one, or where there is no room on the next line; gives where it ends.
 fn entry(page: &mut Page, x: f64, words: &str, sign: impl Fn(&mut Page, f64, f64)) -> f64 {
     let width = SIGN + 4.0 + text_width(words, SMALL) + 8.0;
@@ -63,7 +73,8 @@ fn entry(page: &mut Page, x: f64, words: &str, sign: impl Fn(&mut Page, f64, f64
     x + width
 }
 
-pub fn draw(page: &mut Page) {
+/// `handshake`: is one shown?
+pub fn draw(page: &mut Page, handshake: bool) {
     page.y += 10.0;
     let mut x = MARGIN;
     for state in STATES {
@@ -71,7 +82,8 @@ pub fn draw(page: &mut Page) {
             page.rect(style::state(state), x, y, SIGN, 9.0);
         });
     }
-    for (words, sign) in SIGNS {
+    let shaken = HANDSHAKE.into_iter().filter(|_| handshake);
+    for (words, sign) in SIGNS.into_iter().chain(shaken) {
         x = entry(page, x, words, sign);
     }
     page.y += STEP + 4.0;

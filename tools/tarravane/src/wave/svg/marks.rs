@@ -10,6 +10,11 @@ pub fn event(page: &mut Page, class: &str, x: f64, y: f64) {
     page.path(class, x - 4.5, y + HEIGHT, "l4.5 -9l4.5 9z");
 }
 
+/// `class`: ack, pause or mixed.
+pub fn strip(page: &mut Page, class: &str, x: f64, y: f64, width: f64) {
+    page.rect(class, x, y, width, 2.5);
+}
+
 pub fn access(page: &mut Page, mark: Mark, x: f64, y: f64) {
     match mark {
         Mark::Read => page.path("read", x, y + 5.0, "v5"),

@@ -77,7 +77,7 @@ pub fn draw(drawn: &Drawn) -> String {
         let axis = Axis::new(&drawn.cells);
         axis.draw(&mut page);
         lanes::draw(&mut page, &axis, drawn.cut.is_some());
-        legend::draw(&mut page);
+        legend::draw(&mut page, drawn.cells.iter().any(Cell::has_handshake));
     }
     foot(&mut page, &drawn.made);
     page.finished(&format!("{}: {}", drawn.name, drawn.told.join("; ")))

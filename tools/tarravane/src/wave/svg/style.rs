@@ -37,6 +37,8 @@ rect.s0,rect.s1,rect.s3,rect.s4,rect.s5,rect.s6,rect.s7,.mixed{stroke:#555;strok
 .high{fill:#0072B2}
 .raised{fill:#E69F00}
 .broken{fill:url(#broken);stroke:#D55E00;stroke-width:.8}
+.ack{fill:#0072B2}
+.pause{fill:#fff;stroke:#0072B2;stroke-width:.8}
 .event{fill:#000}
 .disabled{fill:#fff;stroke:#000;stroke-width:1}
 .read{stroke:#555;stroke-width:1.2}

@@ -3,30 +3,43 @@ use super::alerts::Alerts;
 use super::cell::Cell;
 use super::held::Held;
 use super::weight::Weight;
-use crate::facts::{tick::Tick, ticks::Ticks};
-use crate::text::line::{self, Line};
-use crate::trace::record::written;
-use handler::{Edition, Handler};
+use super::{drawn, picture, Opened};
+use crate::facts::played::{asked, played, records};
+use crate::facts::tick::Tick;
+use crate::output::Failure;
+use crate::range::Range;
+use crate::trace::Start;
+use handler::{Edition, Handler, Place};
 
 /// The cells of a text's ticks, without `alerts`.
 fn cells(text: &str) -> Vec<Cell> {
-    let edition = Edition::NEWEST;
-    let records = text.lines().map(|text| match line::parse(edition, text) {
-        Ok(Line::Tick(input)) => written(edition, &[input]).expect("a record"),
-        Ok(Line::Raw(record)) => record,
-        other => panic!("{other:?}"),
-    });
-    let bytes = records.collect::<Vec<_>>().concat();
-    let (mut from, new) = (&bytes[..], Handler::new(3).0);
-    let mut last = Alerts::new(&Tick::before_first(edition, new));
-    let mut ticks = Ticks::new(&mut from, "t", edition, new);
-    let mut all = Vec::new();
-    while let Some(tick) = ticks.take().expect("a tick") {
+    let new = Handler::new(3).0;
+    let mut last = Alerts::new(&Tick::before_first(Edition::NEWEST, new));
+    let cell = |tick: Tick| {
         let cell = Cell::new(&tick, &last);
         last = cell.alerts.clone();
-        all.push(cell);
+        cell
+    };
+    played(new, text).into_iter().map(cell).collect()
+}
+
+/// The picture of a text's ticks.
+fn picture_of(handler: Handler, text: &str) -> String {
+    let start = Start {
+        edition: Edition::NEWEST,
+        n: Some(handler.n as u8),
+    };
+    let trace = Opened {
+        name: "t",
+        start,
+        bytes: None,
+    };
+    let drawn = drawn(&trace, handler, &mut &records(text)[..], Range::ALL);
+    match drawn {
+        Ok(drawn) => picture::draw(&drawn),
+        Err(Failure::Source(why)) => panic!("{why}"),
+        Err(Failure::Write(e)) => panic!("{e}"),
     }
-    all
 }
 
 #[test]
@@ -38,7 +51,10 @@ fn what_matters_weighs_more() {
         read ALERT0_EN
         none wires 1=10
         none wires 1=10
+        none wires 1=10
         none wires 2=11
+        none
+        none
         none
         write ALERT0_EN 2
         read CLASSA_CLR
@@ -54,8 +70,8 @@ fn what_matters_weighs_more() {
     );
     use Weight::*;
     let wanted = [
-        Calm, Write, Write, Read, Alert, Calm, Alert, Alert, Change, Change, Change, Write, Turn,
-        Change, Alert, Write, Write, Change, Turn,
+        Calm, Write, Write, Read, Alert, Handshake, Calm, Alert, Alert, Handshake, Calm, Change,
+        Change, Change, Write, Turn, Change, Alert, Write, Write, Change, Turn,
     ];
     let weights: Vec<Weight> = all.iter().map(|cell| cell.weight).collect();
     assert_eq!(weights, wanted);
@@ -91,6 +107,72 @@ fn a_fold_keeps_what_counts() {
         assert_eq!(fold.states[0].value(), Some(0));
     }
     assert_eq!(of(1, 4).alerts.broken.all[0], 1 << 61);
+}
+
+/// A place is steady where it is the same in all ticks of a fold, and nothing hides that it moved.
+#[test]
+fn a_fold_knows_where_receivers_stood() {
+    let all = cells(
+        "none wires 0=10
+        none wires 0=10
+        none wires 0=10
+        none
+        none
+        none
+        none",
+    );
+    let places: Vec<Option<Place>> = all.iter().map(|cell| cell.alerts.place(0)).collect();
+    use Place::*;
+    let wanted = [
+        Ready,
+        Acknowledged,
+        Acknowledged,
+        Acknowledged,
+        FirstPause,
+        SecondPause,
+        Ready,
+    ];
+    assert_eq!(places, wanted.map(Some));
+    let of = |from: usize, to: usize| {
+        let run = all[from..to].iter().cloned();
+        run.reduce(Cell::joined).expect("a cell").alerts.place(0)
+    };
+    assert_eq!(of(1, 4), Some(Acknowledged));
+    for (from, to) in [(0, 2), (3, 5), (4, 6), (5, 7), (0, 7)] {
+        assert_eq!(of(from, to), None, "{from} to {to}");
+    }
+    assert!(all.iter().all(|cell| cell.alerts.place(1) == Some(Ready)));
+}
+
+/// A strip for each receiver that moves, a lane for each ping pair that does; where nothing does, neither, nor a sign for it.
+#[test]
+fn receivers_and_pings_are_drawn_where_they_move() {
+    let new = Handler::new(3).0;
+    let text = "none wires 0=10 1=10
+        none wires 0=10 2=11
+        none
+        none
+        none";
+    let picture = picture_of(asked(new, &[1]), text);
+    for title in [
+        "ALERT0: Acknowledged, ticks 2 to 3",
+        "ALERT0: Pause 1, tick 4",
+        "ALERT0: Pause 2, tick 5",
+        "ALERT1: Acknowledged, tick 2",
+        "ALERT1: Pause 1, tick 3",
+        "ALERT1 ping: on, ticks 1 to 5",
+    ] {
+        assert!(
+            picture.contains(&format!("<title>{title}</title>")),
+            "{title}"
+        );
+    }
+    for missing in ["ALERT0 ping", "ALERT2 ping", "ALERT2: "] {
+        assert!(!picture.contains(missing), "{missing}");
+    }
+    assert!(picture.contains(">acknowledged</text>"));
+    let still = picture_of(new, "none wires 2=11\nnone");
+    assert!(!still.contains(">acknowledged</text>") && !still.contains("class=\"ack\""));
 }
 
 #[test]

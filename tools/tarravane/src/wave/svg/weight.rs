@@ -10,6 +10,8 @@ use handler::{Access, CLASSES};
 pub enum Weight {
     /// No access, no change, steady wires.
     Calm,
+    /// A receiver goes on in its handshake.
+    Handshake,
     Read,
     Write,
     /// Wires that move, an event, a local alert.
@@ -22,8 +24,9 @@ pub enum Weight {
 
 impl Weight {
     /// Those that are folded, the least first.
-    pub const FOLDED: [Weight; 5] = [
+    pub const FOLDED: [Weight; 6] = [
         Weight::Calm,
+        Weight::Handshake,
         Weight::Read,
         Weight::Write,
         Weight::Alert,
@@ -31,8 +34,8 @@ impl Weight {
     ];
 }
 
-/// `moved`: are the wires other ones than in the tick before?
-pub fn weight(t: &Tick, moved: bool) -> Weight {
+/// `moved`: are the wires other ones than in the tick before? `goes_on`: does a receiver go on?
+pub fn weight(t: &Tick, moved: bool, goes_on: bool) -> Weight {
     let asks_clear = (0..CLASSES).any(|k| clear(t, k).is_some());
     let occurs = events::alerts(t).next().is_some() || events::locals(t).next().is_some();
     match t.input.access {
@@ -40,6 +43,7 @@ pub fn weight(t: &Tick, moved: bool) -> Weight {
         _ if changes(t) => Weight::Change,
         _ if moved || occurs => Weight::Alert,
         Access::Write(..) => Weight::Write,
+        Access::Nothing if goes_on => Weight::Handshake,
         Access::Nothing => Weight::Calm,
         _ => Weight::Read,
     }

@@ -1,23 +1,29 @@
-//! The alerts whose pair, event or cause is another one than in the tick before.
+//! The alerts of which something is another one than in the tick before: pair, event, cause, receiver.
 use crate::alert_bits::{self, put, AlertBits};
 use crate::facts::events;
+use crate::facts::receivers::ping_levels;
 use crate::facts::tick::Tick;
-use handler::{Wires, WORDS};
+use handler::{Receivers, Wires, WORDS};
 use std::array::from_fn;
 
-/// What they were in the last tick; before the first one all are at rest.
-pub struct Last {
-    wires: Wires,
-    events: AlertBits,
-}
+/// All that is shown of alerts in a tick but the causes, a bit for each.
+type Shown = [AlertBits; 7];
+
+/// What it was in the last tick; before the first one all are at rest.
+pub struct Last(Shown);
 
 impl Default for Last {
     fn default() -> Last {
-        Last {
-            wires: Wires::REST,
-            events: [0; WORDS],
-        }
+        let (Wires { pos, neg }, none) = (Wires::REST, [0; WORDS]);
+        Last([pos, neg, none, none, none, none, none])
     }
+}
+
+fn shown(t: &Tick) -> Shown {
+    let Wires { pos, neg } = t.input.sample.alerts;
+    let Receivers { pausing, busy, .. } = t.before.links.receivers;
+    let heard = [events::bits(t), events::answers(t)];
+    [pos, neg, heard[0], heard[1], pausing, busy, ping_levels(t)]
 }
 
 /// The alerts whose cause the tick changes.
@@ -34,13 +40,14 @@ fn causes(t: &Tick) -> AlertBits {
 impl Last {
     /// Goes on by a tick, and gives the alerts that changed, below N.
     pub fn go_on(&mut self, t: &Tick) -> AlertBits {
-        let (wires, events) = (t.input.sample.alerts, events::bits(t));
-        let (causes, below) = (causes(t), alert_bits::below(t.after.n));
+        let (shown, causes) = (shown(t), causes(t));
+        let below = alert_bits::below(t.after.n);
         let changed = from_fn(|w| {
-            let pair = wires.pos[w] ^ self.wires.pos[w] | wires.neg[w] ^ self.wires.neg[w];
-            (pair | events[w] ^ self.events[w] | causes[w]) & below[w]
+            let both = shown.iter().zip(&self.0);
+            let moved = both.fold(causes[w], |or, (now, last)| or | now[w] ^ last[w]);
+            moved & below[w]
         });
-        *self = Last { wires, events };
+        self.0 = shown;
         changed
     }
 }

@@ -2,31 +2,43 @@
 use super::alerts::Last;
 use crate::alert_bits::{self, AlertBits};
 use crate::facts::events;
+use crate::facts::receivers::{acknowledged, ping_levels};
 use crate::facts::tick::Tick;
 use handler::LOCALS;
 
 #[derive(Default)]
 pub struct Moved {
     pub alerts: AlertBits,
+    /// Of them those with a handshake, and those that are pinged.
+    pub shaken: AlertBits,
+    pub pinged: AlertBits,
     pub locals: [bool; LOCALS],
     last: Last,
+}
+
+fn join(all: &mut AlertBits, more: AlertBits) {
+    for (all, more) in all.iter_mut().zip(more) {
+        *all |= more;
+    }
 }
 
 impl Moved {
     /// All of a handler of n alerts.
     pub fn all(n: usize) -> Moved {
+        let below = alert_bits::below(n);
         Moved {
-            alerts: alert_bits::below(n),
+            alerts: below,
+            shaken: below,
+            pinged: below,
             locals: [true; LOCALS],
             last: Last::default(),
         }
     }
 
     pub fn add(&mut self, t: &Tick) {
-        let changed = self.last.go_on(t);
-        for (moved, changed) in self.alerts.iter_mut().zip(changed) {
-            *moved |= changed;
-        }
+        join(&mut self.alerts, self.last.go_on(t));
+        join(&mut self.shaken, acknowledged(t));
+        join(&mut self.pinged, ping_levels(t));
         // A local alert's cause is set where it occurs.
         events::locals(t).for_each(|j| self.locals[j] = true);
     }

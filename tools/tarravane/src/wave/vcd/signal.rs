@@ -3,6 +3,7 @@ use super::moved::Moved;
 use super::value::{Kind, Value};
 use crate::alert_bits::{self, is_set};
 use crate::facts::clears::{clear, Clear};
+use crate::facts::receivers::{acknowledged, ping_levels};
 use crate::facts::tick::Tick;
 use crate::facts::{answer, events};
 use crate::names;
@@ -15,6 +16,13 @@ pub enum Signal {
     Pair(usize),
     Event(usize),
     Cause(usize),
+    /// Where the receiver stands as the tick begins.
+    Stands(usize),
+    /// The acknowledge pair at (1,0).
+    Acknowledge(usize),
+    /// The ping pair at (1,0).
+    Ping(usize),
+    PingAnswer(usize),
     LocalEvent(usize),
     LocalCause(usize),
     State(usize),
@@ -40,8 +48,20 @@ pub struct Scope {
     pub signals: Vec<Signal>,
 }
 
+/// Of the handshake and of pings only where there are any.
+fn alert(moved: &Moved, i: usize) -> Vec<Signal> {
+    let mut all = vec![Pair(i), Event(i), Cause(i)];
+    if is_set(&moved.shaken, i) {
+        all.extend([Stands(i), Acknowledge(i)]);
+    }
+    if is_set(&moved.pinged, i) {
+        all.extend([Ping(i), PingAnswer(i)]);
+    }
+    all
+}
+
 fn alerts(moved: &Moved) -> Vec<Signal> {
-    let alerts = alert_bits::alerts(moved.alerts).flat_map(|i| [Pair(i), Event(i), Cause(i)]);
+    let alerts = alert_bits::alerts(moved.alerts).flat_map(|i| alert(moved, i));
     let locals = (0..LOCALS).filter(|&j| moved.locals[j]);
     let locals = locals.flat_map(|j| [LocalEvent(j), LocalCause(j)]);
     alerts.chain(locals).collect()
@@ -114,6 +134,10 @@ impl Signal {
             Pair(i) => format!("ALERT{i}_PAIR"),
             Event(i) => format!("ALERT{i}_EVENT"),
             Cause(i) => Register::Alert(Field::Cause, i).to_string(),
+            Stands(i) => format!("ALERT{i}_PLACE"),
+            Acknowledge(i) => format!("ALERT{i}_ACK"),
+            Ping(i) => format!("ALERT{i}_PING"),
+            PingAnswer(i) => format!("ALERT{i}_ANSWER"),
             LocalEvent(j) => format!("LOC_ALERT{j}_EVENT"),
             LocalCause(j) => Register::Local(Field::Cause, j).to_string(),
             State(k) => class(k, Setting::State),
@@ -134,7 +158,7 @@ impl Signal {
         match self {
             Pair(_) => Kind::Pair,
             State(_) | EscCnt(_) | AccumCnt(_) => Kind::Number,
-            StateName(_) | AccessKind | Accessed | Written | Answer => Kind::Text,
+            StateName(_) | Stands(_) | AccessKind | Accessed | Written | Answer => Kind::Text,
             _ => Kind::Bit,
         }
     }
@@ -143,17 +167,22 @@ impl Signal {
     pub fn alert(self) -> Option<usize> {
         match self {
             Pair(i) | Event(i) | Cause(i) => Some(i),
+            Stands(i) | Acknowledge(i) | Ping(i) | PingAnswer(i) => Some(i),
             _ => None,
         }
     }
 
-    /// Its value in a tick: access and wires of the tick, states and outputs after it.
+    /// Its value in a tick: access and wires of the tick, where receivers stood as it began, states and outputs after it.
     pub fn value(self, t: &Tick) -> Value {
         let classes = &t.after.classes;
         match self {
             Pair(i) => Value::Number(pair(t, i)),
             Event(i) => Value::Bit(is_set(&events::bits(t), i)),
             Cause(i) => Value::Bit(t.after.alerts.cause[i] == 1),
+            Stands(i) => Value::text(names::place(t.before.links.receivers.place(i))),
+            Acknowledge(i) => Value::Bit(is_set(&acknowledged(t), i)),
+            Ping(i) => Value::Bit(is_set(&ping_levels(t), i)),
+            PingAnswer(i) => Value::Bit(is_set(&events::answers(t), i)),
             LocalEvent(j) => Value::Bit(events::locals(t).any(|other| other == j)),
             LocalCause(j) => Value::Bit(t.after.locals.cause[j] == 1),
             State(k) => Value::Number(classes[k].state.into()),

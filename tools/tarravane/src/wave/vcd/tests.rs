@@ -1,6 +1,7 @@
 //! A trace that is not the same the second time.
 use super::again::Again;
 use super::{Opened, Played};
+use crate::facts::played::{asked, records};
 use crate::output::Failure;
 use crate::trace::Start;
 use handler::{Edition, Handler};
@@ -39,6 +40,46 @@ fn fewer_ticks_are_told() {
     assert_eq!(dump(&bytes.repeat(2)), Ok(None));
     let changed = Err("t was changed while it was read".to_string());
     assert_eq!(dump(&bytes[1..]), changed);
+}
+
+/// The signals that the dump of a text's ticks declares for alerts.
+fn alert_signals(handler: Handler, text: &str) -> Vec<String> {
+    let start = Start {
+        edition: Edition::NEWEST,
+        n: Some(handler.n as u8),
+    };
+    let trace = &Opened {
+        name: "t",
+        start,
+        bytes: None,
+    };
+    let (played, bytes) = (Played { trace, handler }, records(text));
+    let looked = played.look(&mut &bytes[..]).map_err(why).expect("ticks");
+    let mut out = Vec::new();
+    let dump = played.dump(&mut &bytes[..], Some(&looked), &mut out);
+    dump.map_err(why).expect("a dump");
+    let text = String::from_utf8(out).expect("text");
+    let names = text
+        .split_whitespace()
+        .filter(|word| word.starts_with("ALERT"));
+    names.map(str::to_string).collect()
+}
+
+/// A handshake is shown of alerts that have one, a ping of those that are pinged.
+#[test]
+fn receivers_are_shown_where_they_move() {
+    let text = "none wires 0=10 1=10 2=11\nnone";
+    let of = |i: usize, names: &[&str]| -> Vec<String> {
+        names
+            .iter()
+            .map(|name| format!("ALERT{i}_{name}"))
+            .collect()
+    };
+    let wires = ["PAIR", "EVENT", "CAUSE"];
+    let shaken = [&wires[..], &["PLACE", "ACK"]].concat();
+    let pinged = [&shaken[..], &["PING", "ANSWER"]].concat();
+    let wanted = [of(0, &shaken), of(1, &pinged), of(2, &wires)].concat();
+    assert_eq!(alert_signals(asked(Handler::new(4).0, &[1]), text), wanted);
 }
 
 #[test]

@@ -1,10 +1,10 @@
 //! A lane for each alert that rose or broke, and for each local alert that occurred. The first to do so have lanes of their
-//! own; all others share one.
+//! own, with a strip that tells where the receiver stands; all others share one.
 use super::super::axis::{Axis, Place};
 use super::super::cell::Cell;
 use super::super::marks::{self, HEIGHT};
 use super::super::page::Page;
-use super::{begin, BETWEEN};
+use super::{begin, receivers, BETWEEN};
 use crate::alert_bits::{self, put, AlertBits};
 use handler::{LOCALS, WORDS};
 use std::array::from_fn;
@@ -87,7 +87,9 @@ pub fn draw(page: &mut Page, axis: &Axis) {
     for i in alert_bits::alerts(chosen) {
         let mut one = [0; WORDS];
         put(&mut one, i, true);
+        receivers::draw_strip(page, axis, i);
         lane(page, axis, &format!("ALERT{i}"), &one);
+        receivers::draw_ping(page, axis, i);
     }
     match alert_bits::count(others) {
         0 => {}

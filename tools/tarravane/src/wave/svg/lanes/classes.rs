@@ -46,7 +46,7 @@ pub fn draw(page: &mut Page, axis: &Axis) {
     for k in 0..CLASSES {
         page.lane_name(&format!("class {}", LETTERS[k]), HEIGHT);
         let y = page.y;
-        for span in spans(axis, |cell| cell.states[k]) {
+        for span in spans(axis, |cell| cell.states[k].value()) {
             page.titled(&title(k, &span), |page| draw_span(page, y, &span));
         }
         page.y += STEP;

@@ -1,7 +1,6 @@
-//! A lane for each interrupt and each line: where it is on.
+//! A lane for each interrupt and each line, and for what else is on or off: where it is on.
 use super::super::axis::Axis;
 use super::super::cell::{Cell, LINES};
-use super::super::held::Held;
 use super::super::page::Page;
 use super::begin;
 use super::spans::spans;
@@ -11,7 +10,7 @@ use handler::CLASSES;
 const HEIGHT: f64 = 10.0;
 const STEP: f64 = 14.0;
 
-fn lane(page: &mut Page, axis: &Axis, name: &str, of: impl Fn(&Cell) -> Held<bool>) {
+pub fn draw_lane(page: &mut Page, axis: &Axis, name: &str, of: impl Fn(&Cell) -> Option<bool>) {
     begin(page, axis, name, HEIGHT);
     for span in spans(axis, of) {
         let (class, words) = match span.value {
@@ -30,12 +29,13 @@ fn lane(page: &mut Page, axis: &Axis, name: &str, of: impl Fn(&Cell) -> Held<boo
 pub fn draw_interrupts(page: &mut Page, axis: &Axis) {
     for k in 0..CLASSES {
         let name = format!("interrupt {}", LETTERS[k]);
-        lane(page, axis, &name, |cell| cell.interrupts[k]);
+        draw_lane(page, axis, &name, |cell| cell.interrupts[k].value());
     }
 }
 
 pub fn draw_lines(page: &mut Page, axis: &Axis) {
     for e in 0..LINES {
-        lane(page, axis, &format!("line {e}"), |cell| cell.lines[e]);
+        let name = format!("line {e}");
+        draw_lane(page, axis, &name, |cell| cell.lines[e].value());
     }
 }

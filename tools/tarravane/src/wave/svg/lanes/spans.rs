@@ -1,7 +1,6 @@
 //! Neighbouring cells in which a lane has one value.
 use super::super::axis::{Axis, Place};
 use super::super::cell::Cell;
-use super::super::held::Held;
 
 pub struct Span<T> {
     /// None where a fold hides that it changed.
@@ -54,10 +53,11 @@ impl<T> Span<T> {
     }
 }
 
-pub fn spans<T: Copy + PartialEq>(axis: &Axis, of: impl Fn(&Cell) -> Held<T>) -> Vec<Span<T>> {
+/// `of`: the value in a cell; none where a fold hides that it changed.
+pub fn spans<T: PartialEq>(axis: &Axis, of: impl Fn(&Cell) -> Option<T>) -> Vec<Span<T>> {
     let mut all: Vec<Span<T>> = Vec::new();
     for (cell, place) in axis.with_places() {
-        let value = of(cell).value();
+        let value = of(cell);
         if all.last().map_or(true, |span| span.value != value) {
             all.push(Span::new(value, cell, place.x));
         }

@@ -1,0 +1,4 @@
+pub mod Alone
+pub mod Handshake
+pub mod WholeHandshake
+pub mod HandshakeExamples

@@ -1,0 +1,4 @@
+pub mod Pair
+pub mod Receiver
+pub mod Codes
+pub mod Handshake

@@ -1,0 +1,212 @@
+-- The rules of the receivers, request (viii), satisfy the sentences.
+-- Assumes nothing.
+use Prim.Native.Nat.{ℕ, _+_, _*_, _≤_, _<_}
+use mathlib.Core.Path.{_≡_, refl, sym, ap, ap₂, _∙_}
+use mathlib.Core.Logic.{_↔_, ⊎-elim, Iff·rfl}
+use mathlib.Core.Bool.{Bool, true, false, false≢true, cond, not, _&&_, _||_}
+use native.Mathlib.Omega.{arith}
+use borrow.Author.Tests.{lt-ltb, le-ltb}
+use lib.Dec.{ltb}
+use Rattle.bits.specs.Bits.{wordOf}
+use Rattle.bits.specs.Index.{wordsBy}
+use Rattle.bits.proofs.BitLaws.{wordOf-lt}
+use Rattle.bits.proofs.IndexLaws.{at-each, length-each}
+use Rattle.bits.proofs.WordLaws.{placeIn-each}
+use Rattle.link_rules.proofs.CodeLaws.{pausing-back, busy-back}
+use Rattle.link_rules.specs.Codes.{handshakeOf, pausingBit, busyBit}
+use Rattle.link_rules.specs.Pair.{rises}
+use Rattle.link_rules.specs.Receiver.{isReady, takes, askedFor, standsAfter, received}
+use Rattle.link_rules.specs.declared.Handshake.{Handshake}
+use Rattle.link_rules.specs.declared.Receiver.{Receiver}
+use Rattle.rules.specs.Samples.{receivedBy, happened, answered, receiverAfter, heard, sampled}
+use Rattle.rules.specs.State.{words, receiver, withLinks}
+use Rattle.rules.specs.Tick.{linksAfter}
+use Rattle.rules.specs.declared.Effects.{Effects}
+use Rattle.rules.specs.declared.Handler.{Handler}
+use Rattle.rules.specs.declared.Sample.{Sample}
+use Rattle.sentences.specs.Pairs.{FourWords}
+use Rattle.sentences.specs.Raw.{positive, negative, asked, pausing, busy, level, pending}
+use Rattle.sentences.specs.Receivers.{Taken, PingOpen, Answers, Event, Handshaken, Pinged, Received}
+use Rattle.sentences.proofs.SentenceCases.{off, lt-is, not-is, denied, and-is, or-is, then}
+
+-- the state after step 2: what it does to the registers, and the links
+abbrev pub after2 : Handler → Sample → Effects → Handler
+after2 g s f = withLinks (linksAfter (heard g s f)) (sampled g (heard g s f))
+
+-- words that are made place by place
+pub four-words : (f : ℕ → Bool) → FourWords (wordsBy 4 f)
+four-words f =
+    record {
+      many = length-each 4 (λ v. wordOf 64 (λ b. f (v * 64 + b)));
+      fits = λ v l.
+          let e = at-each 4 (λ v. wordOf 64 (λ b. f (v * 64 + b))) v 0 l in
+          let b = wordOf-lt 64 (λ b. f (v * 64 + b)) in rw e (omega (arith, b));
+    }
+
+-- ── one receiver ──
+
+ready-is : (p b : Bool) → (isReady (handshakeOf p b) ≡ true) ↔ ((p ≡ false) × (b ≡ false))
+ready-is false false = (λ _. (refl, refl), λ _. refl)
+ready-is false true = (λ t. absurd (false≢true t), λ d. absurd (false≢true (sym (d .1))))
+ready-is true false = (λ t. absurd (false≢true t), λ d. absurd (false≢true (sym (d .0))))
+ready-is true true = (λ t. absurd (false≢true t), λ d. absurd (false≢true (sym (d .0))))
+
+high-is : (p m : Bool) → (rises p m ≡ true) ↔ ((p ≡ true) × (m ≡ false))
+high-is p m = and-is p (not m) Iff·rfl (not-is m)
+
+equal-stands : (t : Handshake) (p m : Bool) → p ≡ m → standsAfter t p m ≡ t
+unfolding standsAfter
+equal-stands t true true e = refl
+equal-stands t true false e = absurd (false≢true (sym e))
+equal-stands t false true e = absurd (false≢true e)
+equal-stands t false false e = refl
+
+not-self : (b : Bool) → ¬ (not b ≡ b)
+not-self true e = false≢true e
+not-self false e = false≢true (sym e)
+
+-- ── what alert i's receiver is given in a tick ──
+
+module _ (g : Handler) (s : Sample) (i : ℕ) where
+  taken-is : ((ltb i (g .n) && takes (receiver g i .stands) (positive (s .alerts) i) (negative (s .alerts) i)) ≡ true) ↔ Taken g s i
+  taken-is =
+      let p = positive (s .alerts) i in
+      let m = negative (s .alerts) i in
+      let e = and-is (ltb i (g .n)) (takes (receiver g i .stands) p m) (lt-is i (g .n))
+      (and-is (isReady (receiver g i .stands)) (rises p m) (ready-is (pausing g i) (busy g i)) (high-is p m)) in
+      then e (λ d. (d .0, d .1 .0, d .1 .1), λ d. (d .0, (d .1, d .2)))
+
+  open-is : ((asked s i || pending g i) ≡ true) ↔ PingOpen g s i
+  open-is = or-is (asked s i) (pending g i) Iff·rfl Iff·rfl
+
+  -- (a && b) && c and a && (b && c)
+  regroup : (a b c : Bool) → (a && (b && c)) ≡ ((a && b) && c)
+  regroup true b c = refl
+  regroup false b c = refl
+
+  pub event-is : (happened g (s .asks) (s .alerts) i ≡ true) ↔ Event g s i
+  unfolding happened received askedFor
+  event-is =
+      let t = takes (receiver g i .stands) (positive (s .alerts) i) (negative (s .alerts) i) in
+      let e = and-is (ltb i (g .n) && t) (not (asked s i || pending g i)) taken-is (denied (asked s i || pending g i) open-is) in
+      (λ x. e .0 (sym (regroup (ltb i (g .n)) t (not (asked s i || pending g i))) ∙ x), λ d. regroup (ltb i (g .n)) t (not (asked s i || pending g i)) ∙ e .1 d)
+
+  pub answers-is : (answered g (s .asks) (s .alerts) i ≡ true) ↔ Answers g s i
+  unfolding answered received askedFor
+  answers-is =
+      let t = takes (receiver g i .stands) (positive (s .alerts) i) (negative (s .alerts) i) in
+      let e = and-is (ltb i (g .n) && t) (asked s i || pending g i) taken-is open-is in
+      (λ x. e .0 (sym (regroup (ltb i (g .n)) t (asked s i || pending g i)) ∙ x), λ d. regroup (ltb i (g .n)) t (asked s i || pending g i) ∙ e .1 d)
+
+-- ── the receivers after step 2 ──
+
+module _ (g : Handler) (s : Sample) (f : Effects) (m : g .n ≤ 248) where
+  abbrev h : Handler
+  h = after2 g s f
+
+  abbrev next : ℕ → Receiver
+  next i = receiverAfter g (s .asks) (s .alerts) i
+
+  -- every bit of the four words
+  pausing-at : (i : ℕ) → i < 256 → pausing h i ≡ pausingBit (next i .stands)
+  unfolding heard
+  pausing-at i l = placeIn-each words (λ j. pausingBit (next j .stands)) i l
+
+  busy-at : (i : ℕ) → i < 256 → busy h i ≡ busyBit (next i .stands)
+  unfolding heard
+  busy-at i l = placeIn-each words (λ j. busyBit (next j .stands)) i l
+
+  level-at : (i : ℕ) → i < 256 → level h i ≡ next i .level
+  unfolding heard
+  level-at i l = placeIn-each words (λ j. next j .level) i l
+
+  pending-at : (i : ℕ) → i < 256 → pending h i ≡ next i .pending
+  unfolding heard
+  pending-at i l = placeIn-each words (λ j. next j .pending) i l
+
+  next-above : (i : ℕ) → g .n ≤ i → next i ≡ receiver g i
+  unfolding receiverAfter
+  next-above i l = ap (λ (t : Bool). cond t (receivedBy g (s .asks) (s .alerts) i .receiver) (receiver g i)) (le-ltb i (g .n) l)
+
+  next-below : (i : ℕ) → i < g .n → next i ≡ receivedBy g (s .asks) (s .alerts) i .receiver
+  unfolding receiverAfter
+  next-below i l = ap (λ (t : Bool). cond t (receivedBy g (s .asks) (s .alerts) i .receiver) (receiver g i)) (lt-ltb i (g .n) l)
+
+  -- where it stands below N, by where it stood and the wires
+  stands-below : (i : ℕ) → i < g .n → next i .stands ≡ standsAfter (receiver g i .stands) (positive (s .alerts) i) (negative (s .alerts) i)
+  unfolding received askedFor
+  stands-below i l = ap (λ (r : Receiver). r .stands) (next-below i l)
+
+  moves : {p b x y : Bool} (i : ℕ) → i < g .n → (pausing g i ≡ p) × (busy g i ≡ b) → (positive (s .alerts) i ≡ x) × (negative (s .alerts) i ≡ y)
+      → (pausing h i ≡ pausingBit (standsAfter (handshakeOf p b) x y)) × (busy h i ≡ busyBit (standsAfter (handshakeOf p b) x y))
+  moves {p} {b} {x} {y} i l d w =
+      let q : i < 256 = omega (arith, m) in
+      let e : next i .stands ≡ standsAfter (handshakeOf p b) x y =
+      stands-below i l ∙ ap₂ (λ (c : Bool) (a : Bool). standsAfter (handshakeOf c a) (positive (s .alerts) i) (negative (s .alerts) i)) (d .0) (d .1)
+      ∙ ap₂ (λ (c : Bool) (a : Bool). standsAfter (handshakeOf p b) c a) (w .0) (w .1) in
+      (pausing-at i q ∙ ap pausingBit e, busy-at i q ∙ ap busyBit e)
+
+  handshakes : Handshaken g s h
+  unfolding standsAfter
+  handshakes =
+      record {
+        raised = λ i t. moves i (t .0) (t .1) (t .2);
+        at-rest = λ i l d w. moves i l d w;
+        held = λ i l d w. moves i l d w;
+        dropped = λ i l d w. moves i l d w;
+        first = λ i l d. ⊎-elim (λ w. moves i l d w) (λ w. moves i l d w);
+        second = λ i l d. ⊎-elim (λ w. moves i l d w) (λ w. moves i l d w);
+        equal-pausing = λ i l e.
+            pausing-at i (omega (arith, m)) ∙ ap pausingBit (stands-below i l ∙ equal-stands (receiver g i .stands) (positive (s .alerts) i) (negative (s .alerts) i) e)
+            ∙ pausing-back (pausing g i) (busy g i);
+        equal-busy = λ i l e.
+            busy-at i (omega (arith, m)) ∙ ap busyBit (stands-below i l ∙ equal-stands (receiver g i .stands) (positive (s .alerts) i) (negative (s .alerts) i) e)
+            ∙ busy-back (pausing g i) (busy g i);
+      }
+
+  -- its ping below N
+  level-below : (i : ℕ) → i < g .n → (a o : Bool) → asked s i ≡ a → pending g i ≡ o → level h i ≡ cond (a && not o) (not (level g i)) (level g i)
+  unfolding received askedFor
+  level-below i l a o x y =
+      level-at i (omega (arith, m)) ∙ ap (λ (r : Receiver). r .level) (next-below i l)
+      ∙ ap₂ (λ (a : Bool) (o : Bool). cond (a && not o) (not (level g i)) (level g i)) x y
+
+  abbrev taken : ℕ → Bool
+  taken i = takes (receiver g i .stands) (positive (s .alerts) i) (negative (s .alerts) i)
+
+  pending-below : (i : ℕ) → i < g .n → pending h i ≡ ((asked s i || pending g i) && not (ltb i (g .n) && taken i))
+  unfolding received askedFor
+  pending-below i l =
+      pending-at i (omega (arith, m)) ∙ ap (λ (r : Receiver). r .pending) (next-below i l)
+      ∙ ap (λ (t : Bool). (asked s i || pending g i) && not (t && taken i)) (sym (lt-ltb i (g .n) l))
+
+  pings : Pinged g s h
+  pings =
+      record {
+        changes = λ i l x y e. not-self (level g i) (sym (level-below i l true false x y) ∙ e);
+        while-open = λ i l y. while-open i l (asked s i) refl y;
+        unasked = λ i l x. level-below i l false (pending g i) x refl;
+        opens = λ i l o n. pending-below i l ∙ ap₂ (λ (o : Bool) (t : Bool). o && not t) (open-is g s i .1 o) (off (ltb i (g .n) && taken i) (taken-is g s i) n);
+        closes = λ i d. pending-below i (d .0 .0) ∙ ap₂ (λ (o : Bool) (t : Bool). o && not t) (open-is g s i .1 (d .1)) (taken-is g s i .1 (d .0));
+        none-open = λ i l n. pending-below i l ∙ ap (λ (o : Bool). o && not (ltb i (g .n) && taken i)) (off (asked s i || pending g i) (open-is g s i) n);
+      }
+    where
+      while-open : (i : ℕ) → i < g .n → (a : Bool) → asked s i ≡ a → pending g i ≡ true → level h i ≡ level g i
+      while-open i l true x y = level-below i l true true x y
+      while-open i l false x y = level-below i l false true x y
+
+  pub holds-receivers : Received g s h
+  unfolding heard
+  holds-receivers =
+      record {
+        handshake = handshakes;
+        pings = pings;
+        pausing-above = λ i l b. pausing-at i b ∙ ap (λ (r : Receiver). pausingBit (r .stands)) (next-above i l) ∙ pausing-back (pausing g i) (busy g i);
+        busy-above = λ i l b. busy-at i b ∙ ap (λ (r : Receiver). busyBit (r .stands)) (next-above i l) ∙ busy-back (pausing g i) (busy g i);
+        level-above = λ i l b. level-at i b ∙ ap (λ (r : Receiver). r .level) (next-above i l);
+        pending-above = λ i l b. pending-at i b ∙ ap (λ (r : Receiver). r .pending) (next-above i l);
+        pausing-words = four-words (λ i. pausingBit (next i .stands));
+        busy-words = four-words (λ i. busyBit (next i .stands));
+        level-words = four-words (λ i. next i .level);
+        pending-words = four-words (λ i. next i .pending);
+      }

@@ -1,0 +1,285 @@
+-- Wrong receivers of request (viii) that the sentences refuse, as theorems: what satisfies the sentences is the rules' definition (`only`, `holds`), and
+-- these differ from it somewhere.
+-- Assumes nothing.
+use Prim.Native.Nat.{ℕ, _<_}
+use mathlib.Core.Path.{_≡_, refl, sym, ap, ap₂, _∙_}
+use mathlib.Core.Logic.{inl}
+use mathlib.Core.Bool.{Bool, true, false, false≢true, cond, not, _&&_, _||_}
+use native.Mathlib.Omega.{arith}
+use lib.Dec.{ltb}
+use lib.ListN.{replicate}
+use Rattle.bits.specs.Index.{placeIn, wordsBy}
+use Rattle.bits.proofs.WordLaws.{placeIn-each}
+use Rattle.link_rules.specs.Pair.{rises, equal}
+use Rattle.link_rules.specs.Codes.{pausingBit, busyBit}
+use Rattle.link_rules.specs.Receiver.{acknowledges, isReady, onward, takes, askedFor, standsAfter, received}
+use Rattle.link_rules.specs.declared.Given.{Given}
+use Rattle.link_rules.specs.declared.Handshake.{Handshake}
+use Rattle.link_rules.specs.declared.Handshake.the-variants.{Ready, Acknowledged, FirstPause, SecondPause}
+use Rattle.link_rules.specs.declared.Receiver.{Receiver}
+use Rattle.rules.specs.Samples.{givenTo, happened, receiverAfter, heard, alertEvent, sampled}
+use Rattle.rules.specs.State.{words, alert, receiver, receiversBy, newHandler, withLinks}
+use Rattle.rules.specs.Tick.{linksAfter}
+use Rattle.rules.specs.declared.Effects.{Effects}
+use Rattle.rules.specs.declared.Field.{Field}
+use Rattle.rules.specs.declared.Handler.{Handler}
+use Rattle.rules.specs.declared.Heard.{Heard}
+use Rattle.rules.specs.declared.Sample.{Sample}
+use Rattle.rules.proofs.Scenes.{rules, settings, zeros, station}
+use Rattle.laws.proofs.Samples.Heard.{receiver-by, heard-receiver, heard-event}
+use Rattle.laws.proofs.State.StateLaws.{alert-sampled}
+use Rattle.sentences.specs.Samples.{SampleStep}
+use Rattle.sentences.specs.Valid.{Valid}
+use Rattle.sentences.proofs.HoldsReceivers.{after2}
+use Rattle.sentences.proofs.HoldsSamples.{holds-samples}
+use Rattle.sentences.proofs.HoldsValid.{holds-valid}
+use Rattle.sentences.proofs.OnlySamples.{only-samples}
+
+-- ── a handler of one alert, enabled, and a sample; the receivers, wires and askings of all places are alike ──
+
+abbrev pub standing : Receiver → Handler
+standing t = withLinks (record { receivers = receiversBy (λ i. t) }) (station 1 (replicate 248 1) (replicate 248 0) 0 (settings 5 0 0 zeros))
+
+abbrev sampleOf : Given → Sample
+sampleOf x =
+    record {
+      alerts = record { pos = wordsBy words (λ i. x .pos); neg = wordsBy words (λ i. x .neg) };
+      asks = wordsBy words (λ i. x .asks);
+    }
+
+abbrev handsOn : Effects
+handsOn = record { clears = 0; raises = 0 }
+
+valid-standing : (t : Receiver) → Valid (standing t)
+unfolding rules
+valid-standing t = holds-valid (standing t) .0 refl
+
+stood : (t : Receiver) (i : ℕ) → i < 256 → receiver (standing t) i ≡ t
+stood t i l = receiver-by (λ j. t) i l
+
+given : (x : Given) (i : ℕ) → i < 256 → givenTo (sampleOf x .asks) (sampleOf x .alerts) i ≡ x
+given x i l = λ j.
+    record {
+      asks = placeIn-each words (λ j. x .asks) i l j;
+      pos = placeIn-each words (λ j. x .pos) i l j;
+      neg = placeIn-each words (λ j. x .neg) i l j;
+    }
+
+-- ── receivers that stand, or whose pings are, elsewhere after a tick: r makes one of what it is given ──
+
+abbrev movedBy : (Given → Receiver → Receiver) → Handler → Sample → Effects → Handler
+movedBy r g s f =
+    withLinks (record { receivers = receiversBy (λ i. cond (ltb i (g .n)) (r (givenTo (s .asks) (s .alerts) i) (receiver g i)) (receiver g i)) })
+    (after2 g s f)
+
+-- if it makes another of some receiver than the rules do
+other-receiver : (r : Given → Receiver → Receiver) (x : Given) (t : Receiver) (f : Receiver → Bool)
+    → f (r x t) ≡ false → f (received x t .receiver) ≡ true → ¬ SampleStep (movedBy r)
+unfolding receiverAfter newHandler
+other-receiver r x t f p q w =
+    let g = standing t in
+    let s = sampleOf x in
+    let e = only-samples (movedBy r) after2 w holds-samples g s handsOn (valid-standing t) (inl refl) in
+    let a : receiver (movedBy r g s handsOn) 0 ≡ r x t =
+    receiver-by (λ i. cond (ltb i 1) (r (givenTo (s .asks) (s .alerts) i) (receiver g i)) (receiver g i)) 0 (omega arith)
+    ∙ ap₂ r (given x 0 (omega arith)) (stood t 0 (omega arith)) in
+    let b : receiver (after2 g s handsOn) 0 ≡ received x t .receiver =
+    heard-receiver g s handsOn 0 (omega arith)
+    ∙ ap₂ (λ (x : Given) (t : Receiver). received x t .receiver) (given x 0 (omega arith)) (stood t 0 (omega arith)) in
+    false≢true (sym p ∙ ap f (sym a ∙ ap (λ (h : Handler). receiver h 0) e ∙ b) ∙ q)
+
+-- one that stands by its own rule
+abbrev standsBy : (Handshake → Bool → Bool → Handshake) → Given → Receiver → Receiver
+standsBy m x t = let r = received x t .receiver in record { stands = m (t .stands) (x .pos) (x .neg); level = r .level; pending = r .pending }
+
+abbrev isFirst : Handshake → Bool
+isFirst t = pausingBit t && busyBit t
+
+abbrev isSecond : Handshake → Bool
+isSecond t = pausingBit t && not (busyBit t)
+
+-- it reads this pair and nobody asks; it stands there, no ping open
+abbrev reads : Bool → Bool → Given
+reads p m = record { asks = false; pos = p; neg = m }
+
+abbrev pub at : Handshake → Receiver
+at t = record { stands = t; level = false; pending = false }
+
+-- one tick of pause
+abbrev hurries : Handshake → Bool → Bool → Handshake
+hurries t p m = cond (isFirst t && not (equal p m)) Ready (standsAfter t p m)
+
+pub no-short-pause : ¬ SampleStep (movedBy (standsBy hurries))
+unfolding received askedFor standsAfter
+no-short-pause = other-receiver (standsBy hurries) (reads false true) (at FirstPause) (λ r. pausingBit (r .stands)) refl refl
+
+-- a rise taken in the first, or the second, tick of the pause
+abbrev takesIn : (Handshake → Bool) → Handshake → Bool → Bool → Handshake
+takesIn tick t p m = cond (tick t && rises p m) Acknowledged (standsAfter t p m)
+
+pub no-rise-in-first-pause : ¬ SampleStep (movedBy (standsBy (takesIn isFirst)))
+unfolding received askedFor standsAfter
+no-rise-in-first-pause = other-receiver (standsBy (takesIn isFirst)) (reads true false) (at FirstPause) (λ r. pausingBit (r .stands)) refl refl
+
+pub no-rise-in-second-pause : ¬ SampleStep (movedBy (standsBy (takesIn isSecond)))
+unfolding received askedFor standsAfter
+no-rise-in-second-pause = other-receiver (standsBy (takesIn isSecond)) (reads true false) (at SecondPause) (λ r. isReady (r .stands)) refl refl
+
+-- equal wires move one that is ready, or acknowledged, or in the first or the second tick of the pause
+abbrev unheldIf : (Handshake → Bool) → Handshake → Bool → Bool → Handshake
+unheldIf there t p m = cond (there t) (onward t p) (standsAfter t p m)
+
+pub no-moved-ready : ¬ SampleStep (movedBy (standsBy (unheldIf isReady)))
+unfolding received askedFor standsAfter
+no-moved-ready = other-receiver (standsBy (unheldIf isReady)) (reads true true) (at Ready) (λ r. isReady (r .stands)) refl refl
+
+pub no-moved-acknowledged : ¬ SampleStep (movedBy (standsBy (unheldIf acknowledges)))
+unfolding received askedFor standsAfter
+no-moved-acknowledged = other-receiver (standsBy (unheldIf acknowledges)) (reads false false) (at Acknowledged) (λ r. acknowledges (r .stands)) refl refl
+
+pub no-moved-first-pause : ¬ SampleStep (movedBy (standsBy (unheldIf isFirst)))
+unfolding received askedFor standsAfter
+no-moved-first-pause = other-receiver (standsBy (unheldIf isFirst)) (reads false false) (at FirstPause) (λ r. busyBit (r .stands)) refl refl
+
+pub no-moved-second-pause : ¬ SampleStep (movedBy (standsBy (unheldIf isSecond)))
+unfolding received askedFor standsAfter
+no-moved-second-pause = other-receiver (standsBy (unheldIf isSecond)) (reads true true) (at SecondPause) (λ r. pausingBit (r .stands)) refl refl
+
+-- one whose level changes, or whose ping is open after the tick, by its own rule
+abbrev pingedBy : (Given → Receiver → Bool) → (Given → Receiver → Bool) → Given → Receiver → Receiver
+pingedBy level pending x t = record { stands = received x t .receiver .stands; level = level x t; pending = pending x t }
+
+abbrev itsLevel : Given → Receiver → Bool
+itsLevel x t = received x t .receiver .level
+
+abbrev itsPending : Given → Receiver → Bool
+itsPending x t = received x t .receiver .pending
+
+-- asked for in this tick, with the pair (1,0) where p holds, else (0,1); and ready with a ping open
+abbrev asksAt : Bool → Given
+asksAt p = record { asks = true; pos = p; neg = not p }
+
+abbrev pub waiting : Receiver
+waiting = record { stands = Ready; level = true; pending = true }
+
+-- an asking while a ping is open changes the level again
+abbrev flips : Given → Receiver → Receiver
+flips = pingedBy (λ x t. cond (x .asks) (not (t .level)) (t .level)) itsPending
+
+pub no-asked-twice : ¬ SampleStep (movedBy flips)
+unfolding received askedFor
+no-asked-twice = other-receiver flips (asksAt false) waiting (λ r. r .level) refl refl
+
+-- an answer leaves the ping open
+abbrev keepsOpen : Given → Receiver → Receiver
+keepsOpen = pingedBy itsLevel (λ x t. x .asks || t .pending)
+
+pub no-answer-left-open : ¬ SampleStep (movedBy keepsOpen)
+unfolding received askedFor
+no-answer-left-open = other-receiver keepsOpen (reads true false) waiting (λ r. not (r .pending)) refl refl
+
+-- a rise in the tick of the asking does not answer
+abbrev opensLate : Given → Receiver → Receiver
+opensLate = pingedBy itsLevel (λ x t. x .asks || (t .pending && not (takes (t .stands) (x .pos) (x .neg))))
+
+pub no-answer-a-tick-late : ¬ SampleStep (movedBy opensLate)
+unfolding received askedFor
+no-answer-a-tick-late = other-receiver opensLate (asksAt true) (at Ready) (λ r. not (r .pending)) refl refl
+
+-- ── events: v says whether a receiver that is given x has one ──
+
+abbrev hearing : (Given → Receiver → Bool) → Handler → Sample → Effects → Heard
+hearing v g s f =
+    record {
+      receivers = heard g s f .receivers;
+      events = wordsBy words (λ i. ltb i (g .n) && v (givenTo (s .asks) (s .alerts) i) (receiver g i));
+      answers = heard g s f .answers;
+      raises = heard g s f .raises;
+    }
+
+abbrev countedBy : (Given → Receiver → Bool) → Handler → Sample → Effects → Handler
+countedBy v g s f = withLinks (linksAfter (heard g s f)) (sampled g (hearing v g s f))
+
+-- if it hears an event of the enabled alert where the rules hear none
+other-event : (v : Given → Receiver → Bool) (x : Given) (t : Receiver) → v x t ≡ true → received x t .event ≡ false → ¬ SampleStep (countedBy v)
+unfolding alertEvent happened newHandler
+other-event v x t p q w =
+    let g = standing t in
+    let s = sampleOf x in
+    let e = only-samples (countedBy v) after2 w holds-samples g s handsOn (valid-standing t) (inl refl) in
+    let a : placeIn (hearing v g s handsOn .events) 0 ≡ true =
+    placeIn-each words (λ i. ltb i 1 && v (givenTo (s .asks) (s .alerts) i) (receiver g i)) 0 (omega arith)
+    ∙ ap₂ v (given x 0 (omega arith)) (stood t 0 (omega arith)) ∙ p in
+    let b : placeIn (heard g s handsOn .events) 0 ≡ false =
+    heard-event g s handsOn 0 (omega arith)
+    ∙ ap₂ (λ (x : Given) (t : Receiver). received x t .event) (given x 0 (omega arith)) (stood t 0 (omega arith)) ∙ q in
+    let c : alert (countedBy v g s handsOn) Field.Cause 0 ≡ 1 = alert-sampled g (hearing v g s handsOn) Field.Cause 0 (omega arith) ∙ simp a in
+    let d : alert (after2 g s handsOn) Field.Cause 0 ≡ 0 = alert-sampled g (heard g s handsOn) Field.Cause 0 (omega arith) ∙ simp b in
+    let z = ap (λ (h : Handler). alert h Field.Cause 0) e in
+    omega (arith, c, d, z)
+
+-- an answer is an event
+abbrev answersToo : Given → Receiver → Bool
+answersToo x t = takes (t .stands) (x .pos) (x .neg)
+
+pub no-answer-as-event : ¬ SampleStep (countedBy answersToo)
+unfolding received askedFor
+no-answer-as-event = other-event answersToo (reads true false) waiting refl refl
+
+-- the wires are read before the asking
+abbrev wiresFirst : Given → Receiver → Bool
+wiresFirst x t = takes (t .stands) (x .pos) (x .neg) && not (t .pending)
+
+pub no-asking-after-wires : ¬ SampleStep (countedBy wiresFirst)
+unfolding received askedFor
+no-asking-after-wires = other-event wiresFirst (asksAt true) (at Ready) refl refl
+
+-- a rise that is held is an event in each tick, and one that waits in the pause is
+abbrev eachTick : Given → Receiver → Bool
+eachTick x t = rises (x .pos) (x .neg)
+
+pub no-event-each-tick : ¬ SampleStep (countedBy eachTick)
+unfolding received askedFor
+no-event-each-tick = other-event eachTick (reads true false) (at Acknowledged) refl refl
+
+abbrev inPause : Given → Receiver → Bool
+inPause x t = pausingBit (t .stands) && rises (x .pos) (x .neg)
+
+pub no-event-in-pause : ¬ SampleStep (countedBy inPause)
+unfolding received askedFor
+no-event-in-pause = other-event inPause (reads true false) (at SecondPause) refl refl
+
+-- ── at N and above: r moves a receiver there, where N is 1; place 255 is the last ──
+
+abbrev movedAbove : (Given → Receiver → Receiver) → Handler → Sample → Effects → Handler
+movedAbove r g s f =
+    withLinks (record { receivers = receiversBy (λ i. cond (ltb i (g .n)) (receiverAfter g (s .asks) (s .alerts) i) (r (givenTo (s .asks) (s .alerts) i) (receiver g i))) })
+    (after2 g s f)
+
+other-above : (r : Given → Receiver → Receiver) (x : Given) (t : Receiver) (f : Receiver → Bool) → f (r x t) ≡ false → f t ≡ true → ¬ SampleStep (movedAbove r)
+unfolding receiverAfter newHandler
+other-above r x t f p q w =
+    let g = standing t in
+    let s = sampleOf x in
+    let e = only-samples (movedAbove r) after2 w holds-samples g s handsOn (valid-standing t) (inl refl) in
+    let a : receiver (movedAbove r g s handsOn) 255 ≡ r x t =
+    receiver-by (λ i. cond (ltb i 1) (receiverAfter g (s .asks) (s .alerts) i) (r (givenTo (s .asks) (s .alerts) i) (receiver g i))) 255 (omega arith)
+    ∙ ap₂ r (given x 255 (omega arith)) (stood t 255 (omega arith)) in
+    let b : receiver (after2 g s handsOn) 255 ≡ t = heard-receiver g s handsOn 255 (omega arith) ∙ stood t 255 (omega arith) in
+    false≢true (sym p ∙ ap f (sym a ∙ ap (λ (h : Handler). receiver h 255) e ∙ b) ∙ q)
+
+-- by its wires
+abbrev wiresMove : Given → Receiver → Receiver
+wiresMove x t = record { stands = standsAfter (t .stands) (x .pos) (x .neg); level = t .level; pending = t .pending }
+
+pub no-wires-above : ¬ SampleStep (movedAbove wiresMove)
+unfolding standsAfter
+no-wires-above = other-above wiresMove (reads true false) (at Ready) (λ r. isReady (r .stands)) refl refl
+
+-- by an asking
+abbrev askingMoves : Given → Receiver → Receiver
+askingMoves x t = askedFor (x .asks) t
+
+pub no-asking-above : ¬ SampleStep (movedAbove askingMoves)
+unfolding askedFor
+no-asking-above = other-above askingMoves (asksAt false) (at Ready) (λ r. not (r .level)) refl refl

@@ -1,0 +1,151 @@
+//! The wrapper hands over asks, and gives back pairs and what is heard, each alert at its own bit.
+use handler::registers::{Field, MAP};
+use handler::{
+    Access, Answer, Handler, Heard, Output, Place, Receivers, Refusal, Sample, Wires, ALERTS, WORDS,
+};
+use harness::configure::configure;
+
+const REST: Sample = Sample::AT_REST;
+/// Both ends of each word, and the last alert.
+const ALERTS_TRIED: [usize; 9] = [0, 1, 63, 64, 127, 128, 191, 192, 247];
+
+/// The bit of alert i alone.
+fn one(i: usize) -> [u64; WORDS] {
+    let mut words = [0; WORDS];
+    words[i / 64] = 1 << (63 - i % 64);
+    words
+}
+
+/// The pair of alert i at (1,0), the others at (0,1).
+fn high(i: usize) -> Wires {
+    let pos = one(i);
+    Wires {
+        pos,
+        neg: pos.map(|word| !word),
+    }
+}
+
+fn asking(i: usize) -> Sample {
+    Sample {
+        asks: one(i),
+        ..REST
+    }
+}
+
+/// The handler after ticks without access.
+fn after(h: Handler, samples: &[Sample]) -> Handler {
+    let tick = |h: Handler, sample: &Sample| h.tick(Access::Nothing, *sample).handler;
+    samples.iter().fold(h, tick)
+}
+
+#[test]
+fn a_rise_is_acknowledged_in_the_next_tick() {
+    for i in ALERTS_TRIED {
+        let (h, _) = Handler::new(ALERTS);
+        let rise = Sample::of(high(i));
+        let t = h.tick(Access::Nothing, rise);
+        assert_eq!(t.output, Output::AT_REST);
+        let acknowledged = Output {
+            acknowledge: high(i),
+            ..Output::AT_REST
+        };
+        let dropped = t.handler.tick(Access::Nothing, REST);
+        assert_eq!(dropped.output, acknowledged);
+        let places = [
+            (vec![rise], Place::Acknowledged),
+            (vec![rise, REST], Place::FirstPause),
+            (vec![rise, REST, REST], Place::SecondPause),
+            (vec![rise, REST, REST, REST], Place::Ready),
+        ];
+        for (samples, place) in places {
+            assert_eq!(after(h, &samples).links.receivers.place(i), place);
+        }
+    }
+}
+
+#[test]
+fn a_ping_shows_at_once_and_stays() {
+    for i in ALERTS_TRIED {
+        let (h, _) = Handler::new(ALERTS);
+        let t = h.tick(Access::Nothing, asking(i));
+        let pinged = Output {
+            ping: high(i),
+            ..Output::AT_REST
+        };
+        assert_eq!(t.output, pinged);
+        let open = Receivers {
+            level: one(i),
+            pending: one(i),
+            ..Receivers::NEW
+        };
+        assert_eq!(t.handler.links.receivers, open);
+        assert_eq!(t.handler.tick(Access::Nothing, asking(i)), t);
+    }
+}
+
+const SILENT: Heard = Heard {
+    events: [0; WORDS],
+    answers: [0; WORDS],
+    locals: 0,
+    answer: Answer(0),
+};
+
+#[test]
+fn what_is_heard_is_told() {
+    for i in ALERTS_TRIED {
+        let (h, _) = Handler::new(ALERTS);
+        let rise = Sample::of(high(i));
+        let event = Heard {
+            events: one(i),
+            ..SILENT
+        };
+        assert_eq!(h.hear(Access::Nothing, rise), event);
+        let answered = Heard {
+            answers: one(i),
+            ..SILENT
+        };
+        let pinged = after(h, &[asking(i)]);
+        assert_eq!(pinged.hear(Access::Nothing, rise), answered);
+        assert_eq!(h.hear(Access::Nothing, asking(i)), SILENT);
+        assert_eq!(
+            after(h, &[rise]).hear(Access::Nothing, rise),
+            SILENT,
+            "{i} is taken once"
+        );
+    }
+}
+
+#[test]
+fn local_alerts_and_the_answer_are_told() {
+    let (mut h, _) = Handler::new(1);
+    let en = |register| configure(MAP, register, 1);
+    let writes = [
+        MAP.alert(Field::En, 0),
+        MAP.local(Field::En, 2),
+        MAP.local(Field::En, 5),
+    ];
+    for (register, value) in writes.into_iter().flat_map(en) {
+        h = h.tick(Access::Write(register, value), REST).handler;
+    }
+    let class = MAP.alert(Field::Class, 0);
+    h = h.tick(Access::Write(class, 1), REST).handler;
+    let equal = Sample::of(Wires {
+        pos: one(0),
+        neg: [u64::MAX; WORDS],
+    });
+    let differs = Access::Write(class, 2);
+    let heard = h.hear(differs, equal);
+    assert_eq!((heard.locals, heard.answer), (1 << 2 | 1 << 5, Answer(-12)));
+    let read = Access::Read(MAP.alert(Field::En, 0));
+    assert_eq!(h.hear(read, REST).answer, Answer(1));
+    let broken = Handler { n: 249, ..h };
+    let heard = broken.hear(differs, equal);
+    assert_eq!(heard.answer.value(), Err(Refusal(7)));
+    assert_eq!(
+        heard,
+        Heard {
+            answer: Answer(-7),
+            ..SILENT
+        }
+    );
+}
