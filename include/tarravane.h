@@ -13,13 +13,14 @@
  * The promises are proved for the functions of crates/boundary. Trusted: the compiler's back end, the C ABI, this header.
  *
  * The stack that a call takes below its caller's frame, argument and result included, whatever the lengths of its lists:
- *   tarravane_new 3160 bytes
- *   tarravane_tick 38360 bytes
- *   tarravane_hear 22328 bytes
- *   tarravane_batch_24 42632 bytes
- *   tarravane_batch_70 42632 bytes
- *   tarravane_record 96 bytes
- *   tarravane_install 69512 bytes
+ *   tarravane_new 3176 bytes
+ *   tarravane_tick 38600 bytes
+ *   tarravane_hear 22456 bytes
+ *   tarravane_batch_24 41576 bytes
+ *   tarravane_batch_70 41576 bytes
+ *   tarravane_batch_pings 41576 bytes
+ *   tarravane_record 136 bytes
+ *   tarravane_install 70120 bytes
  * Measured, not proved (tests/stack, the gate): each call ran on a stack filled with a pattern, with accesses of every kind
  * and lists of 0 to 300 entries, linked with -z now. Else the dynamic loader binds memcpy within the first call and takes
  * stack there: with it the first tarravane_new took 6344 bytes on the machine that was measured, the other calls no more. */
@@ -40,7 +41,7 @@ extern "C" {
 
 /* It rises with each change of the structs or of a function's parameters. In the library it is part of each function's name,
  * so that what was compiled against another layout does not link. */
-#define TARRAVANE_LAYOUT 2
+#define TARRAVANE_LAYOUT 3
 
 #define TARRAVANE_JOINED(name, layout) name##_layout_##layout
 #define TARRAVANE_NAMED(name, layout) TARRAVANE_JOINED(name, layout)
@@ -49,6 +50,7 @@ extern "C" {
 #define tarravane_hear TARRAVANE_NAMED(tarravane_hear, TARRAVANE_LAYOUT)
 #define tarravane_batch_24 TARRAVANE_NAMED(tarravane_batch_24, TARRAVANE_LAYOUT)
 #define tarravane_batch_70 TARRAVANE_NAMED(tarravane_batch_70, TARRAVANE_LAYOUT)
+#define tarravane_batch_pings TARRAVANE_NAMED(tarravane_batch_pings, TARRAVANE_LAYOUT)
 #define tarravane_record TARRAVANE_NAMED(tarravane_record, TARRAVANE_LAYOUT)
 #define tarravane_install TARRAVANE_NAMED(tarravane_install, TARRAVANE_LAYOUT)
 
@@ -72,9 +74,11 @@ extern "C" {
 #define TARRAVANE_PHASES 4
 #define TARRAVANE_LINES 4
 
-/* Bytes of a trace record: of the first edition, and of the newest, which is the one that is written. */
+/* Bytes of a trace record: of the first edition, of the one for 248 alerts, and of the newest, with what the ping timer is
+ * handed; the newest is the one that is written. */
 #define TARRAVANE_RECORD_24 24
 #define TARRAVANE_RECORD_70 70
+#define TARRAVANE_RECORD_PINGS 75
 
 /* ---- The state. Read, copy and compare it freely; change it by ticks. ---- */
 
@@ -93,20 +97,31 @@ struct tarravane_class {
     uint32_t state;                     /* STATE: TARRAVANE_IDLE .. */
 };
 
-/* The receivers of the alerts: alert i has bit 63 - i % 64 of word i / 64 in each. Any bits are a receiver, so refusal 7 does
- * not look at them. Places at n and above are no alert's: no call changes them.
+/* The receivers of the alerts: alert i has bit 63 - i % 64 of word i / 64 in each. Any bits are a receiver; refusal 7 looks at
+ * pending alone. Places at n and above are no alert's: refusal 7 does not look at them, no call changes them.
  * Where a receiver stands in the handshake, by its bits of pausing and busy: 0 0 ready, 0 1 acknowledged, 1 1 in the first and
  * 1 0 in the second tick of the pause. */
 struct tarravane_receivers {
     uint64_t pausing[TARRAVANE_WORDS];
     uint64_t busy[TARRAVANE_WORDS];
     uint64_t level[TARRAVANE_WORDS];   /* ping pair: 1 for (1,0), 0 for (0,1) */
-    uint64_t pending[TARRAVANE_WORDS]; /* a ping is open: asked for and not answered yet */
+    uint64_t pending[TARRAVANE_WORDS]; /* a ping is open: sent, not answered and not failed yet; only the turn's may be */
+};
+
+/* The ping timer's turn. Any bits are one, and before PING_TIMER_EN is 1 they say nothing. */
+struct tarravane_turn {
+    uint8_t number; /* even: an alert's turn; odd: that of line number / 2 % 4 */
+    uint8_t alert;  /* the alert drawn; a line's turn does not look at it */
+    uint16_t count; /* while the turn's ping is not open: the ticks to it, less one; while it is: the ticks since it opened,
+                       staying at 65535 */
 };
 
 /* What stands between the wires and the registers. */
 struct tarravane_links {
     struct tarravane_receivers receivers;
+    struct tarravane_turn turn;
+    uint32_t lines; /* the lines whose ping is open: line 0 is the lowest bit; only the turn's may be. Bits from 4 up are not
+                       looked at, and no call changes them */
 };
 
 /* Entry i is alert i's. Entries at n and above are no registers: refusal 7 does not look at them, no call changes them. */
@@ -128,6 +143,13 @@ struct tarravane_locals {
 struct tarravane_interrupts {
     uint16_t state;
     uint16_t enable;
+};
+
+/* The ping timer's registers. */
+struct tarravane_timer {
+    uint32_t timeout; /* PING_TIMEOUT_CYC */
+    uint16_t regwen;  /* PING_TIMER_REGWEN */
+    uint16_t enable;  /* PING_TIMER_EN */
 };
 
 /* Stages: what the first of two equal writes left at a shadowed register. 0 for none, else the staged value plus 1, so they
@@ -154,6 +176,7 @@ struct tarravane_stages {
     struct tarravane_class_stages classes[TARRAVANE_CLASSES];
     struct tarravane_alert_stages alerts;
     struct tarravane_local_stages locals;
+    uint64_t timeout; /* PING_TIMEOUT_CYC */
 };
 
 struct tarravane_handler {
@@ -163,6 +186,7 @@ struct tarravane_handler {
     struct tarravane_alerts alerts;
     struct tarravane_locals locals;
     struct tarravane_interrupts interrupts;
+    struct tarravane_timer timer;
     struct tarravane_stages stages;
 };
 
@@ -178,13 +202,15 @@ struct tarravane_wires {
 /* The sample of a tick: all that comes in beside the access. */
 struct tarravane_sample {
     struct tarravane_wires alerts;
-    uint64_t asks[TARRAVANE_WORDS]; /* the alerts whose ping the caller asks for, in the wires' order of bits */
+    uint32_t word;    /* the entropy word, fresh in every tick and unpredictable: see tarravane_tick */
+    uint32_t answers; /* the lines whose ping is answered in this tick: line 0 is the lowest bit; bits from 4 up count for
+                         nothing */
 };
 
-/* A sample at rest, to initialise one or a constant: all wires at (0,1), and no ping asked for. Start from it and set what is
- * not at rest: a caller who does needs no change when inputs join, as they are at rest there. */
-#define TARRAVANE_SAMPLE_AT_REST \
-    {{{0, 0, 0, 0}, {UINT64_MAX, UINT64_MAX, UINT64_MAX, UINT64_MAX}}, {0, 0, 0, 0}}
+/* A sample at rest, to initialise one or a constant: all wires at (0,1), the word 0 and no answer. Start from it and set what
+ * is not at rest: a caller who does needs no change when inputs join, as they are at rest there. Where the ping timer is on,
+ * the word is not left at rest. */
+#define TARRAVANE_SAMPLE_AT_REST {{{0, 0, 0, 0}, {UINT64_MAX, UINT64_MAX, UINT64_MAX, UINT64_MAX}}, 0, 0}
 
 /* ---- What comes back ---- */
 
@@ -238,7 +264,8 @@ struct tarravane_installed {
 #define TARRAVANE_BAD_RECORD 5    /* trace record malformed, or a kind over 2 */
 #define TARRAVANE_BAD_COUNT 6     /* n is 0 or over 248 */
 #define TARRAVANE_BAD_STATE 7     /* n over 248, a register or staged value over its bits, a STATE of 2, a count that its state
-                                     rules out; by tarravane_batch_24 also n over 64 */
+                                     rules out, an open ping that isn't the turn's; by the older batches also PING_TIMER_EN
+                                     at 1, and by tarravane_batch_24 n over 64 */
 #define TARRAVANE_BAD_LENGTH 8    /* batch length not a multiple of its record's bytes */
 #define TARRAVANE_SHORT_LIST 9    /* output list shorter than the records */
 #define TARRAVANE_NO_RECORD 10    /* an access that no well-formed record holds */
@@ -254,8 +281,9 @@ struct tarravane_installed {
 #define TARRAVANE_WRITE 2
 
 /* ---- Register numbers: local alert j is 0 to 6, alert i is below n, class k is 0 to 3, phase p is 0 to 3 ----
- * Those of tarravane_tick, of records of 70 bytes and of tarravane_record. Records of 24 bytes have document 01's: alert
- * blocks at 64, 128, 192 and 256, classes at 320 + 16k; tarravane_batch_24 carries them over.
+ * Those of tarravane_tick, of records of 75 bytes and of tarravane_record. Records of 70 bytes have them too, but for 4, 5
+ * and 6, which are unassigned there. Records of 24 bytes have document 01's: 4, 5 and 6 unassigned, alert blocks at 64, 128,
+ * 192 and 256, classes at 320 + 16k; tarravane_batch_24 carries them over.
  *
  * Those marked "twice" are shadowed, and take a value by two equal writes. The first is staged: it answers 0 and acts on
  * nothing. The second, equal one commits and answers 0. A second one that differs answers -12: the stage is gone, the
@@ -266,7 +294,16 @@ struct tarravane_installed {
  *
  * A class that waits for 65,536 events is not locked so: a 0 written to a class REGWEN that is still 1 answers -14 while the
  * class's EN, bit 0 of CTRL, is 1, whatever its line enables, and its ACCUM_THRESH is 65535. It changes nothing. What is
- * staged does not count. Set the threshold to 65534 or less, by two writes, and lock again. */
+ * staged does not count. Set the threshold to 65534 or less, by two writes, and lock again.
+ *
+ * The ping timer's: PING_TIMER_REGWEN locks the other two, for ever. PING_TIMEOUT_CYC is how many ticks a ping may stay open
+ * without an answer; at 0 it waits for ever. A 1 written to PING_TIMER_EN turns the timer on, and nothing turns it off: a
+ * written 0 answers 0 and does nothing, a 1 where it is on answers 0 and sets no turn; while PING_TIMER_REGWEN is 0 each
+ * write that fits answers -3.
+ * The order that works is PING_TIMEOUT_CYC above 0, PING_TIMER_EN, then PING_TIMER_REGWEN. Nothing stops another one, and two
+ * things are not promised: PING_TIMER_REGWEN locked before PING_TIMER_EN is 1 keeps the timer off for ever; and at timeout 0
+ * one sender that does not answer stops all later pings, of every alert and line. Once PING_TIMER_EN is 1, PING_TIMER_REGWEN
+ * is 0 and the timeout T is above 0, every turn, the one that stands then too, ends within 65,536 + T ticks. */
 
 /* A register number, whatever the type of an index. */
 #ifdef __cplusplus
@@ -278,6 +315,10 @@ struct tarravane_installed {
 #define TARRAVANE_INTR_STATE 0  /* 4 bits, a 1 clears */
 #define TARRAVANE_INTR_ENABLE 1 /* 4 bits */
 #define TARRAVANE_INTR_TEST 2   /* 4 bits, write only, a 1 sets INTR_STATE */
+
+#define TARRAVANE_PING_TIMER_REGWEN 4 /* 1 bit, a 0 locks */
+#define TARRAVANE_PING_TIMEOUT_CYC 5  /* 16 bits, twice */
+#define TARRAVANE_PING_TIMER_EN 6     /* 1 bit, a 1 sets, a 0 does nothing */
 
 #define TARRAVANE_LOC_ALERT_REGWEN(j) TARRAVANE_NUMBER(16 + (j)) /* 1 bit, a 0 locks */
 #define TARRAVANE_LOC_ALERT_EN(j) TARRAVANE_NUMBER(24 + (j))     /* 1 bit, twice */
@@ -326,8 +367,8 @@ struct tarravane_installed {
 /* ---- The functions ---- */
 
 /* Makes a handler for n alerts, 1 to 248: all REGWEN and CLR_REGWEN at 1, all CTRL at 0x393C, every other register at 0,
- * classes Idle, receivers ready, their ping pairs at (0,1) and no ping open, no stage, and so the entries at n and above;
- * answers 0.
+ * classes Idle, receivers ready, their ping pairs at (0,1) and no ping open, the ping timer off, no stage, and so the entries
+ * at n and above; answers 0.
  * -6: n is 0 or over 248. It leaves a handler of no alerts, otherwise as new. */
 TARRAVANE_RESULT
 struct tarravane_made tarravane_new(size_t n);
@@ -341,9 +382,18 @@ struct tarravane_made tarravane_new(size_t n);
  * A rise in the pause waits; one that is gone before its end is lost. Equal wires make local alert 2 occur, if both are
  * enabled, and hold the receiver where it is; an acknowledge change that is due comes all the same. Alerts that are not
  * enabled have their handshake too, and their events do nothing.
- * Pings: asking changes the level of the alert's ping pair and opens a ping, before the wires are read, so that a rise of this
- * tick can answer it. While one is open, and at n and above, asking does nothing. A rise that is taken while a ping is open
- * answers and closes it and is no event; any other that is taken is one event, in this tick.
+ * Pings: the ping timer opens them, in turns of an alert and of a line, an alert's first and lines 0 to 3 one after another. In
+ * the tick in which PING_TIMER_EN becomes 1, and in each in which a turn ends, the sample's word sets the next turn: its low
+ * 16 bits plus 1 are the ticks from there to the ping, its next 8 bits the alert, its top 8 count for nothing. A ping is due
+ * after the access and before the wires are read. An alert that is not locked and enabled then, at n and above too, is not
+ * pinged, and the turn ends. Else the ping opens; an alert's changes the level of its ping pair.
+ * A rise that is taken while the alert's ping is open, in the tick in which it opens too, answers and closes it and is no
+ * event; any other that is taken is one event, in this tick. A line's ping is answered by its bit of answers; a bit of a line
+ * whose ping is not open counts for nothing. A ping that is open and not answered up to and in the first tick that is
+ * PING_TIMEOUT_CYC or more ticks after it opened fails there: local alert 0 for an alert, 1 for a line, occurs if it is
+ * enabled, and enabled or not the ping closes. An answer and a failure end the turn.
+ * The caller owes a fresh word in each tick, one that nobody can foresee: who foresees it knows which alert is pinged next and
+ * when, and can answer there in place of a sender that was cut off.
  * -7: the state breaks its rule. State unchanged, tick not run, interrupts and lines 0, all pairs (0,1).
  * -5 (kind over 2), -1, -2, -4, -14, -3, -12, in this order: no register is changed by the access; the tick runs with its
  * sample. -3 and -12 drop the stage of the register that is named, the others touch none. */
@@ -352,57 +402,69 @@ struct tarravane_answered tarravane_tick(struct tarravane_handler h, uint8_t kin
                                          uint32_t value, struct tarravane_sample sample);
 
 /* Says what the tick of the same arguments hears: the alerts below n that have an event, enabled or not, those whose open ping
- * is answered, and the local alerts that occur, the enabled ones with a reason to. Its answer is the tick's. It changes
- * nothing: the tick itself is tarravane_tick.
+ * is answered, and the local alerts that occur, the enabled ones with a reason to: 0 and 1 where a ping fails. Its answer is
+ * the tick's. It changes nothing: the tick itself is tarravane_tick.
  * -7: the state breaks its rule. Nothing is heard: all bits 0. */
 TARRAVANE_RESULT
 struct tarravane_heard tarravane_hear(struct tarravane_handler h, uint8_t kind, uint16_t register_number, uint32_t value,
                                       struct tarravane_sample sample);
 
-/* Runs a tick for each record of 70 bytes, one after another from the state h, and writes a word for each at its place in
+/* Runs a tick for each record of 75 bytes, one after another from the state h, and writes a word for each at its place in
  * out: bits 63 to 60 interrupts (class 0 first), 59 to 56 lines (line 0 first), 55 to 52 the refusal number or 0, then 20
  * zeros and the 32 bits of the value that was read, or 0. Later words stay as they were. Gives the state after the last
  * tick, and 0. A record that gets refusal 1 to 5, 12 or 14 still takes its tick, and the batch goes on; its word says so.
- * Records ask for no pings, and words do not show the pairs; a ping that is open at the start is answered as in a tick.
- * -7: the state breaks its rule. -8: length is not a multiple of 70. -9: words is less than length / 70. In this order;
+ * A record ends with the entropy word, 32 bits, most significant first, and a byte of four zero bits and four answer bits,
+ * line 0 first: line 0 is bit 3 of that byte, and the lowest bit of a sample's answers. Zero bits that are not 0 make the
+ * record malformed (5); its word and answer bits count all the same. Words do not show the pairs.
+ * -7: the state breaks its rule. -8: length is not a multiple of 75. -9: words is less than length / 75. In this order;
  * each leaves state and list unchanged.
  * The caller owes: bytes points to length readable bytes, out to words writable words, aligned; they do not overlap;
  * neither is null, also where its length is 0. */
+TARRAVANE_RESULT
+struct tarravane_batched tarravane_batch_pings(struct tarravane_handler h, const uint8_t *bytes, size_t length, uint64_t *out,
+                                               size_t words);
+
+/* The same for records of 70 bytes, with 70 in place of 75. They have no word and no answer bits, and registers 4, 5 and 6
+ * are unassigned in them: refusal 1. So they never turn the ping timer on.
+ * -7 also where the timer is on, PING_TIMER_EN being 1, though the state keeps its rule, and with no bytes too. */
 TARRAVANE_RESULT
 struct tarravane_batched tarravane_batch_70(struct tarravane_handler h, const uint8_t *bytes, size_t length, uint64_t *out,
                                             size_t words);
 
 /* The same for records of 24 bytes, with 24 in place of 70. Their register numbers are document 01's and carried over: a
  * number that was unassigned then gets refusal 1, also where it names a register now. They have wires for 64 alerts.
- * -7 also for a state of more than 64 alerts, though it keeps its rule, and with no bytes too. */
+ * -7 also where the timer is on, and for a state of more than 64 alerts, though it keeps its rule, and with no bytes too. */
 TARRAVANE_RESULT
 struct tarravane_batched tarravane_batch_24(struct tarravane_handler h, const uint8_t *bytes, size_t length, uint64_t *out,
                                             size_t words);
 
-/* Writes a trace record of 70 bytes for each entry of the five lists, one after another from the start of bytes, and
- * answers the bytes written: 70 times the entries. Entry i of kinds, registers and values is the access of record i:
+/* Writes a trace record of 75 bytes for each entry of the seven lists, one after another from the start of bytes, and
+ * answers the bytes written: 75 times the entries. Entry i of kinds, registers and values is the access of record i:
  * TARRAVANE_NONE with register and value 0, TARRAVANE_READ with value 0, or TARRAVANE_WRITE. Its wires are the
  * TARRAVANE_WORDS words of positive and of negative from i * TARRAVANE_WORDS on, as in struct tarravane_wires; places 248
- * to 255 are left out, whatever they hold. Later bytes stay as they were. No entries: nothing is written, and it answers 0.
- * Reading what was written (tarravane_batch_70) gives these accesses and the wires of all 248 alerts; writing what was read
- * of a well-formed record gives its bytes.
+ * to 255 are left out, whatever they hold. Entry i of entropy is its word. Entry i of answers has line 0 at the lowest bit, as
+ * in struct tarravane_sample; bits 4 to 7 count for nothing and are left out.
+ * Later bytes stay as they were. No entries: nothing is written, and it answers 0.
+ * Reading what was written (tarravane_batch_pings) gives these accesses, the wires of all 248 alerts, words and answers;
+ * writing what was read of a well-formed record gives its bytes.
  * -10: an entry that no well-formed record holds (a kind over 2, TARRAVANE_NONE with a register or value, a read with a
  * value, a register over 2047), or lists of unequal lengths (positive and negative: TARRAVANE_WORDS for each entry).
- * -11: length is less than 70 times the entries. In this order; each leaves bytes as they were.
+ * -11: length is less than 75 times the entries. In this order; each leaves bytes as they were.
  * The caller owes: each list points to as many readable entries as its length says, aligned, and bytes to length writable
  * bytes that overlap none of them; no pointer is null, also where its length is 0. */
 TARRAVANE_RESULT
 int64_t tarravane_record(const uint8_t *kinds, size_t kinds_length, const uint16_t *registers, size_t registers_length,
                          const uint32_t *values, size_t values_length, const uint64_t *positive, size_t positive_length,
-                         const uint64_t *negative, size_t negative_length, uint8_t *bytes, size_t length);
+                         const uint64_t *negative, size_t negative_length, const uint32_t *entropy, size_t entropy_length,
+                         const uint8_t *answers, size_t answers_length, uint8_t *bytes, size_t length);
 
 /* Boots the state h: installs document 002's classification of alerts 0 to 57 and its class settings for the lifecycle, one
- * access a tick with all wires at (0,1) and no ping asked for. In this order, numbers rising: CLASS, then EN of each alert; ACCUM_THRESH,
- * TIMEOUT_CYC, PHASE0_CYC to PHASE3_CYC and CTRL of each class; REGWEN of each alert that is locked, and of class A. Each is
- * written, twice where it is shadowed, and read back right after.
+ * access a tick with all wires at (0,1), the entropy word 0 and no answer. In this order, numbers rising: CLASS, then EN of
+ * each alert; ACCUM_THRESH, TIMEOUT_CYC, PHASE0_CYC to PHASE3_CYC and CTRL of each class; REGWEN of each alert that is locked,
+ * and of class A. Each is written, twice where it is shadowed, and read back right after.
  * An alert that the table marks X gets CLASS 0 and EN 0, one marked A to D its class and EN 1. CTRL is 0x393C, with EN for
  * A and B in PROD, PROD_END and DEV, and with LOCK for A in PROD and PROD_END. Alerts marked A and class A are locked there
- * alone. Local alerts and alerts from 58 up are not written.
+ * alone. Local alerts, alerts from 58 up and the ping timer's registers are not written: boot first, then turn the timer on.
  * A lifecycle over 5 is none: PROD_END is installed then, the strictest.
  * All of it is installed and read back where the answer AND register_number are 0 (tarravane_all_installed); a new handler of
  * 58 alerts or more always gets there. Look at both: -7 and -13 have register_number 0 too, and a boot that stops where a
@@ -413,7 +475,8 @@ int64_t tarravane_record(const uint8_t *kinds, size_t kinds_length, const uint16
  * -7: the state breaks its rule. -13: n is under 58. In this order; either leaves the state unchanged, runs no tick and has
  * register_number 0.
  * A whole boot is 432 ticks, 474 in PROD and PROD_END, whose interrupts and lines nobody sees. A class that runs moves on in
- * them, its lines included; a stop by -12 raises local alert 5 where that is enabled, and so can start a class. */
+ * them, its lines included; a stop by -12 raises local alert 5 where that is enabled, and so can start a class. So does the
+ * ping timer where it is on: its pings open, get no answer and can fail, and every word is 0. */
 TARRAVANE_RESULT
 struct tarravane_installed tarravane_install(struct tarravane_handler h, uint8_t lifecycle);
 
@@ -447,8 +510,14 @@ TARRAVANE_ASSERT(offsetof(struct tarravane_receivers, pausing) == 0);
 TARRAVANE_ASSERT(offsetof(struct tarravane_receivers, busy) == 32);
 TARRAVANE_ASSERT(offsetof(struct tarravane_receivers, level) == 64);
 TARRAVANE_ASSERT(offsetof(struct tarravane_receivers, pending) == 96);
-TARRAVANE_ASSERT(sizeof(struct tarravane_links) == 128);
+TARRAVANE_ASSERT(sizeof(struct tarravane_turn) == 4);
+TARRAVANE_ASSERT(offsetof(struct tarravane_turn, number) == 0);
+TARRAVANE_ASSERT(offsetof(struct tarravane_turn, alert) == 1);
+TARRAVANE_ASSERT(offsetof(struct tarravane_turn, count) == 2);
+TARRAVANE_ASSERT(sizeof(struct tarravane_links) == 136);
 TARRAVANE_ASSERT(offsetof(struct tarravane_links, receivers) == 0);
+TARRAVANE_ASSERT(offsetof(struct tarravane_links, turn) == 128);
+TARRAVANE_ASSERT(offsetof(struct tarravane_links, lines) == 132);
 TARRAVANE_ASSERT(sizeof(struct tarravane_alerts) == 992);
 TARRAVANE_ASSERT(offsetof(struct tarravane_alerts, en) == 248);
 TARRAVANE_ASSERT(offsetof(struct tarravane_alerts, class_of) == 496);
@@ -459,6 +528,10 @@ TARRAVANE_ASSERT(offsetof(struct tarravane_locals, class_of) == 14);
 TARRAVANE_ASSERT(offsetof(struct tarravane_locals, cause) == 21);
 TARRAVANE_ASSERT(sizeof(struct tarravane_interrupts) == 4);
 TARRAVANE_ASSERT(offsetof(struct tarravane_interrupts, enable) == 2);
+TARRAVANE_ASSERT(sizeof(struct tarravane_timer) == 8);
+TARRAVANE_ASSERT(offsetof(struct tarravane_timer, timeout) == 0);
+TARRAVANE_ASSERT(offsetof(struct tarravane_timer, regwen) == 4);
+TARRAVANE_ASSERT(offsetof(struct tarravane_timer, enable) == 6);
 TARRAVANE_ASSERT(sizeof(struct tarravane_class_stages) == 48);
 TARRAVANE_ASSERT(offsetof(struct tarravane_class_stages, lengths) == 0);
 TARRAVANE_ASSERT(offsetof(struct tarravane_class_stages, timeout) == 32);
@@ -468,43 +541,46 @@ TARRAVANE_ASSERT(sizeof(struct tarravane_alert_stages) == 496);
 TARRAVANE_ASSERT(offsetof(struct tarravane_alert_stages, class_of) == 248);
 TARRAVANE_ASSERT(sizeof(struct tarravane_local_stages) == 56);
 TARRAVANE_ASSERT(offsetof(struct tarravane_local_stages, class_of) == 28);
-TARRAVANE_ASSERT(sizeof(struct tarravane_stages) == 744);
+TARRAVANE_ASSERT(sizeof(struct tarravane_stages) == 752);
 TARRAVANE_ASSERT(offsetof(struct tarravane_stages, classes) == 0);
 TARRAVANE_ASSERT(offsetof(struct tarravane_stages, alerts) == 192);
 TARRAVANE_ASSERT(offsetof(struct tarravane_stages, locals) == 688);
-TARRAVANE_ASSERT(sizeof(struct tarravane_handler) == 2048);
+TARRAVANE_ASSERT(offsetof(struct tarravane_stages, timeout) == 744);
+TARRAVANE_ASSERT(sizeof(struct tarravane_handler) == 2072);
 TARRAVANE_ASSERT(offsetof(struct tarravane_handler, n) == 0);
 TARRAVANE_ASSERT(offsetof(struct tarravane_handler, links) == 8);
-TARRAVANE_ASSERT(offsetof(struct tarravane_handler, classes) == 136);
-TARRAVANE_ASSERT(offsetof(struct tarravane_handler, alerts) == 280);
-TARRAVANE_ASSERT(offsetof(struct tarravane_handler, locals) == 1272);
-TARRAVANE_ASSERT(offsetof(struct tarravane_handler, interrupts) == 1300);
-TARRAVANE_ASSERT(offsetof(struct tarravane_handler, stages) == 1304);
+TARRAVANE_ASSERT(offsetof(struct tarravane_handler, classes) == 144);
+TARRAVANE_ASSERT(offsetof(struct tarravane_handler, alerts) == 288);
+TARRAVANE_ASSERT(offsetof(struct tarravane_handler, locals) == 1280);
+TARRAVANE_ASSERT(offsetof(struct tarravane_handler, interrupts) == 1308);
+TARRAVANE_ASSERT(offsetof(struct tarravane_handler, timer) == 1312);
+TARRAVANE_ASSERT(offsetof(struct tarravane_handler, stages) == 1320);
 TARRAVANE_ASSERT(sizeof(struct tarravane_wires) == 64);
 TARRAVANE_ASSERT(offsetof(struct tarravane_wires, neg) == 32);
-TARRAVANE_ASSERT(sizeof(struct tarravane_sample) == 96);
+TARRAVANE_ASSERT(sizeof(struct tarravane_sample) == 72);
 TARRAVANE_ASSERT(offsetof(struct tarravane_sample, alerts) == 0);
-TARRAVANE_ASSERT(offsetof(struct tarravane_sample, asks) == 64);
+TARRAVANE_ASSERT(offsetof(struct tarravane_sample, word) == 64);
+TARRAVANE_ASSERT(offsetof(struct tarravane_sample, answers) == 68);
 TARRAVANE_ASSERT(sizeof(struct tarravane_output) == 136);
 TARRAVANE_ASSERT(offsetof(struct tarravane_output, lines) == 4);
 TARRAVANE_ASSERT(offsetof(struct tarravane_output, acknowledge) == 8);
 TARRAVANE_ASSERT(offsetof(struct tarravane_output, ping) == 72);
-TARRAVANE_ASSERT(sizeof(struct tarravane_made) == 2056);
-TARRAVANE_ASSERT(offsetof(struct tarravane_made, answer) == 2048);
-TARRAVANE_ASSERT(sizeof(struct tarravane_answered) == 2192);
-TARRAVANE_ASSERT(offsetof(struct tarravane_answered, answer) == 2048);
-TARRAVANE_ASSERT(offsetof(struct tarravane_answered, output) == 2056);
+TARRAVANE_ASSERT(sizeof(struct tarravane_made) == 2080);
+TARRAVANE_ASSERT(offsetof(struct tarravane_made, answer) == 2072);
+TARRAVANE_ASSERT(sizeof(struct tarravane_answered) == 2216);
+TARRAVANE_ASSERT(offsetof(struct tarravane_answered, answer) == 2072);
+TARRAVANE_ASSERT(offsetof(struct tarravane_answered, output) == 2080);
 TARRAVANE_ASSERT(sizeof(struct tarravane_heard) == 80);
 TARRAVANE_ASSERT(offsetof(struct tarravane_heard, events) == 0);
 TARRAVANE_ASSERT(offsetof(struct tarravane_heard, answers) == 32);
 TARRAVANE_ASSERT(offsetof(struct tarravane_heard, locals) == 64);
 TARRAVANE_ASSERT(offsetof(struct tarravane_heard, answer) == 72);
-TARRAVANE_ASSERT(sizeof(struct tarravane_batched) == 2056);
-TARRAVANE_ASSERT(offsetof(struct tarravane_batched, answer) == 2048);
-TARRAVANE_ASSERT(sizeof(struct tarravane_installed) == 2064);
-TARRAVANE_ASSERT(offsetof(struct tarravane_installed, answer) == 2048);
-TARRAVANE_ASSERT(offsetof(struct tarravane_installed, register_number) == 2056);
-TARRAVANE_ASSERT(offsetof(struct tarravane_installed, spare) == 2058);
+TARRAVANE_ASSERT(sizeof(struct tarravane_batched) == 2080);
+TARRAVANE_ASSERT(offsetof(struct tarravane_batched, answer) == 2072);
+TARRAVANE_ASSERT(sizeof(struct tarravane_installed) == 2088);
+TARRAVANE_ASSERT(offsetof(struct tarravane_installed, answer) == 2072);
+TARRAVANE_ASSERT(offsetof(struct tarravane_installed, register_number) == 2080);
+TARRAVANE_ASSERT(offsetof(struct tarravane_installed, spare) == 2082);
 
 TARRAVANE_ASSERT(sizeof(struct tarravane_class) == TARRAVANE_SIZE(class, lengths) + TARRAVANE_SIZE(class, timeout) +
                  TARRAVANE_SIZE(class, count) + TARRAVANE_SIZE(class, ctrl) + TARRAVANE_SIZE(class, accum) +
@@ -512,13 +588,18 @@ TARRAVANE_ASSERT(sizeof(struct tarravane_class) == TARRAVANE_SIZE(class, lengths
                  TARRAVANE_SIZE(class, state));
 TARRAVANE_ASSERT(sizeof(struct tarravane_receivers) == TARRAVANE_SIZE(receivers, pausing) + TARRAVANE_SIZE(receivers, busy) +
                  TARRAVANE_SIZE(receivers, level) + TARRAVANE_SIZE(receivers, pending));
-TARRAVANE_ASSERT(sizeof(struct tarravane_links) == TARRAVANE_SIZE(links, receivers));
+TARRAVANE_ASSERT(sizeof(struct tarravane_turn) == TARRAVANE_SIZE(turn, number) + TARRAVANE_SIZE(turn, alert) +
+                 TARRAVANE_SIZE(turn, count));
+TARRAVANE_ASSERT(sizeof(struct tarravane_links) == TARRAVANE_SIZE(links, receivers) + TARRAVANE_SIZE(links, turn) +
+                 TARRAVANE_SIZE(links, lines));
 TARRAVANE_ASSERT(sizeof(struct tarravane_alerts) == TARRAVANE_SIZE(alerts, regwen) + TARRAVANE_SIZE(alerts, en) +
                  TARRAVANE_SIZE(alerts, class_of) + TARRAVANE_SIZE(alerts, cause));
 TARRAVANE_ASSERT(sizeof(struct tarravane_locals) == TARRAVANE_SIZE(locals, regwen) + TARRAVANE_SIZE(locals, en) +
                  TARRAVANE_SIZE(locals, class_of) + TARRAVANE_SIZE(locals, cause));
 TARRAVANE_ASSERT(sizeof(struct tarravane_interrupts) == TARRAVANE_SIZE(interrupts, state) +
                  TARRAVANE_SIZE(interrupts, enable));
+TARRAVANE_ASSERT(sizeof(struct tarravane_timer) == TARRAVANE_SIZE(timer, timeout) + TARRAVANE_SIZE(timer, regwen) +
+                 TARRAVANE_SIZE(timer, enable));
 TARRAVANE_ASSERT(sizeof(struct tarravane_class_stages) == TARRAVANE_SIZE(class_stages, lengths) +
                  TARRAVANE_SIZE(class_stages, timeout) + TARRAVANE_SIZE(class_stages, ctrl) +
                  TARRAVANE_SIZE(class_stages, thresh));
@@ -527,12 +608,13 @@ TARRAVANE_ASSERT(sizeof(struct tarravane_alert_stages) == TARRAVANE_SIZE(alert_s
 TARRAVANE_ASSERT(sizeof(struct tarravane_local_stages) == TARRAVANE_SIZE(local_stages, en) +
                  TARRAVANE_SIZE(local_stages, class_of));
 TARRAVANE_ASSERT(sizeof(struct tarravane_stages) == TARRAVANE_SIZE(stages, classes) + TARRAVANE_SIZE(stages, alerts) +
-                 TARRAVANE_SIZE(stages, locals));
+                 TARRAVANE_SIZE(stages, locals) + TARRAVANE_SIZE(stages, timeout));
 TARRAVANE_ASSERT(sizeof(struct tarravane_handler) == TARRAVANE_SIZE(handler, n) + TARRAVANE_SIZE(handler, links) +
                  TARRAVANE_SIZE(handler, classes) + TARRAVANE_SIZE(handler, alerts) + TARRAVANE_SIZE(handler, locals) +
-                 TARRAVANE_SIZE(handler, interrupts) + TARRAVANE_SIZE(handler, stages));
+                 TARRAVANE_SIZE(handler, interrupts) + TARRAVANE_SIZE(handler, timer) + TARRAVANE_SIZE(handler, stages));
 TARRAVANE_ASSERT(sizeof(struct tarravane_wires) == TARRAVANE_SIZE(wires, pos) + TARRAVANE_SIZE(wires, neg));
-TARRAVANE_ASSERT(sizeof(struct tarravane_sample) == TARRAVANE_SIZE(sample, alerts) + TARRAVANE_SIZE(sample, asks));
+TARRAVANE_ASSERT(sizeof(struct tarravane_sample) == TARRAVANE_SIZE(sample, alerts) + TARRAVANE_SIZE(sample, word) +
+                 TARRAVANE_SIZE(sample, answers));
 TARRAVANE_ASSERT(sizeof(struct tarravane_output) == TARRAVANE_SIZE(output, interrupts) + TARRAVANE_SIZE(output, lines) +
                  TARRAVANE_SIZE(output, acknowledge) + TARRAVANE_SIZE(output, ping));
 TARRAVANE_ASSERT(sizeof(struct tarravane_made) == TARRAVANE_SIZE(made, handler) + TARRAVANE_SIZE(made, answer));

@@ -19,8 +19,8 @@ kit() {
   echo "$kit"
 }
 
-# The bytes of a record, which the compiler holds to these.
-editions() { sed -n 's/^ *assert!(Alerts[0-9]*\.bytes() == \([0-9]*\));$/\1/p' "$here/tools/handler/src/edition.rs" | tr '\n' ' ' | sed 's/ $//; s/ /, /g'; }
+# Their names, from the lines that give them.
+editions() { sed -n 's/^ *[A-Z][A-Za-z0-9]* => "\([a-z0-9]*\)",$/\1/p' "$here/tools/handler/src/edition.rs" | tr '\n' ' ' | sed 's/ $//; s/ /, /g'; }
 
 compiler() { rustc --version 2>/dev/null || echo 'unknown (rustc is not on the path)'; }
 

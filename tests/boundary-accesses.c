@@ -3,6 +3,20 @@
 
 /* ---- Each field stands where the register of its name reads and writes it ---- */
 
+/* Receivers in every place; the turn's ping is open, and beside it what is no alert's and no line's. */
+static void links_told_apart(handler *h) {
+    for (unsigned v = 0; v < TARRAVANE_WORDS; v++) {
+        h->links.receivers.pausing[v] = UINT64_C(0x0123456789ABCDEF) * (v + 1);
+        h->links.receivers.busy[v] = UINT64_C(0x13579BDF02468ACE) * (v + 1);
+        h->links.receivers.level[v] = UINT64_C(0xFEDCBA9876543210) * (v + 1);
+    }
+    h->links.turn = (struct tarravane_turn){0x12, 77, 0x3456};
+    h->links.receivers.pending[1] = bit_of_alert(77);
+    h->links.receivers.pending[3] = 0xA5;
+    h->links.lines = 0x87654320u;
+    h->timer = (struct tarravane_timer){0xBEEF, 0, 1};
+}
+
 static handler told_apart(void) {
     handler h = new_handler(TARRAVANE_ALERTS);
     for (unsigned i = 0; i < TARRAVANE_ALERTS; i++) {
@@ -31,12 +45,7 @@ static handler told_apart(void) {
     }
     h.interrupts.state = 0x6;
     h.interrupts.enable = 0xD;
-    for (unsigned v = 0; v < TARRAVANE_WORDS; v++) {
-        h.links.receivers.pausing[v] = UINT64_C(0x0123456789ABCDEF) * (v + 1);
-        h.links.receivers.busy[v] = UINT64_C(0x13579BDF02468ACE) * (v + 1);
-        h.links.receivers.level[v] = UINT64_C(0xFEDCBA9876543210) * (v + 1);
-        h.links.receivers.pending[v] = UINT64_C(0x0F1E2D3C4B5A6978) * (v + 1);
-    }
+    links_told_apart(&h);
     /* The largest value staged, which no read shows. */
     for (int i = 0; i < SHADOWED; i++) set_stage(&h, &all_shadowed()[i], UINT64_C(1) << all_shadowed()[i].bits);
     return h;
@@ -75,6 +84,11 @@ static void fields(void) {
     CHECK(read_of(&h, TARRAVANE_INTR_STATE) == h.interrupts.state);
     CHECK(read_of(&h, TARRAVANE_INTR_ENABLE) == h.interrupts.enable);
     CHECK(read_of(&h, TARRAVANE_INTR_TEST) == -TARRAVANE_WRONG_WAY);
+    CHECK(read_of(&h, TARRAVANE_PING_TIMER_REGWEN) == h.timer.regwen);
+    CHECK(read_of(&h, TARRAVANE_PING_TIMEOUT_CYC) == h.timer.timeout);
+    CHECK(read_of(&h, TARRAVANE_PING_TIMER_EN) == h.timer.enable);
+    struct tarravane_answered t = tarravane_tick(h, TARRAVANE_NONE, 0, 0, at_rest);
+    CHECK(t.handler.links.lines == h.links.lines && t.handler.links.turn.count == h.links.turn.count + 1);
 }
 
 /* How a register is written: once, or where it is shadowed by `configure`. */
@@ -131,8 +145,9 @@ static void making(void) {
         CHECK(read_of(&h, TARRAVANE_ALERT_REGWEN((int)n)) == -TARRAVANE_NO_REGISTER);
         for (size_t i = 0; i < TARRAVANE_ALERTS; i++)
             CHECK(h.alerts.regwen[i] == 1 && h.alerts.en[i] + h.alerts.class_of[i] + h.alerts.cause[i] == 0);
-        static const struct tarravane_receivers ready;
-        CHECK(memcmp(&h.links.receivers, &ready, sizeof ready) == 0);
+        static const struct tarravane_links ready;
+        CHECK(memcmp(&h.links, &ready, sizeof ready) == 0);
+        CHECK(h.timer.timeout == 0 && h.timer.regwen == 1 && h.timer.enable == 0);
         for (int i = 0; i < SHADOWED; i++) CHECK(stage_of(&h, &all_shadowed()[i]) == 0);
     }
     handler none = new_handler(1);
@@ -145,7 +160,7 @@ static void making(void) {
 }
 
 static void answers(void) {
-    static const int none[] = {3, 255, 257, 504, 1025, 1279, 1293, 1344, 2047, 2048, 65535};
+    static const int none[] = {3, 7, 15, 255, 257, 504, 1025, 1279, 1293, 1344, 2047, 2048, 65535};
     handler h = new_handler(1);
     CHECK(configure(&h, TARRAVANE_CLASS_TIMEOUT_CYC(3), UINT32_MAX) == 0);
     CHECK(read_of(&h, TARRAVANE_CLASS_TIMEOUT_CYC(3)) == INT64_C(4294967295));

@@ -28,20 +28,21 @@ struct results {
 };
 
 static void run(struct results *r, unsigned char byte) {
-    static const uint8_t records[2 * TARRAVANE_RECORD_70];
+    static const uint8_t records[2 * TARRAVANE_RECORD_PINGS];
     static uint64_t words[2];
     GIVEN(struct tarravane_made, made, tarravane_new(TARRAVANE_ALERTS));
     GIVEN(struct tarravane_made, refused, tarravane_new(0));
-    struct tarravane_sample asking = raised(247);
-    asking.asks[1] = 1;
-    GIVEN(struct tarravane_answered, tick, tarravane_tick(made.handler, TARRAVANE_WRITE, TARRAVANE_CLASS_CTRL(3), 1, asking));
-    GIVEN(struct tarravane_heard, heard, tarravane_hear(made.handler, TARRAVANE_WRITE, TARRAVANE_CLASS_CTRL(3), 1, asking));
+    struct tarravane_sample drawn = raised(247);
+    drawn.word = drawing(9, 300);
+    drawn.answers = UINT32_MAX;
+    GIVEN(struct tarravane_answered, tick, tarravane_tick(made.handler, TARRAVANE_WRITE, TARRAVANE_PING_TIMER_EN, 1, drawn));
+    GIVEN(struct tarravane_heard, heard, tarravane_hear(made.handler, TARRAVANE_WRITE, TARRAVANE_PING_TIMER_EN, 1, drawn));
     handler bad = tick.handler;
     bad.n = SIZE_MAX;
     GIVEN(struct tarravane_answered, broken, tarravane_tick(bad, TARRAVANE_READ, 0, 0, at_rest));
-    GIVEN(struct tarravane_heard, unheard, tarravane_hear(bad, TARRAVANE_READ, 0, 0, asking));
-    GIVEN(struct tarravane_batched, batch, tarravane_batch_70(tick.handler, records, sizeof records, words, 2));
-    GIVEN(struct tarravane_batched, uneven, tarravane_batch_70(tick.handler, records, 1, words, 2));
+    GIVEN(struct tarravane_heard, unheard, tarravane_hear(bad, TARRAVANE_READ, 0, 0, drawn));
+    GIVEN(struct tarravane_batched, batch, tarravane_batch_pings(tick.handler, records, sizeof records, words, 2));
+    GIVEN(struct tarravane_batched, uneven, tarravane_batch_pings(tick.handler, records, 1, words, 2));
     GIVEN(struct tarravane_installed, boot, tarravane_install(made.handler, TARRAVANE_LIFECYCLE_PROD));
     GIVEN(struct tarravane_installed, stopped, tarravane_install(boot.handler, TARRAVANE_LIFECYCLE_PROD));
     *r = (struct results){made, refused, tick, broken, heard, unheard, batch, uneven, boot, stopped};
@@ -65,9 +66,9 @@ static void other_ways(const struct results *r) {
     for (int i = 0; i < 2; i++) h = tarravane_tick(h, TARRAVANE_NONE, 0, 0, sample_of(wires_of(0, 0))).handler;
     CHECK(same(&h, &r->batch.handler));
     CHECK(same(&r->uneven.handler, &r->tick.handler));
-    made.stages.classes[3].ctrl = 2;
     made.links.receivers.busy[3] = UINT64_C(1) << 8;
-    made.links.receivers.level[1] = made.links.receivers.pending[1] = 1;
+    made.links.turn = (struct tarravane_turn){0, 9, 300};
+    made.timer.enable = 1;
     CHECK(same(&made, &r->tick.handler));
     made = booted(new_handler(TARRAVANE_ALERTS), TARRAVANE_LIFECYCLE_PROD, boot_entries(TARRAVANE_LIFECYCLE_PROD));
     CHECK(same(&made, &r->boot.handler) && same(&made, &r->stopped.handler));

@@ -1,5 +1,6 @@
-/* The alerts' receivers from C's side: every alert in every place of the handshake, on every pair of wires, asked for a ping or
- * not, beside a receiver that is written here from request (viii)'s words; and what is at N and above. */
+/* The alerts' receivers from C's side: every alert in every place of the handshake, on every pair of wires, and the turn's
+ * alert with its ping open, due or to come, beside a receiver that is written here from request (viii)'s words; and what is at
+ * N and above. */
 #include "boundary.h"
 
 #define PLACES (64 * TARRAVANE_WORDS)
@@ -72,7 +73,7 @@ static void pair_is(const struct tarravane_wires *w, size_t i, bool high) {
 
 /* ---- Every place, on every input ---- */
 
-#define CASES (4 * 2 * 2 * 2 * 4) /* place, level, open, asked for, pair of wires */
+#define CASES (4 * 2 * 2 * 2 * 4) /* place, level, open, due, pair of wires */
 
 static struct receiver receiver_of(size_t number) {
     return (struct receiver){(enum place)(number % 4), number / 4 % 2, number / 8 % 2};
@@ -82,37 +83,66 @@ static struct given given_of(size_t number) {
     return (struct given){number / 16 % 2, number / 32 % 2, number / 64 % 2};
 }
 
-/* Each place of the words, those that are no alert's too, gets its own case. */
-static void set_up(size_t shift, handler *h, struct tarravane_sample *s) {
+/* Below N the turn's alert alone has its ping open, or due where it is not. */
+static struct receiver receiver_at(size_t n, size_t shift, size_t i, size_t drawn) {
+    struct receiver r = receiver_of(i + shift);
+    r.open &= i >= n || i == drawn;
+    return r;
+}
+
+static struct given given_at(size_t n, size_t shift, size_t i, size_t drawn) {
+    struct given in = given_of(i + shift);
+    in.ask &= i == drawn && i < n;
+    return in;
+}
+
+/* Each place of the words, those that are no alert's too, gets its own case. The drawn alert is locked and enabled; its ping
+ * waits for its answer. */
+static void set_up(size_t shift, size_t drawn, handler *h, struct tarravane_sample *s) {
     for (size_t i = 0; i < PLACES; i++) {
         struct given in = given_of(i + shift);
-        put(&h->links.receivers, i, receiver_of(i + shift));
-        set_bit(s->asks, i, in.ask);
+        put(&h->links.receivers, i, receiver_at(h->n, shift, i, drawn));
         set_bit(s->alerts.pos, i, in.pos);
         set_bit(s->alerts.neg, i, in.neg);
     }
-    for (size_t i = 0; i < TARRAVANE_ALERTS; i++) h->alerts.en[i] = i / 8 % 2;
+    for (size_t i = 0; i < TARRAVANE_ALERTS; i++) h->alerts.en[i] = i == drawn || i / 8 % 2;
+    if (drawn < TARRAVANE_ALERTS) h->alerts.regwen[drawn] = 0;
     h->locals.en[2] = 1;
+    h->timer.enable = 1;
+    h->links.turn = (struct tarravane_turn){0, (uint8_t)drawn, given_of(drawn + shift).ask ? 0 : 9};
+    s->word = drawing(77, 5);
+}
+
+/* The turn after the tick: an answer, and a due ping of what is no alert, end it; else its count moves on. */
+static struct tarravane_turn turn_after(const handler *h, bool was_open, bool answered) {
+    struct tarravane_turn t = h->links.turn;
+    bool is_due = !was_open && t.count == 0;
+    if (answered || (is_due && t.alert >= h->n)) return (struct tarravane_turn){1, 77, 5};
+    if (was_open) t.count++;
+    else if (!is_due) t.count--;
+    return t;
 }
 
 /* One tick of n alerts: each does what the receiver above does; places from n up show (0,1), hear nothing and keep their bits. */
-static void every_place(size_t n, size_t shift) {
+static void every_place(size_t n, size_t shift, size_t drawn) {
     handler h = new_handler(n);
     struct tarravane_sample s = at_rest;
-    set_up(shift, &h, &s);
+    set_up(shift, drawn, &h, &s);
     handler wanted = h;
+    bool was_open = drawn < n && receiver_at(n, shift, drawn, drawn).open, answered = false;
     struct tarravane_answered t = tarravane_tick(h, TARRAVANE_NONE, 0, 0, s);
     struct tarravane_heard heard = tarravane_hear(h, TARRAVANE_NONE, 0, 0, s);
     bool equal = false;
     for (size_t i = 0; i < PLACES; i++) {
-        struct receiver r = receiver_of(i + shift);
-        struct given in = given_of(i + shift);
+        struct receiver r = receiver_at(n, shift, i, drawn);
+        struct given in = given_at(n, shift, i, drawn);
         struct shown out = {0};
         if (i < n) {
             out = receive(&r, in);
             equal |= in.pos == in.neg && h.alerts.en[i];
             if (out.event && h.alerts.en[i]) wanted.alerts.cause[i] = 1;
         }
+        answered |= out.answer;
         put(&wanted.links.receivers, i, r);
         pair_is(&t.output.acknowledge, i, out.acknowledge);
         pair_is(&t.output.ping, i, out.ping);
@@ -120,6 +150,7 @@ static void every_place(size_t n, size_t shift) {
         CHECK(bit_of(heard.answers, i) == out.answer);
     }
     wanted.locals.cause[2] = equal;
+    wanted.links.turn = turn_after(&h, was_open, answered);
     CHECK(heard.locals == (equal ? 1u << 2 : 0) && heard.answer == 0);
     CHECK(t.answer == 0 && same(&t.handler, &wanted));
 }
@@ -143,7 +174,7 @@ static void refused(size_t shift) {
     static const struct tarravane_heard nothing = {.answer = -TARRAVANE_BAD_STATE};
     handler h = new_handler(TARRAVANE_ALERTS), broken;
     struct tarravane_sample s = at_rest;
-    set_up(shift, &h, &s);
+    set_up(shift, 9, &h, &s);
     broken = h;
     broken.interrupts.enable = 16;
     struct tarravane_answered t = tarravane_tick(broken, TARRAVANE_NONE, 0, 0, s);
@@ -154,14 +185,19 @@ static void refused(size_t shift) {
     CHECK(memcmp(&heard, &nothing, sizeof heard) == 0);
     struct tarravane_sample quiet = at_rest;
     t = tarravane_tick(h, TARRAVANE_NONE, 0, 0, quiet);
-    for (size_t i = 0; i < TARRAVANE_ALERTS; i++) pair_is(&t.output.ping, i, receiver_of(i + shift).level);
+    for (size_t i = 0; i < TARRAVANE_ALERTS; i++)
+        if (i != 9) pair_is(&t.output.ping, i, receiver_of(i + shift).level);
 }
 
 void test_links(void) {
     static const size_t counts[] = {1, 2, 63, 64, 65, 127, 128, 129, 191, 192, 193, 247, 248};
     for (size_t c = 0; c < sizeof counts / sizeof *counts; c++) {
         at_reset(counts[c]);
-        for (size_t shift = 0; shift < CASES; shift++) every_place(counts[c], shift);
+        const size_t drawn[] = {0, counts[c] - 1, counts[c], 247, 248, 255};
+        for (size_t shift = 0; shift < CASES; shift++) {
+            every_place(counts[c], shift, shift * 37 % 256);
+            for (size_t d = 0; d < sizeof drawn / sizeof *drawn; d++) every_place(counts[c], shift, drawn[d]);
+        }
     }
     for (size_t shift = 0; shift < CASES; shift++) refused(shift);
 }

@@ -35,6 +35,7 @@ static void add_class(int k) {
 
 const struct shadowed *all_shadowed(void) {
     if (filled == 0) {
+        add(TARRAVANE_PING_TIMEOUT_CYC, TARRAVANE_PING_TIMER_REGWEN, 16, STAGE(timeout), 8);
         add_sources();
         for (int k = 0; k < TARRAVANE_CLASSES; k++) add_class(k);
         CHECK(filled == SHADOWED);

@@ -6,14 +6,17 @@
 static const struct tarravane_output nothing = {0, 0, LOW, LOW};
 
 static void refused(const handler *h) {
-    static const uint8_t record[TARRAVANE_RECORD_70];
+    static const uint8_t record[TARRAVANE_RECORD_PINGS];
     uint64_t word = 7;
     struct tarravane_answered t = tarravane_tick(*h, TARRAVANE_READ, TARRAVANE_INTR_STATE, 0, at_rest);
     CHECK(t.answer == -TARRAVANE_BAD_STATE);
     CHECK(memcmp(&t.output, &nothing, sizeof nothing) == 0);
     CHECK(same(&t.handler, h));
     /* 7 comes before 8, 8 before 9 */
-    struct tarravane_batched b = tarravane_batch_70(*h, record, TARRAVANE_RECORD_70 - 1, &word, 0);
+    struct tarravane_batched b = tarravane_batch_pings(*h, record, TARRAVANE_RECORD_PINGS - 1, &word, 0);
+    CHECK(b.answer == -TARRAVANE_BAD_STATE);
+    CHECK(same(&b.handler, h));
+    b = tarravane_batch_70(*h, record, TARRAVANE_RECORD_70 - 1, &word, 0);
     CHECK(b.answer == -TARRAVANE_BAD_STATE);
     CHECK(same(&b.handler, h));
     b = tarravane_batch_24(*h, record, TARRAVANE_RECORD_24 - 1, &word, 0);
@@ -26,12 +29,12 @@ static void accepted(const handler *h) {
     CHECK(tarravane_tick(*h, TARRAVANE_NONE, 0, 0, at_rest).answer == 0);
 }
 
-/* An interrupt register of 4 bits in 16: each bit above them is refused, what fits is not. */
-static void narrow_interrupts(handler *h, uint16_t *field) {
+/* A register of few bits in 16: each bit above them is refused, what fits is not. */
+static void narrow_16(handler *h, uint16_t *field, int bits) {
     uint16_t old = *field;
     for (int b = 0; b < 16; b++) {
         *field = (uint16_t)(old | 1u << b);
-        if (b < 4) accepted(h);
+        if (b < bits) accepted(h);
         else refused(h);
     }
     *field = old;
@@ -119,6 +122,19 @@ static void damage_stage(handler *h, const struct shadowed *s) {
     set_stage(h, s, 0);
 }
 
+/* The ping timer's registers: the timeout has 16 bits in 32. */
+static void damage_timer(handler *h) {
+    struct tarravane_timer old = h->timer;
+    narrow_16(h, &h->timer.regwen, 1);
+    narrow_16(h, &h->timer.enable, 1);
+    for (int b = 0; b < 32; b++) {
+        h->timer.timeout = UINT32_C(1) << b;
+        if (b < 16) accepted(h);
+        else refused(h);
+    }
+    h->timer = old;
+}
+
 static void damages(void) {
     static const size_t over[] = {249, 250, 256, (size_t)1 << 32, (size_t)1 << 63, SIZE_MAX};
     handler h = new_handler(TARRAVANE_ALERTS);
@@ -129,8 +145,9 @@ static void damages(void) {
     damage_columns(&h, l->regwen, l->en, l->class_of, l->cause, TARRAVANE_LOCALS);
     for (int k = 0; k < TARRAVANE_CLASSES; k++) damage_class(&h, &h.classes[k]);
     for (int i = 0; i < SHADOWED; i++) damage_stage(&h, &all_shadowed()[i]);
-    narrow_interrupts(&h, &h.interrupts.state);
-    narrow_interrupts(&h, &h.interrupts.enable);
+    narrow_16(&h, &h.interrupts.state, 4);
+    narrow_16(&h, &h.interrupts.enable, 4);
+    damage_timer(&h);
     for (size_t i = 0; i < sizeof over / sizeof *over; i++) {
         h.n = over[i];
         refused(&h);
@@ -164,9 +181,12 @@ static void patterns(void) {
         h.n = TARRAVANE_ALERTS;
         if (byte == 0) accepted(&h);
         else refused(&h);
-        /* Without stages, and with the byte alone where a field is wider than its register: a 1 fits everywhere. */
+        /* Without stages and open pings of alerts, and with the byte alone where a field is wider than its register: a 1 fits
+         * everywhere. Line 0's ping is open then, and it is its turn. */
         memset(&h.stages, 0, sizeof h.stages);
         h.interrupts.state = h.interrupts.enable = (uint16_t)byte;
+        h.timer = (struct tarravane_timer){(uint32_t)byte, (uint16_t)byte, (uint16_t)byte};
+        memset(h.links.receivers.pending, 0, sizeof h.links.receivers.pending);
         for (int k = 0; k < TARRAVANE_CLASSES; k++) h.classes[k].state = (uint32_t)byte;
         if (byte <= 1) accepted(&h);
         else refused(&h);
@@ -197,6 +217,7 @@ static void old_batches(void) {
         }
         accepted(&h);
         CHECK(tarravane_batch_70(h, records, 0, &word, 0).answer == 0);
+        CHECK(tarravane_batch_pings(h, records, 0, &word, 0).answer == 0);
     }
 }
 

@@ -1,4 +1,4 @@
-/* Traces of both editions: batch, single ticks and the replay program give the same words, and a batch stays in its list. */
+/* Traces of every edition: batch, single ticks and the replay program give the same words, and a batch stays in its list. */
 #include "boundary.h"
 
 #define GUARD UINT64_C(0x5EA15EA15EA15EA1)
@@ -10,11 +10,17 @@ struct edition {
     size_t bytes;      /* of a record */
     size_t wire_bytes; /* of its positive wires, and of its negative ones */
     unsigned zeros;    /* the zero bits behind its register */
+    size_t tail;       /* the bytes behind its wires */
     struct tarravane_batched (*batch)(handler, const uint8_t *, size_t, uint64_t *, size_t);
 };
 
-static const struct edition first_edition = {TARRAVANE_RECORD_24, 8, 20, tarravane_batch_24};
-static const struct edition newest = {TARRAVANE_RECORD_70, 31, 19, tarravane_batch_70};
+static const struct edition first_edition = {TARRAVANE_RECORD_24, 8, 20, 0, tarravane_batch_24};
+static const struct edition second_edition = {TARRAVANE_RECORD_70, 31, 19, 0, tarravane_batch_70};
+static const struct edition newest = {TARRAVANE_RECORD_PINGS, 31, 19, 5, tarravane_batch_pings};
+
+static const struct edition *edition_by(uint8_t first) {
+    return first == 255 ? &second_edition : first == 254 ? &newest : &first_edition;
+}
 
 static uint64_t number_at(const uint8_t *bytes, size_t count) {
     uint64_t n = 0;
@@ -22,19 +28,22 @@ static uint64_t number_at(const uint8_t *bytes, size_t count) {
     return n;
 }
 
-/* The number of a register in a record of 24 bytes, carried over; 3 is no register. */
-static uint16_t carried(unsigned number) {
-    if (number < 64) return (uint16_t)number;
+/* The number of a register in a record of the edition, carried over; 3 is no register. The ping timer's are the newest's. */
+static uint16_t carried(const struct edition *e, unsigned number) {
+    if (e != &newest && number >= 4 && number <= 6) return 3;
+    if (number < 64 || e != &first_edition) return (uint16_t)number;
     if (number < 320) return (uint16_t)(number / 64 * 256 + number % 64);
     return (uint16_t)(number < 384 ? 1280 + (number - 320) : 3);
 }
 
-/* The first 8 bytes of a record are malformed. */
-static bool malformed(const struct edition *e, uint64_t first) {
+/* By its first 8 bytes, or by the zero bits before its answers. */
+static bool malformed(const struct edition *e, const uint8_t *record) {
+    uint64_t first = number_at(record, 8);
     unsigned kind = (unsigned)(first >> 62);
     uint32_t head = (uint32_t)(first >> 32), value = (uint32_t)first;
     unsigned number = (head & 0x3FFFFFFF) >> e->zeros;
     if (kind == 3 || (head & ((UINT32_C(1) << e->zeros) - 1)) != 0) return true;
+    if (e->tail > 0 && record[e->bytes - 1] >> 4 != 0) return true;
     return (kind == 1 && value != 0) || (kind == 0 && (number != 0 || value != 0));
 }
 
@@ -42,13 +51,18 @@ static struct access access_at(const struct edition *e, const uint8_t *record) {
     struct access a = {.sample = at_rest};
     uint64_t first = number_at(record, 8);
     unsigned number = ((unsigned)(first >> 32) & 0x3FFFFFFF) >> e->zeros;
-    a.kind = malformed(e, first) ? 3 : (uint8_t)(first >> 62);
-    a.number = e == &newest ? (uint16_t)number : carried(number);
+    a.kind = malformed(e, record) ? 3 : (uint8_t)(first >> 62);
+    a.number = carried(e, number);
     a.value = (uint32_t)first;
     for (size_t v = 0; v < TARRAVANE_WORDS; v++) {
         size_t left = e->wire_bytes > 8 * v ? e->wire_bytes - 8 * v : 0;
         a.sample.alerts.pos[v] = number_at(record + 8 + 8 * v, left);
         a.sample.alerts.neg[v] = number_at(record + 8 + e->wire_bytes + 8 * v, left);
+    }
+    if (e->tail > 0) {
+        const uint8_t *tail = record + e->bytes - e->tail;
+        a.sample.word = (uint32_t)(number_at(tail, 4) >> 32);
+        for (int l = 0; l < TARRAVANE_LINES; l++) a.sample.answers |= (uint32_t)(tail[4] >> (3 - l) & 1) << l;
     }
     return a;
 }
@@ -137,7 +151,7 @@ static void as_printed(const uint64_t *words, size_t count, const char *path) {
 /* A record written again: a new one gives its bytes, an old one a new record that does what it did. A malformed one has
  * kind 3 here, and no well-formed record holds that. */
 static void written_again(const struct edition *e, const handler *before, const uint8_t *record, uint64_t word) {
-    uint8_t again[TARRAVANE_RECORD_70];
+    uint8_t again[TARRAVANE_RECORD_PINGS];
     struct access a = access_at(e, record);
     uint64_t other;
     int64_t answer = written(&a, again);
@@ -145,9 +159,9 @@ static void written_again(const struct edition *e, const handler *before, const 
         CHECK(answer == -TARRAVANE_NO_RECORD);
         return;
     }
-    CHECK(answer == TARRAVANE_RECORD_70);
+    CHECK(answer == TARRAVANE_RECORD_PINGS);
     if (e == &newest) CHECK(memcmp(again, record, sizeof again) == 0);
-    CHECK(tarravane_batch_70(*before, again, sizeof again, &other, 1).answer == 0);
+    CHECK(tarravane_batch_pings(*before, again, sizeof again, &other, 1).answer == 0);
     CHECK(other == word);
 }
 
@@ -165,8 +179,8 @@ static handler tick_by_tick(const struct edition *e, handler h, const uint8_t *r
 
 void test_trace(const char *trace, const char *printed) {
     struct bytes b = contents(trace);
-    const struct edition *e = b.at[0] == 255 ? &newest : &first_edition;
-    size_t before = e == &newest ? 2 : 1;
+    const struct edition *e = edition_by(b.at[0]);
+    size_t before = e == &first_edition ? 1 : 2;
     size_t count = (b.length - before) / e->bytes;
     const uint8_t *records = b.at + before;
     handler first = new_handler(b.at[before - 1]);

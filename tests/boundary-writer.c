@@ -4,8 +4,9 @@
 #define ENTRIES 64 /* the most entries that a list here has */
 #define MARGIN 16  /* guard bytes before and after a buffer */
 #define GUARD_BYTE 0xA5
-#define RECORD TARRAVANE_RECORD_70
+#define RECORD TARRAVANE_RECORD_PINGS
 #define LARGEST 2047 /* the largest register */
+#define LISTS 7
 
 /* What the writer takes, a list for each part. */
 struct entries {
@@ -15,6 +16,8 @@ struct entries {
     uint32_t values[ENTRIES];
     uint64_t positive[ENTRIES * TARRAVANE_WORDS];
     uint64_t negative[ENTRIES * TARRAVANE_WORDS];
+    uint32_t entropy[ENTRIES];
+    uint8_t answers[ENTRIES];
 };
 
 /* A buffer between guard bytes, all of them at the guard's value. */
@@ -22,24 +25,38 @@ struct room {
     uint8_t all[MARGIN + ENTRIES * RECORD + MARGIN];
 };
 
-static void add(struct entries *e, unsigned kind, unsigned number, uint32_t value, struct tarravane_wires wires) {
+/* An entry with the word and the answers of its sample. */
+static void add_sample(struct entries *e, unsigned kind, unsigned number, uint32_t value, struct tarravane_sample s) {
     size_t i = e->count++;
     CHECK(i < ENTRIES);
     e->kinds[i] = (uint8_t)kind;
     e->registers[i] = (uint16_t)number;
     e->values[i] = value;
-    memcpy(&e->positive[i * TARRAVANE_WORDS], wires.pos, sizeof wires.pos);
-    memcpy(&e->negative[i * TARRAVANE_WORDS], wires.neg, sizeof wires.neg);
+    memcpy(&e->positive[i * TARRAVANE_WORDS], s.alerts.pos, sizeof s.alerts.pos);
+    memcpy(&e->negative[i * TARRAVANE_WORDS], s.alerts.neg, sizeof s.alerts.neg);
+    e->entropy[i] = s.word;
+    e->answers[i] = (uint8_t)s.answers;
+}
+
+static void add(struct entries *e, unsigned kind, unsigned number, uint32_t value, struct tarravane_wires wires) {
+    add_sample(e, kind, number, value, sample_of(wires));
+}
+
+/* Each list of its own length. */
+static int64_t recorded_of(const struct entries *e, const size_t n[LISTS], uint8_t *bytes, size_t length) {
+    return tarravane_record(e->kinds, n[0], e->registers, n[1], e->values, n[2], e->positive, n[3], e->negative, n[4],
+                            e->entropy, n[5], e->answers, n[6], bytes, length);
 }
 
 static int64_t recorded(const struct entries *e, uint8_t *bytes, size_t length) {
     size_t n = e->count, words = n * TARRAVANE_WORDS;
-    return tarravane_record(e->kinds, n, e->registers, n, e->values, n, e->positive, words, e->negative, words, bytes, length);
+    const size_t lengths[LISTS] = {n, n, n, words, words, n, n};
+    return recorded_of(e, lengths, bytes, length);
 }
 
 int64_t written(const struct access *a, uint8_t record[RECORD]) {
     struct entries e = {0};
-    add(&e, a->kind, a->number, a->value, a->sample.alerts);
+    add_sample(&e, a->kind, a->number, a->value, a->sample);
     return recorded(&e, record, RECORD);
 }
 
@@ -54,11 +71,14 @@ static void store_wires(uint8_t *at, const uint64_t *words) {
     memcpy(at, all, 31);
 }
 
-/* The record of request (iii), from its widths. */
+/* The record of request (ix), from its widths: in the last byte line 0's answer is bit 3. */
 static void packed(const struct entries *e, size_t i, uint8_t *at) {
     store(at, (uint64_t)e->kinds[i] << 62 | (uint64_t)e->registers[i] << 51 | e->values[i]);
     store_wires(at + 8, &e->positive[i * TARRAVANE_WORDS]);
     store_wires(at + 39, &e->negative[i * TARRAVANE_WORDS]);
+    for (int b = 0; b < 4; b++) at[70 + b] = (uint8_t)(e->entropy[i] >> (24 - 8 * b));
+    at[74] = 0;
+    for (int l = 0; l < TARRAVANE_LINES; l++) at[74] = (uint8_t)(at[74] | (e->answers[i] >> l & 1) << (3 - l));
 }
 
 static struct room fresh(void) {
@@ -93,6 +113,10 @@ static struct entries sound(void) {
     add(&e, TARRAVANE_WRITE, 0, 0, wires_apart(neg, pos));
     add(&e, TARRAVANE_WRITE, LARGEST, UINT32_MAX, wires_of(UINT64_MAX, UINT64_MAX));
     add(&e, TARRAVANE_WRITE, 1365, 0x01020304, wires_of(0, 0));
+    struct tarravane_sample drawn = at_rest;
+    drawn.word = 0x89ABCDEF;
+    drawn.answers = 0xF4;
+    add_sample(&e, TARRAVANE_WRITE, TARRAVANE_PING_TIMER_EN, 1, drawn);
     return e;
 }
 
@@ -135,22 +159,21 @@ static void unheld_accesses(void) {
 }
 
 /* Lists of these lengths: 10, also where the buffer is too short for any of them. */
-static void uneven(const struct entries *e, const size_t n[5]) {
+static void uneven(const struct entries *e, const size_t n[LISTS]) {
     struct room is = fresh(), wanted = fresh();
     for (size_t length = 0; length <= ENTRIES * RECORD; length += ENTRIES * RECORD / 2)
-        CHECK(tarravane_record(e->kinds, n[0], e->registers, n[1], e->values, n[2], e->positive, n[3], e->negative, n[4],
-                               is.all + MARGIN, length) == -TARRAVANE_NO_RECORD);
+        CHECK(recorded_of(e, n, is.all + MARGIN, length) == -TARRAVANE_NO_RECORD);
     CHECK(memcmp(is.all, wanted.all, sizeof is.all) == 0);
 }
 
 /* One list shorter or longer than the others need it; of the wires also by words that make no whole entry. */
 static void unequal(void) {
     struct entries e = sound();
-    for (int list = 0; list < 5; list++) {
-        size_t unit = list < 3 ? 1 : TARRAVANE_WORDS;
+    for (int list = 0; list < LISTS; list++) {
+        size_t unit = list == 3 || list == 4 ? TARRAVANE_WORDS : 1;
         for (size_t other = 0; other <= e.count * unit; other++)
             for (size_t rest = 0; rest <= e.count; rest++) {
-                size_t n[5] = {rest, rest, rest, rest * TARRAVANE_WORDS, rest * TARRAVANE_WORDS};
+                size_t n[LISTS] = {rest, rest, rest, rest * TARRAVANE_WORDS, rest * TARRAVANE_WORDS, rest, rest};
                 if (other == n[list]) continue;
                 n[list] = other;
                 uneven(&e, n);
@@ -158,7 +181,8 @@ static void unequal(void) {
     }
 }
 
-/* Each bit of register, value and wires stands where the reader looks for it; places 248 to 255 nowhere. */
+/* Each bit of register, value, wires, word and answers stands where the reader looks for it; places 248 to 255 of the wires
+ * and bits 4 to 7 of the answers nowhere. */
 static void single_bits(void) {
     for (int place = 0; place < 64 * TARRAVANE_WORDS; place++) {
         struct entries e = {0};
@@ -168,6 +192,11 @@ static void single_bits(void) {
         add(&e, TARRAVANE_NONE, 0, 0, neg);
         if (place < 32) add(&e, TARRAVANE_WRITE, 0, UINT32_C(1) << place, at_rest.alerts);
         if (place < 11) add(&e, TARRAVANE_READ, 1u << place, 0, at_rest.alerts);
+        struct tarravane_sample word = at_rest, answers = at_rest;
+        word.word = UINT32_C(1) << place % 32;
+        answers.answers = (uint32_t)place;
+        add_sample(&e, TARRAVANE_NONE, 0, 0, word);
+        add_sample(&e, TARRAVANE_NONE, 0, 0, answers);
         writes(&e, e.count * RECORD);
     }
 }
@@ -180,13 +209,13 @@ static void read_back(size_t alerts) {
     handler first = new_handler(alerts), h = first;
     int64_t length = recorded(&e, r.all + MARGIN, e.count * RECORD);
     CHECK(length == (int64_t)(e.count * RECORD));
-    struct tarravane_batched b = tarravane_batch_70(first, r.all + MARGIN, (size_t)length, words, e.count);
+    struct tarravane_batched b = tarravane_batch_pings(first, r.all + MARGIN, (size_t)length, words, e.count);
     CHECK(b.answer == 0);
     for (size_t i = 0; i < e.count; i++) {
-        struct tarravane_wires w;
-        memcpy(w.pos, &e.positive[i * TARRAVANE_WORDS], sizeof w.pos);
-        memcpy(w.neg, &e.negative[i * TARRAVANE_WORDS], sizeof w.neg);
-        struct tarravane_answered t = tarravane_tick(h, e.kinds[i], e.registers[i], e.values[i], sample_of(w));
+        struct tarravane_sample s = {.word = e.entropy[i], .answers = e.answers[i]};
+        memcpy(s.alerts.pos, &e.positive[i * TARRAVANE_WORDS], sizeof s.alerts.pos);
+        memcpy(s.alerts.neg, &e.negative[i * TARRAVANE_WORDS], sizeof s.alerts.neg);
+        struct tarravane_answered t = tarravane_tick(h, e.kinds[i], e.registers[i], e.values[i], s);
         word_says(words[i], &t);
         h = t.handler;
     }

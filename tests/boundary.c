@@ -1,5 +1,5 @@
 /* The boundary from C's side: every field crosses to its register and back, equal states are equal bytes, receivers shake hands
- * and are pinged, a damaged field gets refusal 7, shadowed registers take two equal writes, a class that waits for 65,536 events is not locked, a boot installs each lifecycle's policy or stops
+ * and are pinged, the ping timer's turns come when they are due, a damaged field gets refusal 7, shadowed registers take two equal writes, a class that waits for 65,536 events is not locked, a boot installs each lifecycle's policy or stops
  * where it must, a batch and the writer stay in their buffers, example traces give the same words by batch, by single ticks
  * and by the replay program, and the writer gives their bytes again.
  * usage: boundary [TRACE WORDS]...   WORDS: what the replay program printed of TRACE, or - for none */
@@ -52,6 +52,10 @@ bool same(const handler *a, const handler *b) {
     return memcmp(a, b, sizeof *a) == 0;
 }
 
+uint64_t bit_of_alert(size_t i) {
+    return UINT64_C(1) << (63 - i % 64);
+}
+
 handler new_handler(size_t n) {
     struct tarravane_made m = tarravane_new(n);
     CHECK(m.answer == 0);
@@ -80,6 +84,9 @@ int main(int argc, char **argv) {
     test_bytes();
     test_links();
     test_waves();
+    test_timer();
+    test_timer_states();
+    test_timer_records();
     test_states();
     test_stages();
     test_threshold();

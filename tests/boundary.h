@@ -37,12 +37,23 @@ struct tarravane_sample raised(int i);
 /* Byte by byte: there is no padding. */
 bool same(const handler *a, const handler *b);
 
+/* The bit of alert i in its word. */
+uint64_t bit_of_alert(size_t i);
+
 handler new_handler(size_t n);
 int64_t read_of(const handler *h, int number);
 int64_t write_of(handler *h, int number, uint32_t value);
 
 /* The two equal writes that a shadowed register takes; answers what the second does. */
 int64_t configure(handler *h, int number, uint32_t value);
+
+/* ---- The ping timer ---- */
+
+/* A word that sets a turn: the ticks to its ping less one, and the alert. The top 8 bits count for nothing. */
+uint32_t drawing(uint32_t alert, uint32_t ticks);
+
+/* A handler of n alerts whose first turn is to come: alert i is locked and enabled, local alerts 0 and 1 are enabled. */
+handler with_timer(size_t n, int i, uint32_t timeout);
 
 /* ---- Stages ---- */
 
@@ -52,7 +63,7 @@ struct shadowed {
     size_t offset, bytes;
 };
 
-#define SHADOWED (2 * (TARRAVANE_ALERTS + TARRAVANE_LOCALS) + TARRAVANE_CLASSES * (3 + TARRAVANE_PHASES))
+#define SHADOWED (1 + 2 * (TARRAVANE_ALERTS + TARRAVANE_LOCALS) + TARRAVANE_CLASSES * (3 + TARRAVANE_PHASES))
 
 /* All of them. */
 const struct shadowed *all_shadowed(void);
@@ -85,7 +96,7 @@ handler booted(handler h, int lifecycle, int e);
 /* The word of a tick says what the tick gave. */
 void word_says(uint64_t word, const struct tarravane_answered *t);
 
-/* What a record of 70 bytes holds; kind 3 for a malformed one. */
+/* What a record of the newest edition holds; kind 3 for a malformed one. */
 struct access {
     uint8_t kind;
     uint16_t number;
@@ -94,7 +105,7 @@ struct access {
 };
 
 /* The writer's bytes of one access, or its refusal. */
-int64_t written(const struct access *a, uint8_t record[TARRAVANE_RECORD_70]);
+int64_t written(const struct access *a, uint8_t record[TARRAVANE_RECORD_PINGS]);
 
 /* ---- The parts ---- */
 
@@ -102,6 +113,9 @@ void test_accesses(void);
 void test_bytes(void);
 void test_links(void);
 void test_waves(void);
+void test_timer(void);
+void test_timer_states(void);
+void test_timer_records(void);
 void test_states(void);
 void test_stages(void);
 void test_threshold(void);

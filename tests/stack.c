@@ -2,6 +2,7 @@
  * lowest byte that lost it, seen from the caller's frame, is how deep the call went. Prints the most that the function took. */
 #define _GNU_SOURCE
 #include "tarravane.h"
+#include <stdbool.h>
 #include <stdio.h>
 #include <stdlib.h>
 #include <string.h>
@@ -14,7 +15,7 @@
 
 static unsigned char *stack;
 static unsigned char *frame; /* the caller's, noted before its call */
-static uint8_t bytes[RECORDS * TARRAVANE_RECORD_70];
+static uint8_t bytes[RECORDS * TARRAVANE_RECORD_PINGS];
 static uint64_t words[RECORDS];
 
 /* What a call is given. */
@@ -23,12 +24,23 @@ static uint8_t kinds[RECORDS];
 static uint16_t registers[RECORDS];
 static uint32_t values[RECORDS];
 static uint64_t positive[RECORDS * TARRAVANE_WORDS], negative[RECORDS * TARRAVANE_WORDS];
+static uint32_t entropy[RECORDS];
+static uint8_t answers[RECORDS];
 static struct tarravane_sample sample = TARRAVANE_SAMPLE_AT_REST;
 static size_t entries;
 static int64_t recorded; /* what the writer answered */
 static struct tarravane_heard heard;
 
-/* A call takes its argument of 2048 bytes and its result from the caller's frame: both are counted. */
+/* A call that is measured: what makes its bytes, the most alerts, and whether it runs where the ping timer is on. */
+struct call {
+    const char *name;
+    void (*call)(void);
+    void (*pack)(void);
+    size_t alerts;
+    bool timer;
+};
+
+/* A call takes its argument of 2072 bytes and its result from the caller's frame: both are counted. */
 #define NOTE_FRAME() frame = __builtin_frame_address(0)
 
 static void call_new(void)
@@ -61,12 +73,18 @@ static void call_batch_70(void)
     state = tarravane_batch_70(state, bytes, entries * TARRAVANE_RECORD_70, words, RECORDS).handler;
 }
 
+static void call_batch_pings(void)
+{
+    NOTE_FRAME();
+    state = tarravane_batch_pings(state, bytes, entries * TARRAVANE_RECORD_PINGS, words, RECORDS).handler;
+}
+
 static void call_record(void)
 {
     NOTE_FRAME();
     size_t wire_words = entries * TARRAVANE_WORDS;
     recorded = tarravane_record(kinds, entries, registers, entries, values, entries, positive, wire_words, negative,
-                                wire_words, bytes, sizeof bytes);
+                                wire_words, entropy, entries, answers, entries, bytes, sizeof bytes);
 }
 
 static void call_install(void)
@@ -120,14 +138,14 @@ static uint32_t draw_value(void)
     return (uint32_t)(bits % 2 == 0 ? bits >> 62 : bits >> (next_random() % 64));
 }
 
-/* Accesses of every kind to every register, a quarter of them to the register before, so that stages commit and differ; and
- * wires that move, with pings asked for. */
+/* Accesses of every kind to every register, a quarter of them to the register before, so that stages commit and differ; wires
+ * that move; and words of short waits, with answers. */
 static void draw_input(void)
 {
     entries = next_random() % (RECORDS + 1);
     for (size_t i = 0; i < RECORDS; i++) {
         kinds[i] = (uint8_t)(next_random() % 3);
-        registers[i] = kinds[i] == TARRAVANE_NONE ? 0 : (uint16_t)(next_random() % 1536);
+        registers[i] = kinds[i] == TARRAVANE_NONE ? 0 : (uint16_t)(next_random() % (next_random() % 8 == 0 ? 8 : 1536));
         values[i] = kinds[i] == TARRAVANE_WRITE ? draw_value() : 0;
         if (i > 0 && kinds[i - 1] == TARRAVANE_WRITE && next_random() % 4 == 0) {
             kinds[i] = TARRAVANE_WRITE;
@@ -141,22 +159,42 @@ static void draw_input(void)
     }
     memcpy(sample.alerts.pos, positive, sizeof sample.alerts.pos);
     memcpy(sample.alerts.neg, negative, sizeof sample.alerts.neg);
-    for (size_t v = 0; v < TARRAVANE_WORDS; v++)
-        sample.asks[v] = next_random() & next_random();
+    for (size_t i = 0; i < RECORDS; i++) {
+        entropy[i] = (uint32_t)next_random() & 0xFFFF0003u;
+        answers[i] = (uint8_t)next_random();
+    }
+    sample.word = entropy[0];
+    sample.answers = answers[0];
 }
 
-/* A state of up to so many alerts, in every second round with the access made before, so that a write finds its stage; in the
- * first round one of zeros, as making one binds memcpy. */
-static void draw_state(int round, size_t alerts)
+/* A state of up to so many alerts, in every second round with the access made before, so that a write finds its stage; where
+ * the call can meet a timer that is on, it is on in every third, with a ping that is due; in the first round one of zeros, as
+ * making one binds memcpy. */
+static void draw_state(int round, const struct call *c)
 {
     if (round == 0)
         return;
-    state = tarravane_new(1 + next_random() % alerts).handler;
+    state = tarravane_new(1 + next_random() % c->alerts).handler;
+    if (c->timer && round % 3 == 0) {
+        state.timer.enable = 1;
+        state.timer.timeout = 1;
+        state.links.turn.number = (uint8_t)next_random();
+        state.alerts.en[0] = 1;
+        state.alerts.regwen[0] = 0;
+    }
     if (round % 2 == 1)
         state = tarravane_tick(state, kinds[0], registers[0], values[0] ^ (uint32_t)(next_random() % 2), sample).handler;
 }
 
-/* Records of 24 bytes of the accesses, with document 01's numbers; those of 70 the library writes. */
+/* Records of 70 bytes: those that the library writes, without what is behind the wires. */
+static void pack_70(void)
+{
+    call_record();
+    for (size_t i = 1; i < entries; i++)
+        memmove(bytes + i * TARRAVANE_RECORD_70, bytes + i * TARRAVANE_RECORD_PINGS, TARRAVANE_RECORD_70);
+}
+
+/* Records of 24 bytes of the accesses, with document 01's numbers. */
 static void pack_24(void)
 {
     memset(bytes, 0, sizeof bytes);
@@ -172,19 +210,15 @@ static void pack_24(void)
     }
 }
 
-static const struct call {
-    const char *name;
-    void (*call)(void);
-    void (*pack)(void);
-    size_t alerts;
-} calls[] = {
-    {"tarravane_new", call_new, call_record, TARRAVANE_ALERTS},
-    {"tarravane_tick", call_tick, call_record, TARRAVANE_ALERTS},
-    {"tarravane_hear", call_hear, call_record, TARRAVANE_ALERTS},
-    {"tarravane_batch_24", call_batch_24, pack_24, TARRAVANE_ALERTS_24},
-    {"tarravane_batch_70", call_batch_70, call_record, TARRAVANE_ALERTS},
-    {"tarravane_record", call_record, call_record, TARRAVANE_ALERTS},
-    {"tarravane_install", call_install, call_record, TARRAVANE_ALERTS},
+static const struct call calls[] = {
+    {"tarravane_new", call_new, call_record, TARRAVANE_ALERTS, true},
+    {"tarravane_tick", call_tick, call_record, TARRAVANE_ALERTS, true},
+    {"tarravane_hear", call_hear, call_record, TARRAVANE_ALERTS, true},
+    {"tarravane_batch_24", call_batch_24, pack_24, TARRAVANE_ALERTS_24, false},
+    {"tarravane_batch_70", call_batch_70, pack_70, TARRAVANE_ALERTS, false},
+    {"tarravane_batch_pings", call_batch_pings, call_record, TARRAVANE_ALERTS, true},
+    {"tarravane_record", call_record, call_record, TARRAVANE_ALERTS, true},
+    {"tarravane_install", call_install, call_record, TARRAVANE_ALERTS, true},
 };
 
 static size_t most_of(const struct call *c)
@@ -192,7 +226,7 @@ static size_t most_of(const struct call *c)
     size_t most = 0;
     for (int round = 0; round < 200; round++) {
         draw_input();
-        draw_state(round, c->alerts);
+        draw_state(round, c);
         c->pack();
         size_t depth = depth_of(c->call);
         if (depth > most)

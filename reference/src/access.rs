@@ -25,11 +25,12 @@ impl Handler {
         if !register.readable() {
             return Err(Refusal::Direction);
         }
-        self.stages.drop_stage(register);
+        self.drop_stage(register);
         Ok(match register {
             Register::IntrState => u32::from(self.intr_state),
             Register::IntrEnable => u32::from(self.intr_enable),
             Register::IntrTest => 0,
+            Register::Timer(field) => self.timer.read(field),
             Register::Local(field, j) => read_source(&self.locals[j], field),
             Register::Alert(field, i) => read_source(&self.alerts[i], field),
             Register::Class(field, k) => self.classes[k].read(field),
@@ -50,7 +51,7 @@ impl Handler {
         }
         if self.locked(register, value) {
             // What was staged before the lock came can never be committed.
-            self.stages.drop_stage(register);
+            self.drop_stage(register);
             return Err(Refusal::Locked);
         }
         if register.shadowed() && !self.second(register, value)? {
@@ -67,19 +68,43 @@ impl Handler {
     /// which ends its stage; a first one is staged. A differing second one is
     /// refused: it drops the stage and is not staged itself.
     fn second(&mut self, register: Register, value: u32) -> Result<bool, Refusal> {
-        match self.stages.staged(register) {
+        match self.staged(register) {
             None => {
-                self.stages.stage(register, value);
+                self.stage(register, value);
                 Ok(false)
             }
             Some(staged) => {
-                self.stages.drop_stage(register);
+                self.drop_stage(register);
                 if staged == value {
                     Ok(true)
                 } else {
                     Err(Refusal::StageDiffers)
                 }
             }
+        }
+    }
+
+    /// The staged value of a register, if there is one.
+    fn staged(&self, register: Register) -> Option<u32> {
+        match register {
+            Register::Timer(field) => self.timer.staged(field),
+            _ => self.stages.staged(register),
+        }
+    }
+
+    /// Stages a value that was checked to be in the register's bits.
+    fn stage(&mut self, register: Register, value: u32) {
+        match register {
+            Register::Timer(field) => self.timer.set_stage(field, value + 1),
+            _ => self.stages.stage(register, value),
+        }
+    }
+
+    /// Drops the stage of a register; without one nothing changes.
+    fn drop_stage(&mut self, register: Register) {
+        match register {
+            Register::Timer(field) => self.timer.set_stage(field, 0),
+            _ => self.stages.drop_stage(register),
         }
     }
 
@@ -95,6 +120,7 @@ impl Handler {
     fn locked(&self, register: Register, value: u32) -> bool {
         match register {
             Register::IntrState | Register::IntrEnable | Register::IntrTest => false,
+            Register::Timer(field) => self.timer.locked(field, value),
             Register::Local(field, j) => source_locked(&self.locals[j], field, value),
             Register::Alert(field, i) => source_locked(&self.alerts[i], field, value),
             Register::Class(field, k) => self.classes[k].locked(field, value),
@@ -108,6 +134,7 @@ impl Handler {
             Register::IntrState => self.intr_state &= !(value as u8),
             Register::IntrEnable => self.intr_enable = value as u8,
             Register::IntrTest => self.intr_state |= value as u8,
+            Register::Timer(field) => self.timer.write(field, value),
             Register::Local(field, j) => write_source(&mut self.locals[j], field, value),
             Register::Alert(field, i) => write_source(&mut self.alerts[i], field, value),
             Register::Class(field, k) => self.classes[k].write(field, value),

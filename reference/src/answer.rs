@@ -17,7 +17,7 @@ pub enum Refusal {
     /// N is 0 or over 248.
     AlertCount = 6,
     /// The state breaks the rule on stored states, or has more alerts than the
-    /// records of a batch.
+    /// records of a batch, or its ping timer is on and they have no words.
     BrokenState = 7,
     /// The batch length is not a multiple of its edition's record.
     BatchLength = 8,

@@ -1,4 +1,4 @@
-//! The register numbers of the first map, carried over to today's.
+//! The register numbers of older editions, carried over to today's map.
 
 /// Stands for a number that the first map left unassigned. Today's map leaves
 /// it unassigned too, so an access to it is refused with 1.
@@ -19,5 +19,14 @@ pub fn carried(number: u16) -> u16 {
         // A class has 13 registers; the last three of its 16 numbers are none.
         320..=383 if number % 16 <= 12 => 1280 + (number - 320),
         _ => UNASSIGNED,
+    }
+}
+
+/// Today's number of the register that had this number in a record of the
+/// second edition: the same, but the ping timer has no numbers there.
+pub fn without_timer(number: u16) -> u16 {
+    match number {
+        4..=6 => UNASSIGNED,
+        _ => number,
     }
 }

@@ -7,8 +7,11 @@ pub enum Edition {
     /// numbers of the first map in 10 bits.
     First,
     /// The record for 248 alerts: 70 bytes, and register numbers of today's
-    /// map in 11 bits.
+    /// map in 11 bits, those of the ping timer unassigned.
     Second,
+    /// The record for the ping timer: 75 bytes, the second's with an entropy
+    /// word, four zero bits and four answer bits after it.
+    Third,
 }
 
 impl Edition {
@@ -17,6 +20,7 @@ impl Edition {
         match self {
             Edition::First => 24,
             Edition::Second => 70,
+            Edition::Third => 75,
         }
     }
 
@@ -24,7 +28,7 @@ impl Edition {
     pub const fn alerts(self) -> usize {
         match self {
             Edition::First => 64,
-            Edition::Second => 248,
+            Edition::Second | Edition::Third => 248,
         }
     }
 
@@ -37,8 +41,13 @@ impl Edition {
     pub const fn register_bits(self) -> u32 {
         match self {
             Edition::First => 10,
-            Edition::Second => 11,
+            Edition::Second | Edition::Third => 11,
         }
+    }
+
+    /// Whether a record has a word and answers for the ping timer.
+    pub const fn has_word(self) -> bool {
+        matches!(self, Edition::Third)
     }
 
     /// The zero bits that fill the first 32 after kind and register.

@@ -2,8 +2,10 @@
 
 use crate::answer::Refusal;
 use crate::class::Class;
+use crate::pings::Standing;
 use crate::receiver::Receiver;
 use crate::stages::Stages;
+use crate::timer::{Timer, Turn};
 use crate::wires::{wire, Pairs, Sample, Wires};
 
 /// The largest number of alerts.
@@ -12,9 +14,14 @@ pub const MAX_ALERTS: usize = 248;
 pub const LOCALS: usize = 7;
 /// The number of classes.
 pub const CLASSES: usize = 4;
+/// The local alert that reports a failed ping of an alert.
+pub const ALERT_PING: usize = 0;
+/// The local alert that reports a failed ping of an escalation line.
+pub const ESCALATION_PING: usize = 1;
 /// The local alert that reports equal wires.
 pub const ALERT_INTEGRITY: usize = 2;
-/// The local alert that reports two writes that differ; no other one occurs.
+/// The local alert that reports two writes that differ; those not named here
+/// never occur.
 pub const SHADOW_UPDATE: usize = 5;
 
 /// One register access, as a trace record or a caller gives it.
@@ -131,6 +138,8 @@ pub struct Handler {
     pub classes: [Class; CLASSES],
     /// The values that wait for a second write.
     pub stages: Stages,
+    /// The ping timer.
+    pub timer: Timer,
 }
 
 impl Handler {
@@ -147,6 +156,7 @@ impl Handler {
             receivers: [Receiver::new(); MAX_ALERTS],
             classes: [Class::new(); CLASSES],
             stages: Stages::new(),
+            timer: Timer::new(),
         };
         let answer = if accepted {
             0
@@ -163,8 +173,12 @@ impl Handler {
             return false;
         }
         // Entries at N and above are not looked at.
-        for alert in &self.alerts[..self.n as usize] {
-            if !alert.valid() {
+        for i in 0..self.n as usize {
+            if !self.alerts[i].valid() {
+                return false;
+            }
+            // Only the ping of the timer's turn may be open.
+            if self.receivers[i].open && !self.timer.pings(Turn::Alert(i)) {
                 return false;
             }
         }
@@ -178,7 +192,7 @@ impl Handler {
                 return false;
             }
         }
-        self.stages.valid(self.n as usize)
+        self.timer.valid() && self.stages.valid(self.n as usize)
     }
 
     /// Runs one tick. A broken state answers -7 and stays as it is, with every
@@ -194,7 +208,7 @@ impl Handler {
             };
         }
         // What this tick's wires change is acknowledged in the next tick, but
-        // the ping that this tick asks for shows at once.
+        // the ping that this tick opens shows at once.
         let acknowledge = self.pairs(Receiver::acknowledges);
         let outcome = self.run(access, sample);
         Ticked {
@@ -208,9 +222,9 @@ impl Handler {
 
     /// Runs one tick on a state known to be valid, without its pairs.
     pub(crate) fn run(&mut self, access: Access, sample: &Sample) -> Outcome {
+        let on = self.timer.on();
         let (answer, cleared) = self.access(access);
-        self.ask(&sample.asks);
-        let mut assigned = self.sample(&sample.pos, &sample.neg);
+        let mut assigned = self.sample_and_ping(sample, on);
         if answer == Refusal::StageDiffers.answer() {
             self.occur(SHADOW_UPDATE, &mut assigned);
         }
@@ -232,21 +246,28 @@ impl Handler {
         }
     }
 
-    /// Opens the pings asked for, before this tick's wires are read.
-    fn ask(&mut self, asks: &Wires) {
-        // Most ticks ask for none, those of a batch never do.
-        if *asks == [0; 4] {
-            return;
+    /// Step 2 with the ping timer, which was on before the tick's access or
+    /// not; says which classes have an event or local alert assigned.
+    fn sample_and_ping(&mut self, sample: &Sample, on: bool) -> [bool; CLASSES] {
+        // Nothing counts down in the tick in which the timer goes on.
+        let mut standing = Standing::Waiting;
+        if on {
+            standing = self.open_due();
         }
-        for i in 0..self.n as usize {
-            if wire(asks, i) {
-                self.receivers[i].ask();
-            }
+        let mut assigned = self.sample(&sample.pos, &sample.neg);
+        if standing == Standing::Open {
+            standing = self.settle(sample.answers, &mut assigned);
         }
+        if standing == Standing::Over {
+            self.timer.next_turn(sample.word);
+        } else if !on && self.timer.on() {
+            self.timer.start(sample.word);
+        }
+        assigned
     }
 
-    /// Step 2: takes the samples; says which classes have an alert's event or
-    /// an occurring local alert assigned, whether or not their EN is 1.
+    /// Takes the wires; says which classes have an alert's event or the failure
+    /// of equal wires assigned, whether or not their EN is 1.
     fn sample(&mut self, pos: &Wires, neg: &Wires) -> [bool; CLASSES] {
         let mut assigned = [false; CLASSES];
         let mut equal = false;
@@ -281,7 +302,7 @@ impl Handler {
 
     /// Local alert j has a reason to occur. It does if its EN is 1 after step 1;
     /// it then sets its cause and counts for the class assigned to it.
-    fn occur(&mut self, j: usize, assigned: &mut [bool; CLASSES]) {
+    pub(crate) fn occur(&mut self, j: usize, assigned: &mut [bool; CLASSES]) {
         let local = &mut self.locals[j];
         if local.en == 1 {
             local.cause = 1;

@@ -22,7 +22,7 @@ pub struct Receiver {
     pub place: Place,
     /// The level of its ping pair: true for (1,0), false for (0,1).
     pub ping: bool,
-    /// Whether a ping was asked for and is not answered yet.
+    /// Whether a ping was asked for that is not answered and has not failed.
     pub open: bool,
 }
 
@@ -42,8 +42,9 @@ impl Receiver {
         self.place == Place::Acknowledged
     }
 
-    /// Asks for a ping: the level of the ping pair changes and a ping is open.
-    /// While one is open this does nothing.
+    /// Asks for a ping, as the timer does when one is due: the level of the
+    /// ping pair changes and a ping is open. While one is open this does
+    /// nothing.
     pub fn ask(&mut self) {
         if !self.open {
             self.ping = !self.ping;

@@ -1,5 +1,7 @@
 //! The register map: what a register number names.
 
+use crate::timer::TimerField;
+
 /// A register of an alert or of a local alert.
 #[derive(Clone, Copy, Debug, PartialEq, Eq)]
 pub enum SourceField {
@@ -47,6 +49,8 @@ pub enum Register {
     IntrEnable,
     /// Write only; a 1 sets INTR_STATE.
     IntrTest,
+    /// A register of the ping timer.
+    Timer(TimerField),
     /// A register of local alert j.
     Local(SourceField, usize),
     /// A register of alert i.
@@ -63,6 +67,9 @@ impl Register {
             0 => Some(Register::IntrState),
             1 => Some(Register::IntrEnable),
             2 => Some(Register::IntrTest),
+            4 => Some(Register::Timer(TimerField::Regwen)),
+            5 => Some(Register::Timer(TimerField::Timeout)),
+            6 => Some(Register::Timer(TimerField::Enable)),
             16..=22 => Some(Register::Local(SourceField::Regwen, at - 16)),
             24..=30 => Some(Register::Local(SourceField::En, at - 24)),
             32..=38 => Some(Register::Local(SourceField::Class, at - 32)),
@@ -99,6 +106,7 @@ impl Register {
     pub fn shadowed(self) -> bool {
         match self {
             Register::IntrState | Register::IntrEnable | Register::IntrTest => false,
+            Register::Timer(field) => field == TimerField::Timeout,
             Register::Local(field, _) | Register::Alert(field, _) => {
                 matches!(field, SourceField::En | SourceField::Class)
             }
@@ -116,6 +124,10 @@ impl Register {
     pub fn mask(self) -> u32 {
         match self {
             Register::IntrState | Register::IntrEnable | Register::IntrTest => 0xF,
+            Register::Timer(field) => match field {
+                TimerField::Timeout => 0xFFFF,
+                TimerField::Regwen | TimerField::Enable => 1,
+            },
             Register::Local(field, _) | Register::Alert(field, _) => match field {
                 SourceField::Class => 3,
                 _ => 1,

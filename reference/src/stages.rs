@@ -117,7 +117,8 @@ impl<const COUNT: usize> Default for SourceStages<COUNT> {
     }
 }
 
-/// The stages of all shadowed registers, one for each.
+/// The stages of all shadowed registers, one for each, but for the ping
+/// timer's: it holds its own.
 #[derive(Clone, Copy, Debug, PartialEq, Eq)]
 pub struct Stages {
     /// The four classes.
@@ -146,10 +147,11 @@ impl Stages {
             && self.classes.iter().all(ClassStages::valid)
     }
 
-    /// The staged value of a register, if there is one.
+    /// The staged value of a register, if there is one here.
     pub fn staged(&self, register: Register) -> Option<u32> {
         let stage = match register {
             Register::IntrState | Register::IntrEnable | Register::IntrTest => 0,
+            Register::Timer(_) => 0,
             Register::Local(field, j) => self.locals.get(field, j),
             Register::Alert(field, i) => self.alerts.get(field, i),
             Register::Class(field, k) => self.classes[k].get(field),
@@ -170,6 +172,7 @@ impl Stages {
     fn set(&mut self, register: Register, stage: u64) {
         match register {
             Register::IntrState | Register::IntrEnable | Register::IntrTest => {}
+            Register::Timer(_) => {}
             Register::Local(field, j) => self.locals.set(field, j, stage),
             Register::Alert(field, i) => self.alerts.set(field, i, stage),
             Register::Class(field, k) => self.classes[k].set(field, stage),

@@ -14,17 +14,21 @@ pub struct Sample {
     pub pos: Wires,
     /// The negative wires.
     pub neg: Wires,
-    /// The alerts whose ping the caller asks for in this tick.
-    pub asks: Wires,
+    /// The tick's entropy word.
+    pub word: u32,
+    /// The escalation pings that are answered, line 0 lowest. Bits 4 to 7
+    /// count for nothing.
+    pub answers: u8,
 }
 
 impl Sample {
-    /// Every alert at (0,1), and no ping asked for.
+    /// Every alert at (0,1), the word 0 and no answer.
     pub const fn at_rest() -> Sample {
         Sample {
             pos: [0; 4],
             neg: [u64::MAX; 4],
-            asks: [0; 4],
+            word: 0,
+            answers: 0,
         }
     }
 }

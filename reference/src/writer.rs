@@ -3,31 +3,39 @@
 
 use crate::answer::Refusal;
 use crate::edition::Edition;
+use crate::trace::turned;
 use crate::wires::{to_bytes, Wires};
 
 /// The edition that is written: the newest.
-pub const WRITTEN: Edition = Edition::Second;
+pub const WRITTEN: Edition = Edition::Third;
 
 /// Writes one record of the newest edition for each entry of a list to the
 /// front of `out` and answers the bytes written; later bytes stay as they
-/// were. The five slices are the list: kind (0 none, 1 read, 2 write),
-/// register, value, positive and negative wires.
+/// were. The seven slices are the list: kind (0 none, 1 read, 2 write),
+/// register, value, positive and negative wires, entropy word and answers.
 ///
 /// Answers -10 if no well-formed record holds one of the entries, and if the
 /// slices do not all have the same length; else -11 if `out` is shorter than
 /// the records. Either leaves every byte of `out` as it was. Places 248 to 255
-/// of the wires are no wires: they are left out and refuse nothing.
+/// of the wires are no wires, and bits 4 to 7 of the answers are no answers:
+/// they are left out and refuse nothing.
+// One slice for each field of a record, so there are as many as fields.
+#[allow(clippy::too_many_arguments)]
 pub fn record(
     kinds: &[u8],
     registers: &[u16],
     values: &[u32],
     positive: &[Wires],
     negative: &[Wires],
+    words: &[u32],
+    answers: &[u8],
     out: &mut [u8],
 ) -> i64 {
     let entries = kinds.len();
+    let accesses = [registers.len(), values.len()];
     let wires = [positive.len(), negative.len()];
-    if [registers.len(), values.len()] != [entries; 2] || wires != [entries; 2] {
+    let pings = [words.len(), answers.len()];
+    if [accesses, wires, pings] != [[entries; 2]; 3] {
         return Refusal::Unrecordable.answer();
     }
     // The whole list is judged before a byte is written.
@@ -42,9 +50,10 @@ pub fn record(
     }
     for (i, record) in out.chunks_exact_mut(size).take(entries).enumerate() {
         put_access(&mut record[..8], kinds[i], registers[i], values[i]);
-        let (first, second) = record[8..].split_at_mut(WRITTEN.wire_bytes());
-        first.copy_from_slice(&to_bytes(&positive[i]));
-        second.copy_from_slice(&to_bytes(&negative[i]));
+        record[8..39].copy_from_slice(&to_bytes(&positive[i]));
+        record[39..70].copy_from_slice(&to_bytes(&negative[i]));
+        record[70..74].copy_from_slice(&words[i].to_be_bytes());
+        record[74] = turned(answers[i]);
     }
     (entries * size) as i64
 }

@@ -3,11 +3,12 @@
 mod common;
 
 use common::policy::{boot, booted, configured, success, LIFECYCLES};
+use common::timer::{alert_due, line_due};
 use common::{new, raised, read, tick, write, Numbers, REST};
 use reference::class::{IDLE, PHASE0};
 use reference::installer::{self, accesses, steps};
 use reference::policy::CLASSIFICATION;
-use reference::{install, Access, Handler, Place, Receiver};
+use reference::{install, Access, Handler, Place, Receiver, Timer};
 
 #[test]
 fn the_table_s_ids_are_its_places() {
@@ -62,8 +63,7 @@ fn it_stops_at_any_other_answer() {
 
 #[test]
 fn all_wires_are_at_rest() {
-    // From every place of the handshake, (0,1) leads to Ready and stays there;
-    // a rise would answer the open ping, and asking would open or change one.
+    // From every place of the handshake, (0,1) leads to Ready and stays there.
     let places = [
         Place::Ready,
         Place::Acknowledged,
@@ -73,7 +73,7 @@ fn all_wires_are_at_rest() {
     let receiver = |i: usize| Receiver {
         place: places[i % 4],
         ping: i % 8 < 4,
-        open: i % 16 < 8,
+        open: false,
     };
     for n in [58, 248] {
         let mut h = new(n);
@@ -87,6 +87,55 @@ fn all_wires_are_at_rest() {
             assert_eq!(reached, expected, "N {n}, {i}");
         }
     }
+}
+
+#[test]
+fn an_open_ping_is_not_answered() {
+    let waited = Timer {
+        count: 432,
+        ..alert_due(58)
+    };
+    let mut h = new(59);
+    (h.timer, h.receivers[58].open) = (alert_due(58), true);
+    let h = success(h, 0);
+    assert_eq!((h.timer, h.receivers[58].open), (waited, true));
+    for e in 0..4 {
+        let mut h = new(58);
+        h.timer = line_due(e);
+        h.timer.lines = 1 << e;
+        let waited = Timer {
+            count: 432,
+            ..h.timer
+        };
+        assert_eq!(success(h, 0).timer, waited);
+    }
+}
+
+#[test]
+fn the_words_are_0() {
+    // Two turns end in the boot: an alert's at once, as it is not locked, and
+    // the next line's with a ping that fails. The word 0 then draws alert 0,
+    // which is not locked either, and the line after it waits for ever.
+    let mut h = new(58);
+    h.timer = Timer {
+        timeout: 400,
+        alert: 57,
+        count: 9,
+        ..alert_due(57)
+    };
+    let mut expected = booted(h.clone(), 0);
+    expected.timer = Timer {
+        number: 3,
+        alert: 0,
+        // Opened in tick 10, failed in 410, ended in 411, opened in 412 and
+        // the boot ends after 431, counted from 0.
+        count: 431 - 412,
+        lines: 2,
+        ..h.timer
+    };
+    // Ticks: 0 to 8 count down, 9 is due and ends the turn, 10 opens line 0's
+    // ping, which fails in 410; 411 ends alert 0's turn, 412 opens line 1's.
+    assert_eq!(success(h, 0), expected);
 }
 
 #[test]
@@ -131,9 +180,16 @@ fn a_booted_handler_escalates_as_the_policy_means() {
     }
 }
 
-/// A handler after a random life: stages, events, now and then a lock.
+/// A handler after a random life: stages, events, now and then a lock; the
+/// ping timer on or off.
 fn random(numbers: &mut Numbers, n: u64, locks: bool) -> Handler {
     let mut h = new(n);
+    h.timer = Timer {
+        enable: numbers.below(2) as u8,
+        timeout: numbers.below(9) as u16,
+        number: numbers.next() as u8,
+        ..Timer::new()
+    };
     for _ in 0..numbers.below(400) {
         let rows = configured(numbers.below(6) as u8);
         let (register, value) = rows[numbers.below(rows.len() as u64) as usize];
@@ -153,7 +209,10 @@ fn random(numbers: &mut Numbers, n: u64, locks: bool) -> Handler {
             2..=9 => Access::None,
             _ => Access::Write { register, value },
         };
-        tick(&mut h, access, raised(&[numbers.below(n) as usize]));
+        let mut sample = raised(&[numbers.below(n) as usize]);
+        sample.word = numbers.next() as u32 & 0x3F_0007;
+        sample.answers = numbers.next() as u8;
+        tick(&mut h, access, sample);
         // Most stages are closed again.
         if numbers.below(16) != 0 {
             read(&mut h, register);

@@ -51,6 +51,8 @@ fn after(number: u16, n: u16, lifecycle: u8) -> i64 {
     match number {
         0 | 1 => 0,
         2 => -2,
+        4 => 1,
+        5 | 6 => 0,
         16..=22 => 1,
         24..=30 | 32..=38 | 40..=46 => 0,
         256..=1279 if number % 256 >= n => -1,
@@ -259,7 +261,7 @@ fn it_needs_58_alerts() {
 
 #[test]
 fn a_damaged_state_comes_before_all() {
-    let damages: [fn(&mut Handler); 8] = [
+    let damages: [fn(&mut Handler); 10] = [
         |h| h.n = 249,
         |h| h.n = u64::MAX,
         |h| h.intr_enable = 16,
@@ -268,6 +270,8 @@ fn a_damaged_state_comes_before_all() {
         |h| h.classes[3].state = 2,
         |h| h.classes[0].esc_cnt = 1,
         |h| h.stages.classes[1].ctrl = 0x4001,
+        |h| h.timer.lines = 1,
+        |h| h.receivers[0].open = true,
     ];
     for n in [1, 57, 58, 248] {
         for damage in damages {

@@ -3,17 +3,30 @@
 
 mod common;
 
-use common::records::{record, renumbered, unpack};
+use common::records::{record, renumbered, unpack, EDITIONS};
 use common::{configure, new, raised, read, ready, tick, write, COUNTS, REST};
+use reference::carried::without_timer;
 use reference::handler::MAX_ALERTS;
-use reference::{batch, carried, Access, Edition, Handler, Place, Receiver};
+use reference::{batch, carried, Access, Edition, Handler, Place, Receiver, Timer};
 
 /// The four alert blocks, today's and the first map's.
 const BLOCKS: [u16; 4] = [256, 512, 768, 1024];
 const FIRST_BLOCKS: [u16; 4] = [64, 128, 192, 256];
 
+/// The ping timer at reset.
+const TIMER: Timer = Timer {
+    regwen: 1,
+    enable: 0,
+    timeout: 0,
+    stage: 0,
+    number: 0,
+    alert: 0,
+    count: 0,
+    lines: 0,
+};
+
 /// What reading a number gives in a new handler of `n` alerts, from where the
-/// alert blocks and the classes lie.
+/// alert blocks and the classes lie, if there is no ping timer.
 fn at_reset(number: u16, n: u16, blocks: [u16; 4], classes: u16) -> i64 {
     for (block, start) in blocks.into_iter().enumerate() {
         if (start..start + n).contains(&number) {
@@ -54,13 +67,21 @@ fn todays_map_at_reset() {
         let mut found = 0;
         for number in 0..2048u16 {
             let expected = at_reset(number, n as u16, BLOCKS, 1280);
+            // The ping timer has numbers that no older record reaches.
+            let (expected, old) = match number {
+                4 => (1, -1),
+                5 | 6 => (0, -1),
+                _ => (expected, expected),
+            };
             assert_eq!(read(&mut h, number), expected, "N {n}, {number}");
             let access = Access::Read { register: number };
-            let answer = through_record(&mut h, Edition::Second, access);
+            let answer = through_record(&mut h, Edition::Third, access);
             assert_eq!(answer, expected, "N {n}, {number} in a record");
             found += u64::from(answer != -1);
+            let answer = through_record(&mut h, Edition::Second, access);
+            assert_eq!(answer, old, "N {n}, {number} in an older record");
         }
-        assert_eq!(found, 3 + 28 + 4 * n + 52);
+        assert_eq!(found, 3 + 3 + 28 + 4 * n + 52);
         // Numbers that no record holds are unassigned for a plain access.
         for number in [2048, 2048 + 1281, 32768, 65535] {
             assert_eq!(read(&mut h, number), -1);
@@ -188,6 +209,39 @@ fn numbers_unassigned_then_are_still_refused() {
 }
 
 #[test]
+fn the_ping_timer_is_unassigned_in_older_editions() {
+    for edition in [Edition::First, Edition::Second] {
+        for n in [1, 64] {
+            let mut h = new(n);
+            assert_eq!(write(&mut h, 5, 9), 0);
+            let before = h.clone();
+            for register in [4, 5, 6] {
+                let read = Access::Read { register };
+                assert_eq!(through_record(&mut h, edition, read), -1);
+                for value in [0, 1, 9, u32::MAX] {
+                    let access = Access::Write { register, value };
+                    let answer = through_record(&mut h, edition, access);
+                    assert_eq!(answer, -1, "{edition:?}, {value} to {register}");
+                }
+            }
+            // Not even the stage went.
+            assert_eq!(h, before);
+        }
+    }
+}
+
+#[test]
+fn only_the_ping_timers_numbers_go_from_the_second_edition() {
+    for number in 0..2048 {
+        let expected = match number {
+            4..=6 => 2047,
+            _ => number,
+        };
+        assert_eq!(without_timer(number), expected, "{number}");
+    }
+}
+
+#[test]
 fn a_carried_write_reaches_its_register() {
     for number in 0..384 {
         let today = match renumbered(number) {
@@ -220,6 +274,7 @@ fn a_new_handler_has_248_entries_at_reset() {
         let h = new(n);
         assert_eq!(h.n, n);
         assert_eq!((h.alerts.len(), h.receivers.len()), (248, MAX_ALERTS));
+        assert_eq!(h.timer, TIMER);
         for i in 0..248 {
             let alert = h.alerts[i];
             let stored = [alert.regwen, alert.en, alert.class, alert.cause];
@@ -247,10 +302,11 @@ fn refused_numbers_of_alerts() {
         assert!(h.valid());
         assert_eq!(read(&mut h, 256), -1);
         assert_eq!(read(&mut h, 1281), 0x393C);
-        // No alerts are not more than 64, so both editions run.
+        // No alerts are not more than 64, so all editions run.
         let ctrl = |register| Access::Read { register };
-        assert_eq!(through_record(&mut h, Edition::First, ctrl(321)), 0x393C);
-        assert_eq!(through_record(&mut h, Edition::Second, ctrl(1281)), 0x393C);
+        for (edition, number) in EDITIONS.into_iter().zip([321, 1281, 1281]) {
+            assert_eq!(through_record(&mut h, edition, ctrl(number)), 0x393C);
+        }
         h.n = 1;
         assert_eq!(h, new(1));
     }

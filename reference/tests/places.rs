@@ -35,10 +35,21 @@ fn pairs(positive: &Wires, negative: &Wires) -> Vec<(bool, bool)> {
 }
 
 /// Writes a read of CTRL with this sample.
-fn written(sample: Sample) -> [u8; 70] {
-    let mut out = [0x5A; 70];
-    let answer = record(&[1], &[1281], &[0], &[sample.pos], &[sample.neg], &mut out);
-    assert_eq!(answer, 70);
+fn written(sample: Sample) -> [u8; 75] {
+    let Sample { pos, neg, .. } = sample;
+    let (words, answers) = ([sample.word], [sample.answers]);
+    let mut out = [0x5A; 75];
+    let answer = record(
+        &[1],
+        &[1281],
+        &[0],
+        &[pos],
+        &[neg],
+        &words,
+        &answers,
+        &mut out,
+    );
+    assert_eq!(answer, 75);
     out
 }
 
@@ -72,14 +83,10 @@ fn a_tick_does_not_look_at_them() {
             let mut plain = start.clone();
             let ticked = tick(&mut plain, Access::None, places(sample, 0, 0));
             for (positive, negative) in HELD {
-                // A ping that is asked for there is asked for of nobody.
-                for asks in [0, positive, negative, 0xFF] {
-                    let mut h = start.clone();
-                    let mut sample = places(sample, positive, negative);
-                    sample.asks[3] |= u64::from(asks);
-                    assert_eq!(tick(&mut h, Access::None, sample), ticked);
-                    assert_eq!(h, plain, "N {n}");
-                }
+                let mut h = start.clone();
+                let sample = places(sample, positive, negative);
+                assert_eq!(tick(&mut h, Access::None, sample), ticked);
+                assert_eq!(h, plain, "N {n}");
             }
         }
     }
@@ -101,15 +108,17 @@ fn they_are_no_equal_wires_and_no_event() {
 fn the_writer_leaves_them_out() {
     let mut numbers = Numbers(22);
     for _ in 0..200 {
-        let sample = numbers.sample();
+        let mut sample = numbers.sample();
+        (sample.word, sample.answers) = (numbers.next() as u32, numbers.next() as u8);
         let plain = written(places(sample, 0, 0));
         for (positive, negative) in HELD {
             let lent = places(sample, positive, negative);
             let bytes = written(lent);
             assert_eq!(bytes, plain);
-            let read = parse(Edition::Second, &bytes);
-            assert_eq!(read.0, Access::Read { register: 1281 });
-            assert_eq!(pairs(&read.1, &read.2), pairs(&lent.pos, &lent.neg));
+            let (access, read) = parse(Edition::Third, &bytes);
+            assert_eq!(access, Access::Read { register: 1281 });
+            assert_eq!(pairs(&read.pos, &read.neg), pairs(&lent.pos, &lent.neg));
+            assert_eq!((read.word, read.answers), (lent.word, lent.answers & 15));
         }
     }
 }
@@ -117,14 +126,21 @@ fn the_writer_leaves_them_out() {
 #[test]
 fn a_written_tick_is_the_lent_tick() {
     let mut numbers = Numbers(23);
-    let (mut lent, mut replayed) = (ready(248, 0x393D), ready(248, 0x393D));
+    let mut lent = ready(248, 0x393D);
+    for alert in &mut lent.alerts {
+        alert.regwen = 0;
+    }
+    (lent.timer.enable, lent.timer.timeout) = (1, 5);
+    let mut replayed = lent.clone();
     let access = Access::Read { register: 1281 };
     for _ in 0..500 {
         // With all its places as they come.
-        let sample = numbers.sample();
+        let mut sample = numbers.sample();
+        sample.word = numbers.next() as u32 & 0xFF_0003;
+        sample.answers = numbers.next() as u8;
         let mut out = [0];
         let bytes = written(sample);
-        assert_eq!(batch(&mut replayed, Edition::Second, &bytes, &mut out), 0);
+        assert_eq!(batch(&mut replayed, Edition::Third, &bytes, &mut out), 0);
         assert_eq!(unpack(out[0]), tick(&mut lent, access, sample).outcome());
         assert_eq!(lent, replayed);
     }

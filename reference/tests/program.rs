@@ -1,4 +1,4 @@
-//! The program: both kinds of input, and their edges.
+//! The program: the three kinds of input, and their edges.
 
 mod common;
 
@@ -32,6 +32,7 @@ fn opening(edition: Edition, n: u8) -> Vec<u8> {
     match edition {
         Edition::First => vec![n],
         Edition::Second => vec![255, n],
+        Edition::Third => vec![254, n],
     }
 }
 
@@ -41,6 +42,7 @@ fn the_papers_words() {
     let heads = [
         (Edition::First, [0x5410_0000, 0xBFF0_0000]),
         (Edition::Second, [0x6808_0000, 0xBFF8_0000]),
+        (Edition::Third, [0x6808_0000, 0xBFF8_0000]),
     ];
     for (edition, heads) in heads {
         let mut input = opening(edition, 1);
@@ -59,15 +61,18 @@ fn refused_openings() {
     assert_eq!(replay(&[]), "refused\n");
     assert_eq!(replay(&[0]), "refused\n");
     assert_eq!(replay(&[255]), "refused\n");
-    for n in 65..=254 {
+    assert_eq!(replay(&[254]), "refused\n");
+    for n in 65..=253 {
         assert_eq!(replay(&[n]), "refused\n", "{n}");
         assert_eq!(replay(&[n; 71]), "refused\n", "{n}");
     }
     for n in [0, 249, 250, 251, 252, 253, 254, 255] {
-        assert_eq!(replay(&[255, n]), "refused\n", "255 {n}");
-        let mut input = vec![255, n];
-        input.extend([0; 70]);
-        assert_eq!(replay(&input), "refused\n", "255 {n}");
+        for first in [254, 255] {
+            assert_eq!(replay(&[first, n]), "refused\n", "{first} {n}");
+            let mut input = vec![first, n];
+            input.extend([0; 75]);
+            assert_eq!(replay(&input), "refused\n", "{first} {n}");
+        }
     }
 }
 
@@ -78,14 +83,15 @@ fn accepted_openings_alone_print_nothing() {
     }
     for n in [1, 63, 64, 65, 127, 128, 191, 192, 247, 248] {
         assert_eq!(replay(&[255, n]), "");
+        assert_eq!(replay(&[254, n]), "");
     }
 }
 
 #[test]
 fn rest_bytes_print_cut() {
-    for (edition, n) in [(Edition::First, 64), (Edition::Second, 248)] {
+    for (edition, n) in EDITIONS.into_iter().zip([64, 248, 248]) {
         for records in [0, 1, 3] {
-            for rest in [0, 1, 23, 24, 69, 70] {
+            for rest in [0, 1, 23, 24, 69, 70, 74, 75] {
                 let mut input = opening(edition, n);
                 input.resize(input.len() + records * edition.bytes() + rest, 0);
                 let whole = records + rest / edition.bytes();
@@ -155,5 +161,36 @@ fn the_state_is_kept_over_blocks() {
             assert_eq!(lines.clone().count(), records - 1);
             assert!(lines.all(|line| line == "0000000000000005"));
         }
+    }
+}
+
+#[test]
+fn pings_that_fail_show_in_the_words() {
+    let third = |access, sample| record(Edition::Third, access, sample);
+    let write = |register, value| third(Access::Write { register, value }, REST);
+    let read = third(Access::Read { register: 41 }, REST);
+    let mut input = opening(Edition::Third, 1);
+    // The timeout is 2, and local 1 is enabled in class 0, which stays off.
+    input.extend(write(5, 2).repeat(2));
+    input.extend(write(25, 1).repeat(2));
+    // The word 0 sets an alert's turn; alert 0 is not locked, so the turn ends
+    // in the next tick, line 0's ping opens in the one after and fails two
+    // ticks later.
+    input.extend(write(6, 1));
+    input.extend(read.repeat(6));
+    let zeros = "0000000000000000\n".repeat(5 + 4);
+    let failed = "0000000000000001\n".repeat(2);
+    assert_eq!(replay(&input), zeros + &failed);
+    // Line 0's answer in the last tick, alone, that of all others, and in a
+    // malformed record.
+    let size = Edition::Third.bytes();
+    let last = 2 + 9 * size - 1;
+    for (answers, fails) in [(8, false), (7, true), (0x88, false)] {
+        let mut input = input.clone();
+        input[last] = answers;
+        let text = replay(&input);
+        assert_eq!(text.contains("0000000000000001"), fails, "{answers}");
+        let refused = text.contains("0050000000000000");
+        assert_eq!(refused, answers == 0x88);
     }
 }

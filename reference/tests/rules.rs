@@ -4,8 +4,8 @@
 mod common;
 
 use common::{
-    asking, configure, event, idle, new, pause, raised, read, ready, sampled, tick, with, write,
-    ALERT0, COUNTS, REST,
+    configure, event, idle, new, pause, raised, read, ready, sampled, tick, with, write, ALERT0,
+    COUNTS, REST,
 };
 use reference::class::{IDLE, PHASE0, TERMINAL, TIMEOUT};
 use reference::handler::MAX_ALERTS;
@@ -17,10 +17,13 @@ use reference::{batch, Access, Edition, Handler, Outcome, Pairs, Place, Receiver
 #[test]
 fn largest_values_and_one_bit_more() {
     // Number, largest value, what a read gives after writing it twice.
-    let rows: [(u16, u32, i64); 14] = [
+    let rows: [(u16, u32, i64); 17] = [
         (0, 15, 0),
         (1, 15, 15),
         (2, 15, -2),
+        (4, 1, 1),
+        (5, 0xFFFF, 0xFFFF),
+        (6, 1, 1),
         (18, 1, 1),
         (26, 1, 1),
         (34, 3, 3),
@@ -51,7 +54,7 @@ fn largest_values_and_one_bit_more() {
 #[test]
 fn locks_and_their_order() {
     let mut h = new(1);
-    for regwen in [18, 256, 1280, 1282] {
+    for regwen in [4, 18, 256, 1280, 1282] {
         assert_eq!(write(&mut h, regwen, 1), 0);
         assert_eq!(write(&mut h, regwen, 0), 0);
         assert_eq!(write(&mut h, regwen, 2), -4);
@@ -59,7 +62,7 @@ fn locks_and_their_order() {
         assert_eq!(write(&mut h, regwen, 0), 0);
     }
     for number in [
-        26, 34, 512, 768, 1281, 1283, 1285, 1286, 1287, 1288, 1289, 1290,
+        5, 6, 26, 34, 512, 768, 1281, 1283, 1285, 1286, 1287, 1288, 1289, 1290,
     ] {
         assert_eq!(write(&mut h, number, 0), -3, "{number}");
         assert_eq!(write(&mut h, number, 1), -3, "{number}");
@@ -154,14 +157,11 @@ fn entries_and_samples_at_n_and_above_count_for_nothing() {
         let before = h.clone();
         for pair in [(1, 0), (0, 1), (0, 0), (1, 1)] {
             let sample = (n as usize..256).fold(REST, |sample, i| with(sample, i, pair));
-            let all: Vec<usize> = (n as usize..256).collect();
-            for sample in [sample, asking(sample, &all)] {
-                let ticked = tick(&mut h, Access::None, sample);
-                let rest = Pairs::at_rest();
-                assert_eq!(ticked.answer, 0);
-                assert_eq!((ticked.acknowledge, ticked.ping), (rest, rest));
-                assert_eq!(h, before, "N {n}, {pair:?}");
-            }
+            let ticked = tick(&mut h, Access::None, sample);
+            let rest = Pairs::at_rest();
+            assert_eq!(ticked.answer, 0);
+            assert_eq!((ticked.acknowledge, ticked.ping), (rest, rest));
+            assert_eq!(h, before, "N {n}, {pair:?}");
         }
     }
 }
@@ -223,7 +223,7 @@ fn two_classes_share_the_lines() {
 // Refusal 7
 
 /// Each breaks the rule at one place in a handler of three alerts.
-const DAMAGES: [fn(&mut Handler); 30] = [
+const DAMAGES: [fn(&mut Handler); 33] = [
     |h| h.n = 249,
     |h| h.intr_state = 16,
     |h| h.intr_enable = 16,
@@ -255,6 +255,9 @@ const DAMAGES: [fn(&mut Handler); 30] = [
     |h| h.stages.classes[3].lengths[3] = (1 << 32) + 1,
     |h| h.stages.classes[0].lengths[3] = u64::MAX,
     |h| h.stages.alerts.en[0] = 255,
+    |h| h.timer.regwen = 2,
+    |h| h.timer.enable = 2,
+    |h| h.timer.stage = 0x1_0001,
 ];
 
 #[test]
@@ -275,7 +278,7 @@ fn damaged_states_are_refused() {
         };
         assert_eq!(tick(&mut h, Access::Malformed, ALERT0), refused);
         let mut out = [7];
-        for edition in [Edition::First, Edition::Second] {
+        for edition in [Edition::First, Edition::Second, Edition::Third] {
             assert_eq!(batch(&mut h, edition, &[0; 71], &mut out), -7);
             assert_eq!(batch(&mut h, edition, &[], &mut []), -7);
         }

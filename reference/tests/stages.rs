@@ -4,10 +4,10 @@
 mod common;
 
 use common::records::{record, Bench, EDITIONS};
-use common::shadowed::{held, open, shadowed, stage, stage_all};
+use common::shadowed::{drop_all, held, open, shadowed, stage, stage_all};
 use common::{configure, idle, new, read, ready, sampled, tick, write, Numbers, ALERT0, REST};
 use reference::class::IDLE;
-use reference::{batch, Access, Edition, Stages};
+use reference::{batch, Access, Edition};
 
 /// The handler of most tests: two alerts, so that both have a neighbour.
 const N: u64 = 2;
@@ -25,7 +25,7 @@ fn the_first_is_staged_and_the_second_commits() {
                 assert_eq!(stage(&h, number), u64::from(value) + 1);
                 assert_eq!(open(&h), 1);
                 assert_eq!(held(&h, number), held(&before, number));
-                h.stages = Stages::new();
+                drop_all(&mut h);
                 assert_eq!(h, before, "{number}: staged, but more was changed");
 
                 configure(&mut h, number, value);
@@ -103,6 +103,7 @@ fn the_largest_staged_values_are_sound() {
         assert_eq!(write(&mut h, number, largest), 0);
     }
     assert!(h.valid());
+    assert_eq!(h.timer.stage, 0x1_0000);
     let class = h.stages.classes[3];
     assert_eq!((class.ctrl, class.thresh), (0x4000, 0x1_0000));
     assert_eq!((class.timeout, class.lengths), (1 << 32, [1 << 32; 4]));
@@ -121,7 +122,7 @@ fn a_stage_waits_over_ticks_and_other_accesses() {
     let mut numbers = Numbers(31);
     let mut h = ready(248, 0x393D);
     let rows = stage_all(&mut h);
-    let stages = h.stages;
+    let stages = (h.stages, h.timer.stage);
     for _ in 0..3000 {
         let number = numbers.below(2048) as u16;
         if rows.iter().any(|(row, _)| row.0 == number) {
@@ -137,17 +138,17 @@ fn a_stage_waits_over_ticks_and_other_accesses() {
             },
         };
         tick(&mut h, access, numbers.sample());
-        assert_eq!(h.stages, stages);
+        assert_eq!((h.stages, h.timer.stage), stages);
     }
     let mut out = [0; 3];
-    assert_eq!(batch(&mut h, Edition::Second, &[0; 210], &mut out), 0);
+    assert_eq!(batch(&mut h, Edition::Third, &[0; 225], &mut out), 0);
     // Refused batches and a state that breaks the rule keep them too.
     assert_eq!(batch(&mut h, Edition::First, &[0; 24], &mut out), -7);
-    assert_eq!(batch(&mut h, Edition::Second, &[0; 71], &mut out), -8);
+    assert_eq!(batch(&mut h, Edition::Third, &[0; 76], &mut out), -8);
     h.intr_enable = 16;
     assert_eq!(read(&mut h, 1281), -7);
     assert_eq!(write(&mut h, 1281, 0), -7);
-    assert_eq!(h.stages, stages);
+    assert_eq!((h.stages, h.timer.stage), stages);
 }
 
 #[test]
@@ -215,7 +216,12 @@ fn a_staged_value_acts_on_nothing() {
         configure(&mut plain, 1286, 3);
         let mut staged = plain.clone();
         stage_all(&mut staged);
-        let stages = staged.stages;
+        // Pings that fail after two ticks.
+        for h in [&mut plain, &mut staged] {
+            h.alerts[0].regwen = 0;
+            (h.timer.enable, h.timer.timeout) = (1, 2);
+        }
+        let stages = (staged.stages, staged.timer.stage);
         for _ in 0..2000 {
             // Interrupts, causes, clears, and what is read only.
             let register = [0, 1, 2, 42, 1024, 1283, 1284, 1292][numbers.below(8) as usize];
@@ -228,14 +234,15 @@ fn a_staged_value_acts_on_nothing() {
             let mut negative = positive.map(|word| !word);
             negative[0] ^= u64::from(numbers.below(20) == 0) << 63;
             let mut sample = sampled(positive, negative);
-            sample.asks[0] = numbers.next() & numbers.next();
+            sample.word = numbers.below(4) as u32;
+            sample.answers = numbers.next() as u8;
             assert_eq!(
                 tick(&mut plain, access, sample),
                 tick(&mut staged, access, sample)
             );
-            assert_eq!(staged.stages, stages);
+            assert_eq!((staged.stages, staged.timer.stage), stages);
             let mut bare = staged.clone();
-            bare.stages = Stages::new();
+            drop_all(&mut bare);
             assert_eq!(bare, plain);
         }
     }
@@ -261,9 +268,9 @@ fn a_trace_that_writes_once_no_longer_configures() {
 }
 
 #[test]
-fn records_of_both_editions_stage() {
+fn records_of_all_editions_stage() {
     let write = |register, value| Access::Write { register, value };
-    for (edition, en) in EDITIONS.into_iter().zip([191, 575]) {
+    for (edition, en) in EDITIONS.into_iter().zip([191, 575, 575]) {
         let mut h = new(64);
         // Staged, committed, staged, dropped, staged.
         let values = [1, 1, 0, 1, 0];

@@ -1,4 +1,4 @@
-//! Records of both editions, their words, and batches.
+//! Records of all editions, their words, and batches.
 
 mod common;
 
@@ -12,7 +12,7 @@ fn wires_in(edition: Edition, mut sample: Sample) -> Sample {
     for set in [&mut sample.pos, &mut sample.neg] {
         match edition {
             Edition::First => set[1..].fill(0),
-            Edition::Second => set[3] &= !0xFF,
+            Edition::Second | Edition::Third => set[3] &= !0xFF,
         }
     }
     sample
@@ -22,9 +22,15 @@ fn wires_in(edition: Edition, mut sample: Sample) -> Sample {
 
 #[test]
 fn sizes() {
-    for (edition, bytes, alerts) in [(Edition::First, 24, 64), (Edition::Second, 70, 248)] {
+    for (edition, bytes, alerts) in [
+        (Edition::First, 24, 64),
+        (Edition::Second, 70, 248),
+        (Edition::Third, 75, 248),
+    ] {
         assert_eq!((edition.bytes(), edition.alerts()), (bytes, alerts));
-        assert_eq!(8 + 2 * edition.wire_bytes(), bytes);
+        assert_eq!(edition.has_word(), edition == Edition::Third);
+        let word = if edition.has_word() { 5 } else { 0 };
+        assert_eq!(8 + 2 * edition.wire_bytes() + word, bytes);
         assert_eq!(2 + edition.register_bits() + edition.zero_bits(), 32);
         assert_eq!(pack(edition, 0, 0, REST).len(), bytes);
     }
@@ -36,10 +42,14 @@ type Row = (u32, u32, Access);
 fn check_rows(edition: Edition, rows: &[Row]) {
     let mut numbers = Numbers(5);
     for (head, value, access) in rows {
-        let sample = numbers.sample();
-        let Sample { pos, neg, .. } = wires_in(edition, sample);
+        let mut sample = numbers.sample();
+        if edition == Edition::Third {
+            sample.word = numbers.next() as u32;
+            sample.answers = numbers.below(16) as u8;
+        }
+        let expected = wires_in(edition, sample);
         let parsed = parse(edition, &pack(edition, *head, *value, sample));
-        assert_eq!(parsed, (*access, pos, neg), "{head:#x}");
+        assert_eq!(parsed, (*access, expected), "{head:#x}");
     }
 }
 
@@ -70,12 +80,11 @@ fn first_records_apart() {
 }
 
 #[test]
-fn second_records_apart() {
+fn second_and_third_records_apart() {
     let read = |register| Access::Read { register };
     let write = |register, value| Access::Write { register, value };
-    check_rows(
-        Edition::Second,
-        &[
+    for edition in [Edition::Second, Edition::Third] {
+        let rows = [
             (0, 0, Access::None),
             (0x6808_0000, 0, read(1281)),
             (0x4008_0000, 0, read(1)),
@@ -94,13 +103,38 @@ fn second_records_apart() {
             (0x0000_0001, 0, Access::Malformed),
             (0xC000_0000, 0, Access::Malformed),
             (0xFFF8_0000, 9, Access::Malformed),
-        ],
-    );
+            // The ping timer's 4, where no register may be.
+            (0x0020_0000, 0, Access::Malformed),
+        ];
+        check_rows(edition, &rows);
+    }
+}
+
+#[test]
+fn the_ping_timers_numbers_apart() {
+    for number in 3..=7u16 {
+        let old = match number {
+            4..=6 => 2047,
+            _ => number,
+        };
+        let (first, second) = (u32::from(number) << 20, u32::from(number) << 19);
+        for (edition, head, register) in [
+            (Edition::First, first, 2047),
+            (Edition::Second, second, old),
+            (Edition::Third, second, number),
+        ] {
+            let rows = [
+                (0x4000_0000 | head, 0, Access::Read { register }),
+                (0x8000_0000 | head, 1, Access::Write { register, value: 1 }),
+            ];
+            check_rows(edition, &rows);
+        }
+    }
 }
 
 #[test]
 fn every_zero_bit_must_be_zero() {
-    for (edition, zeros) in [(Edition::First, 20), (Edition::Second, 19)] {
+    for (edition, zeros) in EDITIONS.into_iter().zip([20, 19, 19]) {
         for kind in 0..4u32 {
             for bit in 0..zeros {
                 let bytes = pack(edition, (kind << 30) | (1 << bit), 0, REST);
@@ -170,7 +204,7 @@ fn batches() {
         let size = edition.bytes();
         let cause = match edition {
             Edition::First => 256,
-            Edition::Second => 1024,
+            Edition::Second | Edition::Third => 1024,
         };
         let mut h = ready(1, 0x393D);
         let mut bytes = record(edition, Access::Malformed, ALERT0);
@@ -196,6 +230,10 @@ fn the_length_is_the_editions_own() {
     let mut h = new(1);
     let bytes = [0; 24 * 70];
     let mut out = [0; 70];
+    assert_eq!(batch(&mut h, Edition::Third, &bytes[..70], &mut out), -8);
+    assert_eq!(batch(&mut h, Edition::Second, &bytes[..75], &mut out), -8);
+    assert_eq!(batch(&mut h, Edition::Third, &bytes[..75], &mut out), 0);
+    assert_eq!(batch(&mut h, Edition::Third, &bytes[..150], &mut [0]), -9);
     assert_eq!(batch(&mut h, Edition::First, &bytes[..70], &mut out), -8);
     assert_eq!(batch(&mut h, Edition::Second, &bytes[..24], &mut out), -8);
     // Both lengths divide this one, which is 70 old records or 24 new.
@@ -221,9 +259,10 @@ fn a_first_batch_is_refused_by_more_than_64_alerts() {
             }
         }
         assert_eq!((&h, out), (&before, [11; 3]));
-        // The same state takes ticks and a batch of the second edition.
+        // The same state takes ticks and a batch of a later edition.
         assert_eq!(batch(&mut h, Edition::Second, &[], &mut []), 0);
         assert_eq!(batch(&mut h, Edition::Second, &[0; 70], &mut out), 0);
+        assert_eq!(batch(&mut h, Edition::Third, &[0; 75], &mut out), 0);
         assert_eq!(h.tick(Access::None, &REST).answer, 0);
     }
     for n in [1, 63, 64] {
@@ -273,30 +312,33 @@ fn carried_by_hand(access: Access) -> Access {
 }
 
 #[test]
-fn both_editions_give_the_same_words_and_states() {
+fn all_editions_give_the_same_words_and_states() {
     let mut numbers = Numbers(8);
     for n in [1, 2, 31, 63, 64] {
-        let (mut old, mut new): (Handler, Handler) = (new(n), new(n));
+        let mut handlers: [Handler; 3] = [new(n), new(n), new(n)];
         let (mut access, mut sample) = fields(&mut numbers);
         for _ in 0..400 {
-            let (mut old_bytes, mut new_bytes) = (Vec::new(), Vec::new());
+            let mut bytes = [Vec::new(), Vec::new(), Vec::new()];
             for _ in 0..20 {
                 // As often again, since a shadowed register takes two writes.
                 if numbers.below(2) == 0 {
                     (access, sample) = fields(&mut numbers);
                 }
-                old_bytes.extend(record(Edition::First, access, sample));
                 let carried = carried_by_hand(access);
-                new_bytes.extend(record(Edition::Second, carried, sample));
+                let accesses = [access, carried, carried];
+                for (at, edition) in EDITIONS.into_iter().enumerate() {
+                    bytes[at].extend(record(edition, accesses[at], sample));
+                }
             }
-            let (mut old_out, mut new_out) = ([0; 20], [0; 20]);
-            assert_eq!(batch(&mut old, Edition::First, &old_bytes, &mut old_out), 0);
-            assert_eq!(
-                batch(&mut new, Edition::Second, &new_bytes, &mut new_out),
-                0
-            );
-            assert_eq!(old_out.map(unpack), new_out.map(unpack));
-            assert_eq!(old, new);
+            let mut out = [[0; 20]; 3];
+            for (at, edition) in EDITIONS.into_iter().enumerate() {
+                let answer = batch(&mut handlers[at], edition, &bytes[at], &mut out[at]);
+                assert_eq!(answer, 0);
+            }
+            for at in 1..3 {
+                assert_eq!(out[0].map(unpack), out[at].map(unpack));
+                assert_eq!(handlers[0], handlers[at]);
+            }
         }
     }
 }

@@ -5,13 +5,13 @@ mod common;
 use common::Numbers;
 use reference::trace::parse;
 use reference::writer::WRITTEN;
-use reference::{record, Access, Edition, Wires};
+use reference::{record, Access, Edition, Sample, Wires};
 
 /// The bytes of a record that is written.
-const SIZE: usize = 70;
+const SIZE: usize = 75;
 
-/// Kind, register, value, positive and negative wires.
-type Entry = (u8, u16, u32, Wires, Wires);
+/// Kind, register, value and sample.
+type Entry = (u8, u16, u32, Sample);
 
 /// A list as the writer borrows it.
 #[derive(Clone, Debug, Default, PartialEq)]
@@ -21,6 +21,8 @@ struct List {
     values: Vec<u32>,
     positive: Vec<Wires>,
     negative: Vec<Wires>,
+    words: Vec<u32>,
+    answers: Vec<u8>,
 }
 
 impl List {
@@ -36,8 +38,10 @@ impl List {
         self.kinds.push(entry.0);
         self.registers.push(entry.1);
         self.values.push(entry.2);
-        self.positive.push(entry.3);
-        self.negative.push(entry.4);
+        self.positive.push(entry.3.pos);
+        self.negative.push(entry.3.neg);
+        self.words.push(entry.3.word);
+        self.answers.push(entry.3.answers);
     }
 
     fn write(&self, out: &mut [u8]) -> i64 {
@@ -47,12 +51,14 @@ impl List {
             &self.values,
             &self.positive,
             &self.negative,
+            &self.words,
+            &self.answers,
             out,
         )
     }
 
     /// The entry as the parser gives it.
-    fn entry(&self, i: usize) -> (Access, Wires, Wires) {
+    fn entry(&self, i: usize) -> (Access, Sample) {
         let (register, value) = (self.registers[i], self.values[i]);
         let access = match self.kinds[i] {
             0 => Access::None,
@@ -60,36 +66,56 @@ impl List {
             2 => Access::Write { register, value },
             _ => Access::Malformed,
         };
-        (access, self.positive[i], self.negative[i])
+        let sample = Sample {
+            pos: self.positive[i],
+            neg: self.negative[i],
+            word: self.words[i],
+            answers: self.answers[i],
+        };
+        (access, sample)
     }
 }
 
 /// What the parser gives, as an entry of a list.
-fn read((access, positive, negative): (Access, Wires, Wires)) -> Entry {
+fn read((access, sample): (Access, Sample)) -> Entry {
     match access {
-        Access::None => (0, 0, 0, positive, negative),
-        Access::Read { register } => (1, register, 0, positive, negative),
-        Access::Write { register, value } => (2, register, value, positive, negative),
+        Access::None => (0, 0, 0, sample),
+        Access::Read { register } => (1, register, 0, sample),
+        Access::Write { register, value } => (2, register, value, sample),
         Access::Malformed => panic!("malformed"),
     }
 }
 
-/// Wires as a record gives them, with nothing in the last eight places.
-fn wires(numbers: &mut Numbers) -> Wires {
-    let mut wires = numbers.wires();
-    wires[3] &= !0xFF;
-    wires
+/// A sample as a record gives it, with nothing in the last eight places of the
+/// wires and the last four of the answers.
+fn sample(numbers: &mut Numbers) -> Sample {
+    let mut sample = numbers.sample();
+    sample.pos[3] &= !0xFF;
+    sample.neg[3] &= !0xFF;
+    sample.word = numbers.next() as u32;
+    sample.answers = numbers.below(16) as u8;
+    sample
+}
+
+/// A sample of these parts.
+fn of(pos: Wires, neg: Wires, word: u32, answers: u8) -> Sample {
+    Sample {
+        pos,
+        neg,
+        word,
+        answers,
+    }
 }
 
 /// An entry that a record holds.
 fn entry(numbers: &mut Numbers) -> Entry {
     let register = [0, 1023, 1024, 2047, numbers.below(2048) as u16][numbers.below(5) as usize];
     let value = [0, 1, u32::MAX, numbers.next() as u32][numbers.below(4) as usize];
-    let (positive, negative) = (wires(numbers), wires(numbers));
+    let sample = sample(numbers);
     match numbers.below(3) {
-        0 => (0, 0, 0, positive, negative),
-        1 => (1, register, 0, positive, negative),
-        _ => (2, register, value, positive, negative),
+        0 => (0, 0, 0, sample),
+        1 => (1, register, 0, sample),
+        _ => (2, register, value, sample),
     }
 }
 
@@ -105,9 +131,9 @@ fn list(numbers: &mut Numbers) -> List {
 fn three() -> List {
     let wires = |first| [first, 5, 6, 7 << 8];
     List::of(&[
-        (2, 1, 2, wires(3), wires(4)),
-        (1, 5, 0, wires(6), wires(7)),
-        (0, 0, 0, wires(8), wires(9)),
+        (2, 1, 2, of(wires(3), wires(4), 10, 11)),
+        (1, 5, 0, of(wires(6), wires(7), 12, 13)),
+        (0, 0, 0, of(wires(8), wires(9), 14, 15)),
     ])
 }
 
@@ -122,19 +148,19 @@ fn hex(bytes: &[u8]) -> String {
 
 #[test]
 fn the_newest_edition_is_written() {
-    assert_eq!((WRITTEN, WRITTEN.bytes()), (Edition::Second, SIZE));
+    assert_eq!((WRITTEN, WRITTEN.bytes()), (Edition::Third, SIZE));
 }
 
 #[test]
 fn the_papers_accesses() {
     // 321 and 1023 of the base are 1281 now and a number that is unassigned.
-    let rest = ([0; 4], [1 << 63, 0, 0, 0]);
-    let list = List::of(&[(1, 1281, 0, rest.0, rest.1), (2, 2047, 0, rest.0, rest.1)]);
-    let mut out = buffer(140);
-    assert_eq!(list.write(&mut out), 140);
-    let wires = "00".repeat(31) + "80" + &"00".repeat(30);
-    assert_eq!(hex(&out[..70]), format!("6808000000000000{wires}"));
-    assert_eq!(hex(&out[70..]), format!("bff8000000000000{wires}"));
+    let rest = of([0; 4], [1 << 63, 0, 0, 0], 0, 0);
+    let list = List::of(&[(1, 1281, 0, rest), (2, 2047, 0, rest)]);
+    let mut out = buffer(150);
+    assert_eq!(list.write(&mut out), 150);
+    let sample = "00".repeat(31) + "80" + &"00".repeat(30) + "0000000000";
+    assert_eq!(hex(&out[..75]), format!("6808000000000000{sample}"));
+    assert_eq!(hex(&out[75..]), format!("bff8000000000000{sample}"));
 }
 
 /// Wires with a byte of their own at every end of a word.
@@ -143,6 +169,19 @@ const MARKED: Wires = [
     0xfedc_ba98_7654_3210,
     0x1122_3344_5566_7788,
     0x99aa_bbcc_ddee_ffa5,
+];
+
+/// Words and answers, and a record's last bytes. Line 0's answer bit comes
+/// first; bits 4 to 7 are no answers.
+const PINGS: [(u32, u8, &str); 8] = [
+    (0, 0, "0000000000"),
+    (u32::MAX, 15, "ffffffff0f"),
+    (0x0123_4567, 1, "0123456708"),
+    (0x89ab_cdef, 2, "89abcdef04"),
+    (1, 4, "0000000102"),
+    (1 << 31, 8, "8000000001"),
+    (0x10_0000, 0xF3, "001000000c"),
+    (7, 0xF0, "0000000700"),
 ];
 
 #[test]
@@ -172,10 +211,13 @@ fn each_field_has_its_bits() {
             ["90000000ffffffff", zero, zero],
         ),
     ];
-    for (entry, bytes) in rows {
-        let mut out = buffer(SIZE);
-        assert_eq!(List::of(&[entry]).write(&mut out), 70);
-        assert_eq!(hex(&out), bytes.concat());
+    for ((kind, register, value, pos, neg), bytes) in rows {
+        for (word, answers, last) in PINGS {
+            let entry = (kind, register, value, of(pos, neg, word, answers));
+            let mut out = buffer(SIZE);
+            assert_eq!(List::of(&[entry]).write(&mut out), 75);
+            assert_eq!(hex(&out), bytes.concat() + last);
+        }
     }
 }
 
@@ -189,7 +231,7 @@ fn reading_what_was_written() {
         let before = out.clone();
         assert_eq!(list.write(&mut out), (entries * SIZE) as i64);
         for (i, written) in out.chunks_exact(SIZE).take(entries).enumerate() {
-            assert_eq!(parse(Edition::Second, written), list.entry(i));
+            assert_eq!(parse(Edition::Third, written), list.entry(i));
         }
         assert_eq!(out[entries * SIZE..], before[entries * SIZE..]);
     }
@@ -212,7 +254,8 @@ fn writing_what_was_read() {
                 2 => {}
                 _ => record[0] &= 0xBF,
             }
-            list.push(read(parse(Edition::Second, &record)));
+            record[74] &= 0xF;
+            list.push(read(parse(Edition::Third, &record)));
             bytes.extend(record);
         }
         let mut out = buffer(bytes.len());
@@ -258,7 +301,7 @@ fn an_unrecordable_entry_is_refused_at_every_place() {
                 list.push(entry);
             }
             // 10 comes before 11.
-            for length in [0, 70, 96, 279, 280, 281, 400] {
+            for length in [0, 75, 96, 299, 300, 301, 400] {
                 let before = buffer(length);
                 let mut out = before.clone();
                 assert_eq!(list.write(&mut out), -10, "{kind} {register} {value}");
@@ -278,9 +321,10 @@ fn all_other_entries_are_written() {
                     1 => value == 0,
                     _ => true,
                 };
-                let list = List::of(&[(kind, register, value, [5; 4], [6; 4])]);
+                let sample = of([5; 4], [6; 4], 7, 8);
+                let list = List::of(&[(kind, register, value, sample)]);
                 let mut out = [0; SIZE];
-                assert_eq!(list.write(&mut out), if good { 70 } else { -10 });
+                assert_eq!(list.write(&mut out), if good { 75 } else { -10 });
             }
         }
     }
@@ -289,18 +333,20 @@ fn all_other_entries_are_written() {
 #[test]
 fn slices_of_unequal_lengths_are_refused() {
     let good = three();
-    let change: [fn(&mut List, usize); 5] = [
+    let change: [fn(&mut List, usize); 7] = [
         |list, length| list.kinds.resize(length, 0),
         |list, length| list.registers.resize(length, 0),
         |list, length| list.values.resize(length, 0),
         |list, length| list.positive.resize(length, [0; 4]),
         |list, length| list.negative.resize(length, [0; 4]),
+        |list, length| list.words.resize(length, 0),
+        |list, length| list.answers.resize(length, 0),
     ];
     for resize in change {
         for length in [0, 1, 2, 4, 9] {
             let mut list = good.clone();
             resize(&mut list, length);
-            for size in [0, 72, 209, 210, 900] {
+            for size in [0, 77, 224, 225, 900] {
                 let before = buffer(size);
                 let mut out = before.clone();
                 assert_eq!(list.write(&mut out), -10);
@@ -313,24 +359,24 @@ fn slices_of_unequal_lengths_are_refused() {
 #[test]
 fn a_short_buffer_is_refused_and_kept() {
     let list = three();
-    for length in 0..210 {
+    for length in 0..225 {
         let before = buffer(length);
         let mut out = before.clone();
         assert_eq!(list.write(&mut out), -11);
         assert_eq!(out, before);
     }
-    for length in 210..300 {
+    for length in 225..320 {
         let before = buffer(length);
         let mut out = before.clone();
-        assert_eq!(list.write(&mut out), 210);
-        assert_eq!(out[210..], before[210..]);
-        assert_ne!(out[..210], before[..210]);
+        assert_eq!(list.write(&mut out), 225);
+        assert_eq!(out[225..], before[225..]);
+        assert_ne!(out[..225], before[..225]);
     }
 }
 
 #[test]
 fn an_empty_list_writes_nothing() {
-    for length in [0, 1, 24, 70, 100] {
+    for length in [0, 1, 24, 70, 75, 100] {
         let before = buffer(length);
         let mut out = before.clone();
         assert_eq!(List::default().write(&mut out), 0);

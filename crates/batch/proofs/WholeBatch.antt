@@ -2,9 +2,9 @@
 -- state, answer and every word; and demand 3 in the words. A promise that says less, or asks for more, does not give it.
 -- Assumes nothing.
 use Prim.Native.Nat.{ℕ, _+_, _-_, _*_, _/_, _%_, _≤_, _<_}
-use mathlib.Core.Path.{_≡_, refl, ap, _∙_, subst}
+use mathlib.Core.Path.{_≡_, refl, ap, ap₂, _∙_, subst}
 use mathlib.Core.Logic.{_⊎_, ⊎-elim}
-use mathlib.Core.Bool.{Bool, true, false, not, _&&_}
+use mathlib.Core.Bool.{Bool, true, false, not, _&&_, _||_}
 use mathlib.Core.List.{List, _++_, map}
 use native.Mathlib.Omega.{arith}
 use borrow.Author.Tests.{eq-eqb, ne-eqb, lt-ltb, le-ltb, le-leb, lt-leb}
@@ -20,7 +20,7 @@ use Rattle.escalation.specs.List.{IsTick, noInput}
 use Rattle.rules.specs.Access.{acted}
 use Rattle.rules.specs.Answer.{firstOf, number}
 use Rattle.rules.specs.Run.{run, ticks}
-use Rattle.rules.specs.State.{classAt}
+use Rattle.rules.specs.State.{classAt, isOn}
 use Rattle.rules.specs.Tick.{signalsIn}
 use Rattle.rules.specs.Valid.{valid}
 use Rattle.rules.specs.declared.Answer.{Answer}
@@ -32,7 +32,7 @@ use Rattle.rules.specs.declared.Verdict.{Verdict}
 use Rattle.trace_laws.proofs.BatchLaws.{batch-good, batch-refused}
 use Rattle.trace_rules.specs.Batch as rules
 use Rattle.trace_rules.specs.Batch.{admits, batchVerdict, batchInputs}
-use Rattle.trace_rules.specs.Edition.{recordBytes, alerts}
+use Rattle.trace_rules.specs.Edition.{recordBytes, alerts, hasTimer}
 use Rattle.trace_rules.specs.Record.{inputsOf}
 use Rattle.trace_rules.specs.Word.{wordOf}
 use Rattle.trace_rules.specs.declared.Edition.{Edition}
@@ -47,9 +47,9 @@ and-no true = refl
 and-no false = refl
 
 module _ (e : Edition) (h : Handler) (bytes out : List ℕ) where
-  admitted : valid h ≡ true → h .n ≤ alerts e → admits e h ≡ true
+  admitted : valid h ≡ true → h .n ≤ alerts e → (hasTimer e || not (isOn h)) ≡ true → admits e h ≡ true
   unfolding admits
-  admitted v n = true-and v (le-leb (h .n) (alerts e) n)
+  admitted v n o = true-and v (true-and (le-leb (h .n) (alerts e) n) o)
 
   accepted : admits e h ≡ true → length bytes % recordBytes e ≡ 0 → length bytes / recordBytes e ≤ length out → batchVerdict e h bytes out ≡ Verdict.Accepted
   unfolding batchVerdict firstOf
@@ -66,22 +66,30 @@ module _ (e : Edition) (h : Handler) (bytes out : List ℕ) where
           b .words ∙ ap (λ (x : rules.Batched). x .out) q,
         )
 
-    -- 7, also for a state of more alerts than the edition's
-    refused-7 : (valid h ≡ false) ⊎ (alerts e < h .n) → (r .handler ≡ h) × (r .answer ≡ negsuc 6) × (left ≡ out)
+    -- 7, also for a state of more alerts than the edition's, and where the timer is on and the edition is older
+    refused-7 : (valid h ≡ false) ⊎ ((alerts e < h .n) ⊎ ((hasTimer e ≡ false) × (h .timer .enable ≡ 1))) → (r .handler ≡ h) × (r .answer ≡ negsuc 6) × (left ≡ out)
     unfolding admits number
-    refused-7 c = refused BadState (seven e h bytes out (ap not (⊎-elim bad many c)))
+    refused-7 c = refused BadState (seven e h bytes out (ap not (⊎-elim bad (⊎-elim many on) c)))
       where
-        bad : valid h ≡ false → (valid h && leb (h .n) (alerts e)) ≡ false
-        bad v = ap (λ (x : Bool). x && leb (h .n) (alerts e)) v
+        old : Bool
+        old = hasTimer e || not (isOn h)
 
-        many : alerts e < h .n → (valid h && leb (h .n) (alerts e)) ≡ false
-        many m = ap (λ (x : Bool). valid h && x) (lt-leb (h .n) (alerts e) m) ∙ and-no (valid h)
+        bad : valid h ≡ false → admits e h ≡ false
+        bad v = ap (λ (x : Bool). x && (leb (h .n) (alerts e) && old)) v
 
-    module _ (v : valid h ≡ true) (n : h .n ≤ alerts e) where
+        many : alerts e < h .n → admits e h ≡ false
+        many m = ap (λ (x : Bool). valid h && (x && old)) (lt-leb (h .n) (alerts e) m) ∙ and-no (valid h)
+
+        on : (hasTimer e ≡ false) × (h .timer .enable ≡ 1) → admits e h ≡ false
+        on w =
+            ap₂ (λ (x y : Bool). valid h && (leb (h .n) (alerts e) && (x || not y))) (w .0) (eq-eqb (h .timer .enable) 1 (w .1))
+            ∙ ap (λ (x : Bool). valid h && x) (and-no (leb (h .n) (alerts e))) ∙ and-no (valid h)
+
+    module _ (v : valid h ≡ true) (n : h .n ≤ alerts e) (o : (hasTimer e || not (isOn h)) ≡ true) where
       -- 8
       refused-8 : (length bytes % recordBytes e ≡ 0 → ⊥) → (r .handler ≡ h) × (r .answer ≡ negsuc 7) × (left ≡ out)
       unfolding number
-      refused-8 m = refused BadLength (eight e h bytes out (ap not (admitted v n)) (ap not (ne-eqb (length bytes % recordBytes e) 0 m)))
+      refused-8 m = refused BadLength (eight e h bytes out (ap not (admitted v n o)) (ap not (ne-eqb (length bytes % recordBytes e) 0 m)))
 
       module _ (w : length bytes % recordBytes e ≡ 0) where
         -- 9
@@ -89,7 +97,7 @@ module _ (e : Edition) (h : Handler) (bytes out : List ℕ) where
         unfolding number
         refused-9 m =
             refused ShortList
-            (nine e h bytes out (ap not (admitted v n)) (ap not (eq-eqb (length bytes % recordBytes e) 0 w)) (lt-ltb (length out) (length bytes / recordBytes e) m))
+            (nine e h bytes out (ap not (admitted v n o)) (ap not (eq-eqb (length bytes % recordBytes e) 0 w)) (lt-ltb (length out) (length bytes / recordBytes e) m))
 
         -- ── not refused: the ticks of its records, a word for each, and later words as they were ──
 
@@ -99,7 +107,7 @@ module _ (e : Edition) (h : Handler) (bytes out : List ℕ) where
               × (left ≡ map wordOf (ticks h (inputsOf e bytes)) ++ drop (length bytes / recordBytes e) out)
           unfolding number
           ran =
-              let q = batch-good e h bytes out (admitted v n) w room in (
+              let q = batch-good e h bytes out (admitted v n o) w room in (
                 b .handler ∙ ap (λ (x : rules.Batched). x .handler) q,
                 b .answer ∙ ap (λ (x : rules.Batched). x .answer) q,
                 b .words ∙ ap (λ (x : rules.Batched). x .out) q,
@@ -111,7 +119,7 @@ module _ (e : Edition) (h : Handler) (bytes out : List ℕ) where
             xs = inputsOf e bytes
 
             claim : Demand3 h xs
-            claim = subst (λ (x : Verdict). Demand3 h (batchInputs e x bytes)) (accepted (admitted v n) w room) (d v)
+            claim = subst (λ (x : Verdict). Demand3 h (batchInputs e x bytes)) (accepted (admitted v n o) w room) (d v)
 
             abbrev read : ℕ → ℕ → Class
             read i k = classAt (acted (run h (take i xs)) (getD xs i noInput .access)) k
@@ -127,6 +135,6 @@ module _ (e : Edition) (h : Handler) (bytes out : List ℕ) where
                 let is : IsTick first xs s = record { from = from; to = omega (arith, c) } in
                 let it : IsTick first xs t = record { from = omega arith; to = omega (arith, c) } in
                 ap (λ (ws : List ℕ). bit (getD ws (t - first) 0) (59 - j)) (b .words)
-                ∙ line-of-list e h bytes out (admitted v n) w room first t j it lj
+                ∙ line-of-list e h bytes out (admitted v n o) w room first t j it lj
                 ∙ claim .escalation first k s is (record { is-class = small; is-start = start; is-locked = shut; has-en = has-en; has-lock = has-lock }) t later it .line j lj
                 .inside enabled phase

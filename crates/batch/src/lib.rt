@@ -19,7 +19,8 @@ ghost use Prim.Native.Nat.{_≤_};
 ghost use lib.ListN.{length, drop};
 ghost use Rattle.escalation.specs.Escalation.{Demand3};
 ghost use Rattle.rules.specs.Answer.{number};
-ghost use Rattle.trace_rules.specs.Batch.{batchVerdict, batchInputs};
+ghost use Rattle.trace_rules.specs.Batch.{admits, batchVerdict, batchInputs};
+ghost use Rattle.trace_rules.specs.Edition.{hasTimer};
 ghost use Rattle.trace_rules.specs.Record.{recordCount, inputsOf};
 ghost use Rattle.trace_rules.specs.Word.{wordOf};
 ghost use Rattle.rules.specs.Run.{run, ticks};
@@ -77,14 +78,33 @@ fn refuse(h: Handler, m: Refusal) -> Batched
     }
 }
 
+// Records of this edition name the ping timer's registers, request (ix).
+fn has_timer(edition: Edition) -> bool
+    ensures { λ r. ⌜ r ≡ hasTimer edition ⌝ }
+{
+    match edition {
+        Edition::Alerts64 => false,
+        Edition::Alerts248 => false,
+        Edition::Pings => true,
+    }
+}
+
+// The state gets no refusal 7 from a batch of this edition.
+fn is_admitted(edition: Edition, h: Handler) -> bool
+    ensures { λ r. ⌜ r ≡ admits edition h ⌝ }
+{
+    let most = alerts(edition);
+    let timer = has_timer(edition);
+    is_valid(h) & ((h.n <= most) & (timer | !(h.timer.enable == 1)))
+}
+
 // A batch is refused by 7, 8 or 9, in this order, or it takes the ticks of its records and answers 0.
 pub fn batch(edition: Edition, h: Handler, bytes: &[u8], out: &mut [u64]) -> Batched
     ensures { λ r. ⌜ BatchedBy edition h (now (bytes .entry)) (now (out .entry)) r (now (out .exit)) ⌝ }
     ensures demand3 { λ r. ⌜ (valid h ≡ true → Demand3 h (batchInputs edition (batchVerdict edition h (now (bytes .entry)) (now (out .entry))) (now (bytes .entry)))) ⌝ }
 {
     let size = record_bytes(edition);
-    let most = alerts(edition);
-    let broken = !(is_valid(h) & (h.n <= most));
+    let broken = !is_admitted(edition, h);
     let uneven = bytes.len() % size != 0;
     let count = bytes.len() / size;
     let short = out.len() < count;

@@ -2,48 +2,58 @@
 -- Assumes nothing.
 use Prim.Native.Nat.{ℕ, _≤_, _<_}
 use mathlib.Core.Path.{_≡_, refl, sym, ap, _∙_, subst}
-use mathlib.Core.Bool.{true, false}
+use mathlib.Core.Bool.{Bool, true, false, _&&_}
 use native.Mathlib.Omega.{arith}
 use borrow.Author.Tests.{lt-ltb, ltb-false}
 use lib.Dec.{eqb, ltb}
 use Rattle.bits.proofs.IndexLaws.{true-and}
 use Rattle.bits.specs.Bits.{bit}
 use Rattle.class_rules.specs.Class.{en, lock}
+use Rattle.laws.proofs.Access.RegisterFile.{acted-other}
 use Rattle.laws.proofs.Map.Cases.{pick}
+use Rattle.laws.proofs.Samples.AtRest.{none-happened}
+use Rattle.laws.proofs.Samples.Heard.{heard-event}
+use Rattle.laws.proofs.Tick.Causes.{after-cause}
+use Rattle.laws.proofs.Valid.Refusal7.{ticked-handler}
 use Rattle.laws.proofs.Valid.ValidLaws.{facts}
 use Rattle.laws.specs.Frame.{movesItself}
 use Rattle.laws.specs.InMap.{inMap}
 use Rattle.laws.specs.Quiet.{runs}
+use Rattle.laws.specs.RegisterFile.{commits}
 use Rattle.laws.specs.StageFile.{names}
-use Rattle.rules.specs.Access.{value}
+use Rattle.rules.specs.Access.{value, acted, effects}
 use Rattle.rules.specs.Map.{decode, numberOf}
+use Rattle.rules.specs.Samples.{asksFor, marked, alertEnabled}
 use Rattle.rules.specs.Stages.{stage}
 use Rattle.rules.specs.State.{most, localCount, classCount, classAt}
+use Rattle.rules.specs.Tick.{hears}
 use Rattle.rules.specs.Valid.{valid}
 use Rattle.rules.specs.declared.Field.{Field}
 use Rattle.rules.specs.declared.Handler.{Handler}
 use Rattle.rules.specs.declared.Register.{Register}
+use Rattle.rules.specs.declared.Sample.{Sample}
 use Rattle.rules.specs.declared.Register.the-variants.{Only, Local, Alert, Block}
 use Rattle.rules.specs.declared.Setting.the-variants.{Ctrl, AccumCnt}
 use Rattle.rules.specs.declared.Single.the-variants.{IntrState, IntrEnable}
 use Rattle.policy.specs.Install.{Ask, Entry, under, install, write, read, asks}
 use Rattle.policy.specs.Plan.{locks, ctrlOf, alertEntries, classEntries, planOf, boot}
 use Rattle.boot_laws.specs.Boots.{booted}
-use Rattle.boot_laws.specs.Ran.{wants, reach, Among}
+use Rattle.boot_laws.specs.Ran.{inputOf, wants, reach, Among}
 use Rattle.boot_laws.specs.Ran.Among.{here, there}
 use Rattle.policy.specs.Sound.{unnamed, sound, planned}
-use Rattle.boot_laws.specs.Stands.{Success, Stands, Untouched, Eventless}
+use Rattle.boot_laws.specs.Stands.{Success, Stands, Untouched, NoPingEvent, Eventless}
 use Rattle.policy.specs.Table.{alertCount}
 use Rattle.policy.specs.declared.Installed.{Installed}
 use Rattle.policy.specs.declared.Lifecycle.{Lifecycle}
 use Rattle.policy.specs.declared.Progress.{Progress}
 use Rattle.boot_laws.proofs.AskLaws.{install-keeps, install-goes, Kept, reach-kept, install-kept, install-run}
-use Rattle.boot_laws.proofs.EntryLaws.{Fit, Settled, other-name, reach-stage}
+use Rattle.boot_laws.proofs.EntryLaws.{Fit, Settled, spares, other-name, reach-stage}
 use Rattle.boot_laws.proofs.InstallLaws.{sound-fit, unnamed-at, moving-unnamed, all-asks, Same, same-start, install-frame, install-holds}
 use Rattle.boot_laws.proofs.Members.{has-length, alert-part, class-part, lock-part, last-part}
 use Rattle.policy.proofs.PlanLaws.{plan-planned}
-use Rattle.boot_laws.proofs.QuietLaws.{quiet-write, quiet-read}
-use Rattle.boot_laws.proofs.Unnamed.{unplanned, local-out, other-out}
+use Rattle.boot_laws.proofs.NoPings.{Clear, plan-clear}
+use Rattle.boot_laws.proofs.QuietLaws.{at-rest, quiet-write, quiet-read, pings-write, pings-read}
+use Rattle.boot_laws.proofs.Unnamed.{unplanned, local-out, cause-out, other-out}
 use Rattle.boot_laws.proofs.Boot.{plan-fits, begins, Went, went}
 
 -- ── after a success, from any accepted state ──
@@ -87,18 +97,29 @@ module _ (l : Lifecycle) (h : Handler) (w : Went l h) where
       ctrl-is k b = holds _ (class-part l _ k b (there (there (there (there (there (there here)))))))
 
   -- what the plan does not name
-  pub same : (o : Register) → inMap (h .n) o ≡ true → unnamed o (planOf l) ≡ true → runs o ≡ false → Same o h g
-  same o a u r =
-      install-goes (Same o h) (asks (planOf l))
-      (all-asks (λ x. (f : Handler) → Same o h f → wants f x ≡ true → Same o h (reach f x)) (planOf l) (λ e m.
+  pub same : NoPingEvent h → (o : Register) → inMap (h .n) o ≡ true → unnamed o (planOf l) ≡ true → runs o ≡ false → Same o h g
+  same p o a u r =
+      install-goes I (asks (planOf l))
+      (all-asks (λ x. (f : Handler) → I f → wants f x ≡ true → I (reach f x)) (planOf l) (λ e m.
       let k = sound-fit (h .n) (planOf l) fits-it e m in
       let d = unnamed-at o (planOf l) u e m in
-      (λ f s. quiet-write h f (s .kept) (e .register) (e .value) k o a r d s, λ f s. quiet-read h f (s .kept) (e .register) (e .value) k o a r d s)))
-      h (same-start o h (w .good)) (w .going)
+      (by-write (e .register) (e .value) k d (plan-clear l e m), by-read (e .register) (e .value) k d (plan-clear l e m))))
+      h (same-start o h (w .good), p) (w .going) .0
+    where
+      I : Handler → Type 0
+      I f = Same o h f × NoPingEvent f
+
+      by-write : (q : Register) (v : ℕ) → Fit (h .n) q v → (numberOf q ≡ numberOf o → ⊥) → Clear q → (f : Handler) → I f
+          → wants f (write (numberOf q) v) ≡ true → I (reach f (write (numberOf q) v))
+      by-write q v k d c f i y = (quiet-write h f (i .0 .kept) q v k c (i .1) o a r d (i .0) y, pings-write h f (i .0 .kept) q v k c (i .1))
+
+      by-read : (q : Register) (v : ℕ) → Fit (h .n) q v → (numberOf q ≡ numberOf o → ⊥) → Clear q → (f : Handler) → I f
+          → wants f (read (numberOf q) v) ≡ true → I (reach f (read (numberOf q) v))
+      by-read q v k d c f i y = (quiet-read h f (i .0 .kept) q v k c (i .1) o a r d (i .0) y, pings-read h f (i .0 .kept) q v k c (i .1))
 
   -- what moves only with an event is as before: the plan names no register that moves by itself
-  pub eventless : Eventless h g
-  eventless =
+  pub eventless : NoPingEvent h → Eventless h g
+  eventless p =
       record {
         values = moved;
         interrupts = moved (Only IntrState) refl refl refl;
@@ -108,9 +129,24 @@ module _ (l : Lifecycle) (h : Handler) (w : Went l h) where
       }
     where
       moved : (o : Register) → inMap (h .n) o ≡ true → movesItself o ≡ true → runs o ≡ false → value g o ≡ value h o
-      moved o a m r = same o a (moving-unnamed (h .n) (facts h (w .good) .n) (planOf l) fits-it o a m) r .holds
+      moved o a m r = same p o a (moving-unnamed (h .n) (facts h (w .good) .n) (planOf l) fits-it o a m) r .holds
 
 -- ── what no boot moves ──
+
+-- one tick of it leaves an alert's CAUSE
+reach-cause : (f : Handler) (t : valid f ≡ true) (x : Ask) (i : ℕ) → i < f .n → commits f (x .access) (Alert Field.Cause i) ≡ false
+    → value (reach f x) (Alert Field.Cause i) ≡ value f (Alert Field.Cause i)
+unfolding hears
+reach-cause f t x i b c =
+    let m : f .n ≤ most = facts f t .n in
+    let g : Handler = acted f (x .access) in
+    let s : Sample = inputOf x .sample in
+    ap (λ (y : Handler). value y (Alert Field.Cause i)) (ticked-handler f (inputOf x) t)
+    ∙ after-cause f (inputOf x) i m b
+    ∙ ap (λ (e : Bool). marked (e && alertEnabled g i) (value g (Alert Field.Cause i)))
+    (heard-event g s (effects f (x .access)) i (omega (arith, m, b))
+    ∙ none-happened g (asksFor g s (effects f (x .access))) (s .alerts) (at-rest (x .access)) i (omega (arith, m, b)))
+    ∙ acted-other f (x .access) (Alert Field.Cause i) m (lt-ltb i (f .n) b) c
 
 module _ (l : Lifecycle) (h : Handler) (t : valid h ≡ true) (large : alertCount ≤ h .n) where
   abbrev end : Handler
@@ -139,6 +175,31 @@ module _ (l : Lifecycle) (h : Handler) (t : valid h ≡ true) (large : alertCoun
           let b : inMap (f .n) q ≡ true = ap (λ (n : ℕ). inMap n q) (i .0 .n) ∙ k .exists in
           (reach-kept h f x (i .0), reach-stage f (i .0 .good) o a' x (y f (other-name f (i .0 .good) q v b (k .takes) o d)) ∙ i .1)
 
+  -- no alert has an event, so that its CAUSE is as before
+  cause-same : (i : ℕ) → i < h .n → value end (Alert Field.Cause i) ≡ value h (Alert Field.Cause i)
+  cause-same i b =
+      install-keeps I (asks (planOf l))
+      (all-asks (λ x. (f : Handler) → I f → I (reach f x)) (planOf l) (λ e m.
+      let k = sound-fit (h .n) (planOf l) (plan-fits l (h .n) large) e m in
+      let d = unnamed-at q (planOf l) (unplanned (planOf l) q (plan-planned l) (cause-out i (omega (arith, b, facts h t .n)))) e m in (
+        (λ f j. next (write (numberOf (e .register)) (e .value)) f j
+            (spares f (j .0 .good) (e .register) (e .value) (there-too (e .register) (e .value) k f j) (k .takes) q d)),
+        (λ f j. next (read (numberOf (e .register)) (e .value)) f j refl),
+      )))
+      (under h) (record { good = t; n = refl }, refl) .1
+    where
+      q : Register
+      q = Alert Field.Cause i
+
+      I : Handler → Type 0
+      I f = Kept h f × (value f q ≡ value h q)
+
+      there-too : (q : Register) (v : ℕ) → Fit (h .n) q v → (f : Handler) → I f → inMap (f .n) q ≡ true
+      there-too q v k f j = ap (λ (n : ℕ). inMap n q) (j .0 .n) ∙ k .exists
+
+      next : (x : Ask) (f : Handler) → I f → commits f (x .access) q ≡ false → I (reach f x)
+      next x f j c = (reach-kept h f x (j .0), reach-cause f (j .0 .good) x i (omega (arith, b, j .0 .n)) c ∙ j .1)
+
   untouched : Untouched l h end
   unfolding numberOf
   untouched =
@@ -151,6 +212,7 @@ module _ (l : Lifecycle) (h : Handler) (t : valid h ≡ true) (large : alertCoun
         local-stages = λ f j b. stage-same (Local f j) (lt-ltb j localCount b) (free-of (Local f j) (local-out f j b));
         others = λ f i a b m. frame (Alert f i) (lt-ltb i (h .n) b) (free-of (Alert f i) (other-out f i a (below i b))) m;
         other-stages = λ f i a b. stage-same (Alert f i) (lt-ltb i (h .n) b) (free-of (Alert f i) (other-out f i a (below i b)));
+        causes = cause-same;
       }
     where
       frame : (o : Register) → inMap (h .n) o ≡ true → unnamed o (planOf l) ≡ true → movesItself o ≡ false → value end o ≡ value h o
@@ -177,8 +239,8 @@ module _ (l : Lifecycle) (h : Handler) (s : Success l h) where
   boot-stands = subst (λ (r : Installed). Stands l (r .handler)) (sym is-it) (stands l h (went l h s))
 
   -- and no event came
-  pub boot-eventless : Eventless h (boot l h .handler)
-  boot-eventless = subst (λ (r : Installed). Eventless h (r .handler)) (sym is-it) (eventless l h (went l h s))
+  pub boot-eventless : NoPingEvent h → Eventless h (boot l h .handler)
+  boot-eventless p = subst (λ (r : Installed). Eventless h (r .handler)) (sym is-it) (eventless l h (went l h s) p)
 
 -- of every boot, one that stops, and one that does not begin
 pub boot-untouched : (l : Lifecycle) (h : Handler) → Untouched l h (boot l h .handler)
@@ -200,4 +262,5 @@ boot-untouched l h =
           local-stages = λ f j b. refl;
           others = λ f i a b m. refl;
           other-stages = λ f i a b. refl;
+          causes = λ i b. refl;
         }

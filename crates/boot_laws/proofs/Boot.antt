@@ -10,7 +10,7 @@ use native.Mathlib.Nat.{le-of-suc-le-suc, not-suc-le-zero}
 use borrow.Author.Tests.{le-ltb, ltb-false}
 use lib.Dec.{eqb, ltb}
 use lib.IntN.{ℤ, pos}
-use lib.ListN.{getD, length, replicate}
+use lib.ListN.{getD, length}
 use Rattle.bits.proofs.IndexLaws.{and-true, true-and}
 use Rattle.laws.proofs.Valid.KeepsValid.{new-stage}
 use Rattle.laws.proofs.Map.MapLaws.{number-eq}
@@ -19,7 +19,6 @@ use Rattle.laws.proofs.Valid.ValidLaws.{facts}
 use Rattle.laws.proofs.Access.Written.{in-more, new-valid, new-unlocked}
 use Rattle.laws.specs.InMap.{inMap}
 use Rattle.laws.specs.RegisterFile.{plain}
-use Rattle.rules.specs.Access.{value}
 use Rattle.rules.specs.Map.{numberOf}
 use Rattle.rules.specs.Stages.{stage}
 use Rattle.rules.specs.State.{most, newHandler}

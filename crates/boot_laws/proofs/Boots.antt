@@ -15,7 +15,7 @@ use Rattle.boot_laws.specs.Boots.{Boots, NewBoots}
 use Rattle.boot_laws.proofs.After.{boot-ran, boot-stands, boot-untouched, boot-eventless}
 use Rattle.boot_laws.proofs.AnyBoot.{boot-valid, boot-above}
 use Rattle.boot_laws.proofs.Boot.{boot-either, boot-succeeds, new-succeeds, went}
-use Rattle.boot_laws.proofs.Receivers.{boot-linked, boot-ready, boot-rise, boot-new}
+use Rattle.boot_laws.proofs.Receivers.{boot-linked, boot-ready, boot-rise, off-rise, boot-new}
 use Rattle.boot_laws.proofs.Unlocked.{boot-unlocked}
 
 -- one that does not begin
@@ -44,6 +44,7 @@ boots l h =
       linked = boot-linked l h;
       ready = boot-ready l h;
       first-rise = boot-rise l h;
+      off-rise = off-rise l h;
     }
 
 pub new-boots : (l : Lifecycle) (n : ℕ) → NewBoots l n

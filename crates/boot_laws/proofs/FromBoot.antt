@@ -4,6 +4,7 @@
 use Prim.Native.Nat.{ℕ, _+_, _-_, _≤_, _<_}
 use mathlib.Core.Path.{_≡_, refl, sym, ap, _∙_, subst}
 use mathlib.Core.Bool.{Bool, true, false, cond, _&&_}
+use mathlib.Core.Logic.{inl}
 use mathlib.Core.List.{List, [], _∷_}
 use native.Mathlib.Omega.{arith}
 use borrow.Author.Tests.{lt-ltb, eq-eqb}
@@ -13,7 +14,6 @@ use Rattle.bits.proofs.BitLaws.{bit-none}
 use Rattle.bits.specs.Bits.{bit}
 use Rattle.bits.specs.Index.{anyTo}
 use Rattle.class_rules.specs.Class.{en, lock, enabled, stateOf}
-use Rattle.class_rules.specs.declared.Class.{Class}
 use Rattle.class_rules.specs.declared.ClassState.the-variants.{Idle}
 use Rattle.escalation.proofs.Demand3.{demand3}
 use Rattle.escalation.specs.Escalation.{Starts, Demand3}
@@ -40,12 +40,12 @@ use Rattle.rules.specs.declared.Register.{Register}
 use Rattle.rules.specs.declared.Register.the-variants.{Only, Alert, Block}
 use Rattle.rules.specs.declared.Setting.{Setting}
 use Rattle.rules.specs.declared.Setting.the-variants.{Ctrl, AccumThresh}
-use Rattle.rules.specs.declared.Single.the-variants.{IntrState}
+use Rattle.rules.specs.declared.Single.the-variants.{IntrState, PingEnable}
 use Rattle.policy.specs.Install.{under, install, write, read, asks}
 use Rattle.policy.specs.Plan.{isA, enOf, classOf, locks, ctrlOf, planOf, boot}
 use Rattle.boot_laws.specs.FromBoot.{FirstEvent, FromBoot}
 use Rattle.boot_laws.specs.Ran.{wants, reach}
-use Rattle.boot_laws.specs.Stands.{Stands, Success}
+use Rattle.boot_laws.specs.Stands.{Stands, Success, NoPingEvent}
 use Rattle.policy.specs.Table.{alertCount, markAt}
 use Rattle.policy.specs.declared.Installed.{Installed}
 use Rattle.policy.specs.declared.Lifecycle.{Lifecycle}
@@ -56,7 +56,8 @@ use Rattle.boot_laws.proofs.After.{boot-stands}
 use Rattle.boot_laws.proofs.Boot.{Went, went, begins, plan-fits, new-succeeds, not-zero}
 use Rattle.boot_laws.proofs.EntryLaws.{Fit}
 use Rattle.boot_laws.proofs.InstallLaws.{sound-fit, all-asks, Same}
-use Rattle.boot_laws.proofs.QuietLaws.{quiet-write, quiet-read, idle-write, idle-read}
+use Rattle.boot_laws.proofs.NoPings.{Clear, plan-clear}
+use Rattle.boot_laws.proofs.QuietLaws.{quiet-write, quiet-read, idle-write, idle-read, pings-write, pings-read}
 
 -- ── a locked register along a list ──
 
@@ -80,13 +81,15 @@ still h ys x q t i b =
 
 -- ── after the boot class A waits ──
 
--- valid, as many alerts, INTR_STATE 0 and class A Idle
+-- valid, as many alerts, INTR_STATE 0, class A Idle, and no failing ping an event
 pub record Waits (h g : Handler) : Type 0 where
   pub kept : Kept h g
   pub calm : value g (Only IntrState) ≡ 0
   pub idle : stateOf (classAt g 0 .state) ≡ Idle
+  pub unpinged : NoPingEvent g
 
-module _ (l : Lifecycle) (h : Handler) (w : Went l h) (z : value h (Only IntrState) ≡ 0) (i : stateOf (classAt h 0 .state) ≡ Idle) where
+module _ (l : Lifecycle) (h : Handler) (w : Went l h) (z : value h (Only IntrState) ≡ 0) (i : stateOf (classAt h 0 .state) ≡ Idle)
+    (p : NoPingEvent h) where
   calm-bit : (f : Handler) → value f (Only IntrState) ≡ 0 → bit (f .interrupts .state) 0 ≡ false
   unfolding value
   calm-bit f e = ap (λ (x : ℕ). bit x 0) e ∙ bit-none 0
@@ -102,25 +105,27 @@ module _ (l : Lifecycle) (h : Handler) (w : Went l h) (z : value h (Only IntrSta
       (all-asks (λ x. (f : Handler) → Waits h f → wants f x ≡ true → Waits h (reach f x)) (planOf l) (λ e m.
       let k = sound-fit (h .n) (planOf l) (plan-fits l (h .n) (w .large)) e m in
       let d = not-zero (h .n) (e .register) (e .value) (facts h (w .good) .n) k in
-      (by-write (e .register) (e .value) k d, by-read (e .register) (e .value) k d)))
-      h (record { kept = record { good = w .good; n = refl }; calm = z; idle = i }) (w .going)
+      (by-write (e .register) (e .value) k d (plan-clear l e m), by-read (e .register) (e .value) k d (plan-clear l e m))))
+      h (record { kept = record { good = w .good; n = refl }; calm = z; idle = i; unpinged = p }) (w .going)
     where
-      by-write : (q : Register) (v : ℕ) → Fit (h .n) q v → (numberOf q ≡ numberOf (Only IntrState) → ⊥) → (f : Handler) → Waits h f
+      by-write : (q : Register) (v : ℕ) → Fit (h .n) q v → (numberOf q ≡ numberOf (Only IntrState) → ⊥) → Clear q → (f : Handler) → Waits h f
           → wants f (write (numberOf q) v) ≡ true → Waits h (reach f (write (numberOf q) v))
-      by-write q v k d f s g =
+      by-write q v k d c f s g =
           record {
             kept = reach-kept h f (write (numberOf q) v) (s .kept);
-            calm = quiet-write h f (s .kept) q v k (Only IntrState) refl refl d (zero-same f s) g .holds ∙ z;
-            idle = idle-write h f (s .kept) q v k 0 (omega arith) g d (calm-bit f (s .calm)) (s .idle);
+            calm = quiet-write h f (s .kept) q v k c (s .unpinged) (Only IntrState) refl refl d (zero-same f s) g .holds ∙ z;
+            idle = idle-write h f (s .kept) q v k c (s .unpinged) 0 (omega arith) g d (calm-bit f (s .calm)) (s .idle);
+            unpinged = pings-write h f (s .kept) q v k c (s .unpinged);
           }
 
-      by-read : (q : Register) (v : ℕ) → Fit (h .n) q v → (numberOf q ≡ numberOf (Only IntrState) → ⊥) → (f : Handler) → Waits h f
+      by-read : (q : Register) (v : ℕ) → Fit (h .n) q v → (numberOf q ≡ numberOf (Only IntrState) → ⊥) → Clear q → (f : Handler) → Waits h f
           → wants f (read (numberOf q) v) ≡ true → Waits h (reach f (read (numberOf q) v))
-      by-read q v k d f s g =
+      by-read q v k d c f s g =
           record {
             kept = reach-kept h f (read (numberOf q) v) (s .kept);
-            calm = quiet-read h f (s .kept) q v k (Only IntrState) refl refl d (zero-same f s) g .holds ∙ z;
-            idle = idle-read h f (s .kept) q v k 0 (omega arith) g (calm-bit f (s .calm)) (s .idle);
+            calm = quiet-read h f (s .kept) q v k c (s .unpinged) (Only IntrState) refl refl d (zero-same f s) g .holds ∙ z;
+            idle = idle-read h f (s .kept) q v k c (s .unpinged) 0 (omega arith) g (calm-bit f (s .calm)) (s .idle);
+            unpinged = pings-read h f (s .kept) q v k c (s .unpinged);
           }
 
 -- ── marks ──
@@ -205,9 +210,10 @@ module _ (l : Lifecycle) (c : locks l ≡ true) (h : Handler) (t : valid h ≡ t
 
 -- ── the corollary ──
 
-new-waits : (n : ℕ) → (value (newHandler n) (Only IntrState) ≡ 0) × (stateOf (classAt (newHandler n) 0 .state) ≡ Idle)
+new-waits : (n : ℕ)
+    → (value (newHandler n) (Only IntrState) ≡ 0) × (stateOf (classAt (newHandler n) 0 .state) ≡ Idle) × (value (newHandler n) (Only PingEnable) ≡ 0)
 unfolding value newHandler stateOf
-new-waits n = (refl, refl)
+new-waits n = (refl, refl, refl)
 
 run-n : (h : Handler) (ys : List Input) → valid h ≡ true → run h ys .n ≡ h .n
 unfolding run
@@ -234,7 +240,7 @@ from-boot l n xs c a b =
     w : Waits (newHandler n) h
     w =
         subst (λ (r : Installed). Waits (newHandler n) (r .handler)) (sym (begins l (newHandler n) (went l (newHandler n) ok .good) a))
-        (waits l (newHandler n) (went l (newHandler n) ok) (new-waits n .0) (new-waits n .1))
+        (waits l (newHandler n) (went l (newHandler n) ok) (new-waits n .0) (new-waits n .1) (inl (new-waits n .2)))
 
     d : Demand3 h xs
     d = demand3 h xs (w .kept .good)

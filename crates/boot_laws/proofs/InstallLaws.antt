@@ -119,12 +119,12 @@ module _ (h : Handler) (o : Register) (a : inMap (h .n) o ≡ true) (m : movesIt
   here-too : (f : Handler) → Same o h f → inMap (f .n) o ≡ true
   here-too f s = ap (λ (n : ℕ). inMap n o) (s .kept .n) ∙ a
 
-  same-write : (f : Handler) → Same o h f → Same o h (reach f (write (numberOf q) v))
+  pub same-write : (f : Handler) → Same o h f → Same o h (reach f (write (numberOf q) v))
   same-write f s =
       same-by (write (numberOf q) v) f s (λ t b. reach-value f t o (here-too f s) (write (numberOf q) v) m (spares f t q v b (k .takes) o d))
       (λ t b. reach-stage f t o (here-too f s) (write (numberOf q) v) (other-name f t q v b (k .takes) o d))
 
-  same-read : (f : Handler) → Same o h f → Same o h (reach f (read (numberOf q) v))
+  pub same-read : (f : Handler) → Same o h f → Same o h (reach f (read (numberOf q) v))
   same-read f s =
       same-by (read (numberOf q) v) f s (λ t b. reach-value f t o (here-too f s) (read (numberOf q) v) m refl)
       (λ t b. reach-stage f t o (here-too f s) (read (numberOf q) v) (other-name f t q v b (k .takes) o d))

@@ -3,6 +3,7 @@ pub mod EntryLaws
 pub mod InstallLaws
 pub mod Succeeds
 pub mod Unnamed
+pub mod NoPings
 pub mod QuietLaws
 pub mod Stops
 pub mod Members
@@ -20,3 +21,4 @@ pub mod StaysIdle
 pub mod Boots
 pub mod WholeBoot
 pub mod BootExamples
+pub mod PingBootExamples

@@ -1,22 +1,25 @@
 -- Accesses that get the answer that is wanted, with wires at rest: no event comes.
 -- Assumes nothing.
-use Prim.Native.Nat.{ℕ, _+_, _-_, _/_, _%_, _^_, _<_}
+use Prim.Native.Nat.{ℕ, zero, suc, _+_, _-_, _/_, _%_, _^_, _≤_, _<_}
 use mathlib.Core.Path.{_≡_, refl, sym, ap, _∙_}
 use mathlib.Core.Bool.{Bool, true, false, false≢true, and-false, _&&_}
+use mathlib.Core.Logic.{inl, inr}
 use native.Mathlib.Omega.{arith}
 use borrow.Author.Tests.{ne-eqb}
 use lib.Dec.{eqb}
 use lib.IntN.{ℤ}
 use lib.ListN.{getD-replicate}
 use Rattle.bits.proofs.BitLaws.{bit-none, bit-ones}
+use Rattle.bits.proofs.IndexLaws.{any-none}
 use Rattle.bits.specs.Bits.{bit, place}
 use Rattle.class_rules.specs.Class.{stateOf}
 use Rattle.class_rules.specs.declared.ClassState.the-variants.{Idle}
 use Rattle.laws.proofs.Samples.AtRest.{none-happened, none-broken}
 use Rattle.laws.proofs.Map.Cases.{by-kind, by-setting}
-use Rattle.laws.proofs.Samples.Heard.{unheard}
+use Rattle.laws.proofs.Samples.Heard.{heard-raise, unheard}
 use Rattle.laws.proofs.Valid.KeepsAccess.{acted-valid}
 use Rattle.laws.proofs.Tick.Quiet.{quiet-tick, quiet-waits}
+use Rattle.laws.proofs.Tick.TimerOff.{none-fails}
 use Rattle.laws.proofs.Samples.Raises.{accepted-raises, none-occurs}
 use Rattle.laws.proofs.Valid.Refusal7.{ticked-handler}
 use Rattle.laws.proofs.Access.Step1.{clears-if}
@@ -30,24 +33,28 @@ use Rattle.rules.proofs.AnswerLaws.{refused-number}
 use Rattle.rules.specs.Access.{value, verdict, accepts, accepted, isClrOf, writesClr, accessedBy, accessed, acted, answerTo, effects, clears}
 use Rattle.rules.specs.Answer.{number}
 use Rattle.rules.specs.Map.{numberOf}
-use Rattle.rules.specs.Samples.{alertEvent, occurs}
-use Rattle.rules.specs.State.{most, words, localCount, classCount, classAt}
+use Rattle.rules.specs.Samples.{alertBroken, asksFor, raised, heard, alertEvent, occurs}
+use Rattle.rules.specs.State.{most, words, localCount, classCount, local, classAt}
 use Rattle.rules.specs.Tick.{hears}
 use Rattle.rules.specs.Valid.{valid}
 use Rattle.rules.specs.declared.Access.{Access}
 use Rattle.rules.specs.declared.Access.the-variants.{Write}
 use Rattle.rules.specs.declared.Answer.{Answer}
+use Rattle.rules.specs.declared.Field.{Field}
 use Rattle.rules.specs.declared.Handler.{Handler}
 use Rattle.rules.specs.declared.Refusal.{Refusal}
 use Rattle.rules.specs.declared.Register.{Register}
+use Rattle.rules.specs.declared.Sample.{Sample}
 use Rattle.rules.specs.declared.Register.the-variants.{Only, Block}
 use Rattle.rules.specs.declared.Single.the-variants.{IntrState}
 use Rattle.rules.specs.declared.Verdict.{Verdict}
 use Rattle.policy.specs.Install.{Ask, rest, is, write, read}
 use Rattle.boot_laws.specs.Ran.{inputOf, wants, reach}
+use Rattle.boot_laws.specs.Stands.{NoPingEvent}
 use Rattle.boot_laws.proofs.AskLaws.{Kept, reach-kept}
 use Rattle.boot_laws.proofs.EntryLaws.{Fit, names-it, spares, other-name, reach-stage}
 use Rattle.boot_laws.proofs.InstallLaws.{Same}
+use Rattle.boot_laws.proofs.NoPings.{Clear, Harmless, write-keeps, read-keeps, write-harmless, read-harmless}
 
 -- all wires at (0,1)
 pub at-rest : (x : Access) → AtRest (rest x .sample .alerts)
@@ -73,21 +80,58 @@ wants-accepted h a t w = go (verdict h (a .access)) (ap (λ (x : Answer). is (nu
 
 -- ── nothing comes of what step 2 hears in a tick of the boot that gets the answer that is wanted ──
 
-module _ (h : Handler) (a : Ask) (t : valid h ≡ true) (w : wants h a ≡ true) where
+module _ (h : Handler) (a : Ask) (t : valid h ≡ true) (w : wants h a ≡ true) (p : Harmless h (a .access)) where
   abbrev g : Handler
   g = acted h (a .access)
 
-  -- no local alert occurs: all wires are at (0,1), so not local 2; no write differs, so not local 5; no other can occur
+  abbrev s : Sample
+  s = inputOf a .sample
+
+  abbrev raises : ℕ → Bool
+  raises j = bit (heard g s (effects h (a .access)) .raises) j
+
+  small : g .n ≤ most
+  small = facts g (acted-valid h (a .access) t) .n
+
+  none-raised : effects h (a .access) .raises ≡ 0
+  none-raised = accepted-raises h (a .access) (wants-accepted h a t w)
+
+  unbroken : (i : ℕ) → i < most → alertBroken g (s .alerts) i ≡ false
+  unbroken = none-broken g (asksFor g s (effects h (a .access))) (s .alerts) (at-rest (a .access))
+
+  -- but for local 0 and local 1 none is raised
+  others : (j : ℕ) → (j ≡ 0 → ⊥) → (j ≡ 1 → ⊥) → raised g s (effects h (a .access)) j ≡ false
+  unfolding raised
+  others j y z =
+      simp (
+        ne-eqb j 0 y,
+        ne-eqb j 1 z,
+        and-false (eqb j 2),
+        any-none (alertBroken g (s .alerts)) (g .n) (λ i l. unbroken i (omega (arith, small, l))),
+        none-raised,
+        bit-none j,
+      )
+
+  -- no local alert occurs: no ping fails or local 0 and local 1 are disabled; all wires are at (0,1), so not local 2; no write differs, so not local 5; no
+  -- other can occur
   boot-locals : (j : ℕ) → j < localCount → occurs g (hears h (inputOf a)) j ≡ false
-  unfolding hears
-  boot-locals =
-      none-occurs g (inputOf a .sample) (effects h (a .access)) (facts g (acted-valid h (a .access) t) .n)
-      (accepted-raises h (a .access) (wants-accepted h a t w)) (none-broken g (inputOf a .sample .asks) (inputOf a .sample .alerts) (at-rest (a .access)))
+  unfolding hears occurs
+  boot-locals j l = go p j l
+    where
+      go : Harmless h (a .access) → (j : ℕ) → j < localCount → (raises j && eqb (local g Field.En j) 1) ≡ false
+      go (inl o) j l =
+          none-occurs g s (effects h (a .access)) small none-raised (none-fails h (inputOf a) t o (g .links .turn)) unbroken j l
+      go (inr e) zero l = ap (λ (b : Bool). raises 0 && b) (e .0) ∙ and-false (raises 0)
+      go (inr e) (suc zero) l = ap (λ (b : Bool). raises 1 && b) (e .1) ∙ and-false (raises 1)
+      go (inr e) (suc (suc j)) l =
+          ap (λ (b : Bool). b && eqb (local g Field.En (suc (suc j))) 1)
+          (heard-raise g s (effects h (a .access)) (suc (suc j)) l
+          ∙ others (suc (suc j)) (λ (z : suc (suc j) ≡ 0). omega (arith, z)) (λ (z : suc (suc j) ≡ 1). omega (arith, z)))
 
   -- and no alert has an event
   boot-alerts : (i : ℕ) → i < most → alertEvent g (hears h (inputOf a)) i ≡ false
   unfolding hears
-  boot-alerts i l = unheard g (inputOf a .sample) (effects h (a .access)) i l (none-happened g (inputOf a .sample .asks) (inputOf a .sample .alerts) (at-rest (a .access)) i l)
+  boot-alerts i l = unheard g s (effects h (a .access)) i l (none-happened g (asksFor g s (effects h (a .access))) (s .alerts) (at-rest (a .access)) i l)
 
   boot-silent : Silent g (hears h (inputOf a))
   boot-silent = record { alerts = boot-alerts; locals = boot-locals }
@@ -104,7 +148,7 @@ plain-clr k =
 
 -- ── one tick that names q and gets the answer that is wanted ──
 
-module _ (h f : Handler) (w : Kept h f) (q : Register) (v : ℕ) (k : Fit (h .n) q v) where
+module _ (h f : Handler) (w : Kept h f) (q : Register) (v : ℕ) (k : Fit (h .n) q v) (u : Clear q) (p : NoPingEvent f) where
   in-f : inMap (f .n) q ≡ true
   in-f = ap (λ (n : ℕ). inMap n q) (w .n) ∙ k .exists
 
@@ -121,34 +165,44 @@ module _ (h f : Handler) (w : Kept h f) (q : Register) (v : ℕ) (k : Fit (h .n)
     in-o : inMap (f .n) o ≡ true
     in-o = ap (λ (n : ℕ). inMap n o) (w .n) ∙ a
 
-    same-by : (x : Ask) → Same o h f → wants f x ≡ true → ((j : ℕ) → writesClr f (x .access) j ≡ false) → commits f (x .access) o ≡ false
+    same-by : (x : Ask) → Same o h f → wants f x ≡ true → Harmless f (x .access) → ((j : ℕ) → writesClr f (x .access) j ≡ false) → commits f (x .access) o ≡ false
         → names f (x .access) o ≡ false → Same o h (reach f x)
-    same-by x s g c m y =
+    same-by x s g n c m y =
         record {
           kept = reach-kept h f x w;
           holds = ap (λ (e : Handler). value e o) (ticked-handler f (inputOf x) (w .good))
-              ∙ quiet-tick f (inputOf x) (w .good) (boot-silent f x (w .good) g) (no-clear (x .access) c) o in-o r m ∙ s .holds;
+              ∙ quiet-tick f (inputOf x) (w .good) (boot-silent f x (w .good) g n) (no-clear (x .access) c) o in-o r m ∙ s .holds;
           staged = reach-stage f (w .good) o in-o x y ∙ s .staged;
         }
 
     pub quiet-write : Same o h f → wants f (write (numberOf q) v) ≡ true → Same o h (reach f (write (numberOf q) v))
     quiet-write s g =
-        same-by (write (numberOf q) v) s g write-clr (spares f (w .good) q v in-f (k .takes) o d) (other-name f (w .good) q v in-f (k .takes) o d)
+        same-by (write (numberOf q) v) s g (write-harmless f (w .good) q v in-f (k .takes) u p) write-clr
+        (spares f (w .good) q v in-f (k .takes) o d) (other-name f (w .good) q v in-f (k .takes) o d)
 
     pub quiet-read : Same o h f → wants f (read (numberOf q) v) ≡ true → Same o h (reach f (read (numberOf q) v))
-    quiet-read s g = same-by (read (numberOf q) v) s g (λ j. refl) refl (other-name f (w .good) q v in-f (k .takes) o d)
+    quiet-read s g =
+        same-by (read (numberOf q) v) s g (read-harmless f (w .good) q v in-f (k .takes) u p) (λ j. refl) refl (other-name f (w .good) q v in-f (k .takes) o d)
 
   -- an Idle class whose interrupt bit is 0 stays Idle
-  idle-by : (x : Ask) (j : ℕ) → j < classCount → wants f x ≡ true → ((i : ℕ) → writesClr f (x .access) i ≡ false) → commits f (x .access) (Only IntrState) ≡ false
+  idle-by : (x : Ask) (j : ℕ) → j < classCount → wants f x ≡ true → Harmless f (x .access) → ((i : ℕ) → writesClr f (x .access) i ≡ false)
+      → commits f (x .access) (Only IntrState) ≡ false
       → bit (f .interrupts .state) j ≡ false → stateOf (classAt f j .state) ≡ Idle → stateOf (classAt (reach f x) j .state) ≡ Idle
-  idle-by x j l g c m b s =
+  idle-by x j l g n c m b s =
       ap (λ (e : Handler). stateOf (classAt e j .state)) (ticked-handler f (inputOf x) (w .good))
-      ∙ quiet-waits f (inputOf x) (w .good) (boot-silent f x (w .good) g) (no-clear (x .access) c) j l m b s
+      ∙ quiet-waits f (inputOf x) (w .good) (boot-silent f x (w .good) g n) (no-clear (x .access) c) j l m b s
 
   pub idle-write : (j : ℕ) → j < classCount → wants f (write (numberOf q) v) ≡ true → (numberOf q ≡ numberOf (Only IntrState) → ⊥)
       → bit (f .interrupts .state) j ≡ false → stateOf (classAt f j .state) ≡ Idle → stateOf (classAt (reach f (write (numberOf q) v)) j .state) ≡ Idle
-  idle-write j l g d = idle-by (write (numberOf q) v) j l g write-clr (spares f (w .good) q v in-f (k .takes) (Only IntrState) d)
+  idle-write j l g d = idle-by (write (numberOf q) v) j l g (write-harmless f (w .good) q v in-f (k .takes) u p) write-clr (spares f (w .good) q v in-f (k .takes) (Only IntrState) d)
 
   pub idle-read : (j : ℕ) → j < classCount → wants f (read (numberOf q) v) ≡ true → bit (f .interrupts .state) j ≡ false
       → stateOf (classAt f j .state) ≡ Idle → stateOf (classAt (reach f (read (numberOf q) v)) j .state) ≡ Idle
-  idle-read j l g = idle-by (read (numberOf q) v) j l g (λ i. refl) refl
+  idle-read j l g = idle-by (read (numberOf q) v) j l g (read-harmless f (w .good) q v in-f (k .takes) u p) (λ i. refl) refl
+
+  -- and where no failing ping is an event, none becomes one
+  pub pings-write : NoPingEvent (reach f (write (numberOf q) v))
+  pings-write = write-keeps f (w .good) q v in-f (k .takes) u p
+
+  pub pings-read : NoPingEvent (reach f (read (numberOf q) v))
+  pings-read = read-keeps f (w .good) q v in-f (k .takes) u p

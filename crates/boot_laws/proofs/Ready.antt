@@ -9,8 +9,6 @@ use native.Mathlib.Omega.{arith}
 use Rattle.class_rules.specs.declared.ClassState.the-variants.{Phase0}
 use Rattle.escalation.specs.Escalation.{stateIn, Starts}
 use Rattle.escalation.specs.List.{IsTick, givenAt}
-use Rattle.laws.proofs.State.Above.{new-receiver}
-use Rattle.link_rules.specs.declared.Receiver.{Receiver}
 use Rattle.rules.proofs.Scenes.{rules}
 use Rattle.rules.specs.Run.{run, ticks}
 use Rattle.rules.specs.Scenes.{raise, none}
@@ -24,7 +22,7 @@ use Rattle.policy.specs.declared.Installed.{Installed}
 use Rattle.policy.specs.declared.Lifecycle.{Lifecycle}
 use Rattle.boot_laws.specs.Stands.{Success}
 use Rattle.boot_laws.proofs.Boot.{new-succeeds}
-use Rattle.boot_laws.proofs.Receivers.{boot-rise}
+use Rattle.boot_laws.proofs.Receivers.{off-rise}
 use Rattle.boot_laws.proofs.FromBoot.{from-boot}
 
 -- ── the corollary is met ──
@@ -43,7 +41,7 @@ module _ (l : Lifecycle) (n : ℕ) (c : locks l ≡ true) (k : isA (markAt l 14)
         idle = from-boot l n ys c a b .idle;
         is-alert = omega arith;
         marked = k;
-        occurs = boot-rise l (newHandler n) ok (raise 14 none) 14 (omega arith) refl (ap (λ (r : Receiver). r .pending) (new-receiver n 14 (omega arith))) refl;
+        occurs = off-rise l (newHandler n) ok refl (raise 14 none) 14 (omega arith) refl;
         unclear = refl;
       }
 

@@ -55,7 +55,7 @@ local-out Field.En j l = low (16 + 8 * 1 + j) (omega arith)
 local-out Field.Class j l = low (16 + 8 * 2 + j) (omega arith)
 local-out Field.Cause j l = low (16 + 8 * 3 + j) (omega arith)
 
-cause-out : (i : ℕ) → i < most → planned (numberOf (Alert Field.Cause i)) ≡ false
+pub cause-out : (i : ℕ) → i < most → planned (numberOf (Alert Field.Cause i)) ≡ false
 unfolding numberOf
 cause-out i l =
     out (1024 + i) (above 256 58 (1024 + i) (omega arith)) (above 512 58 (1024 + i) (omega arith)) (above 768 58 (1024 + i) (omega arith))

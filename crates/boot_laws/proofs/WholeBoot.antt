@@ -19,6 +19,7 @@ use Rattle.escalation.specs.List.{noInput, noTick}
 use Rattle.laws.specs.Above.{SameAbove}
 use Rattle.laws.specs.Frame.{movesItself}
 use Rattle.laws.specs.InMap.{inMap}
+use Rattle.laws.specs.Pinging.{asksIn}
 use Rattle.laws.specs.Quiet.{runs}
 use Rattle.link_rules.specs.declared.Handshake.the-variants.{Ready}
 use Rattle.rules.specs.Access.{value, clears, acted}
@@ -95,12 +96,20 @@ module _ (l : Lifecycle) (h : Handler) where
   still-valid : (valid h ≡ true → valid end ≡ true) × SameAbove h end
   still-valid = let b = boots l h in (b .keeps-valid, b .keeps-above)
 
-  -- ping pairs and open pings as before, and what is ready stays so
-  links-alone : (i : ℕ) → i < h .n
+  -- while register 6 is 0 ping pairs and open pings are as before
+  pings-alone : h .timer .enable ≡ 0 → (i : ℕ) → i < h .n
       → (placeIn (end .links .receivers .level) i ≡ placeIn (h .links .receivers .level) i)
       × (placeIn (end .links .receivers .pending) i ≡ placeIn (h .links .receivers .pending) i)
-      × (receiver h i .stands ≡ Ready → receiver end i .stands ≡ Ready)
-  links-alone i b = let k = boots l h .linked in (k .levels i b, k .pings i b, k .stays-ready i b)
+  unfolding value
+  pings-alone z i b = let k = boots l h .linked in (k .levels z i b, k .pings z i b)
+
+  -- and what is ready stays so
+  stays-ready : (i : ℕ) → i < h .n → receiver h i .stands ≡ Ready → receiver end i .stands ≡ Ready
+  stays-ready = boots l h .linked .stays-ready
+
+  -- no alert has an event
+  causes-alone : (i : ℕ) → i < h .n → value end (Alert Field.Cause i) ≡ value h (Alert Field.Cause i)
+  causes-alone = boots l h .untouched .causes
 
 -- ── after register 0 and answer 0, from any state ──
 
@@ -155,21 +164,28 @@ module _ (l : Lifecycle) (h : Handler) (r : boot l h .register ≡ 0) (a : boot 
     no-stage _ (class-part l _ k b (there (there (there (there (there (there here))))))),
   )
 
-  -- and no event came
-  no-event : ((o : Register) → inMap (h .n) o ≡ true → movesItself o ≡ true → runs o ≡ false → value g o ≡ value h o)
+  -- and no event came, where register 6 is 0 or local 0 and local 1 are disabled
+  no-event : (h .timer .enable ≡ 0) ⊎ ((getD (h .locals .en) 0 0 ≡ 0) × (getD (h .locals .en) 1 0 ≡ 0))
+      → ((o : Register) → inMap (h .n) o ≡ true → movesItself o ≡ true → runs o ≡ false → value g o ≡ value h o)
       × (value g (Only IntrState) ≡ value h (Only IntrState))
       × ((j : ℕ) → j < 7 → value g (Local Field.Cause j) ≡ value h (Local Field.Cause j))
       × ((i : ℕ) → i < h .n → value g (Alert Field.Cause i) ≡ value h (Alert Field.Cause i))
       × ((k : ℕ) → k < 4 → value g (Block AccumCnt k) ≡ value h (Block AccumCnt k))
-  no-event = let e = boots l h .eventless success in (e .values, e .interrupts, e .local-causes, e .causes, e .counts)
+  unfolding value
+  no-event p = let e = boots l h .eventless success p in (e .values, e .interrupts, e .local-causes, e .causes, e .counts)
 
   -- every receiver is ready, and takes a rise in the next tick
   all-ready : (i : ℕ) → i < h .n → receiver g i .stands ≡ Ready
   all-ready = boots l h .ready success
 
   next-rise : (x : Input) (i : ℕ) → i < h .n → placeIn (x .sample .alerts .pos) i ≡ true → placeIn (x .sample .alerts .neg) i ≡ false
-      → placeIn (x .sample .asks) i ≡ false → placeIn (h .links .receivers .pending) i ≡ false → happensIn g x i ≡ true
+      → asksIn g x i ≡ false → placeIn (g .links .receivers .pending) i ≡ false → happensIn g x i ≡ true
   next-rise x i b p m q o = boots l h .first-rise success x i b (ap₂ (λ (c d : Bool). c && not d) p m) o q
+
+  off-rise : h .timer .enable ≡ 0 → (x : Input) (i : ℕ) → i < h .n → placeIn (x .sample .alerts .pos) i ≡ true
+      → placeIn (x .sample .alerts .neg) i ≡ false → happensIn g x i ≡ true
+  unfolding value
+  off-rise z x i b p m = boots l h .off-rise success z x i b (ap₂ (λ (c d : Bool). c && not d) p m)
 
 -- ── where it stops: the state, the answer and the register, in the words of one tick ──
 

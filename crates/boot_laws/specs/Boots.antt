@@ -7,11 +7,12 @@ use mathlib.Core.Logic.{_⊎_}
 use mathlib.Core.Bool.{true, false}
 use lib.IntN.{pos, negsuc}
 use lib.ListN.{replicate}
-use Rattle.bits.specs.Index.{placeIn}
 use Rattle.laws.specs.Above.{SameAbove}
+use Rattle.laws.specs.Pinging.{asksIn}
 use Rattle.link_rules.specs.Pair.{rises}
 use Rattle.link_rules.specs.Receiver.{newReceiver}
 use Rattle.link_rules.specs.declared.Handshake.the-variants.{Ready}
+use Rattle.rules.specs.Access.{value}
 use Rattle.rules.specs.Run.{run}
 use Rattle.rules.specs.Samples.{positive, negative}
 use Rattle.rules.specs.State.{most, newHandler, receiver}
@@ -19,6 +20,8 @@ use Rattle.rules.specs.Tick.{happensIn}
 use Rattle.rules.specs.Valid.{valid}
 use Rattle.rules.specs.declared.Handler.{Handler}
 use Rattle.rules.specs.declared.Input.{Input}
+use Rattle.rules.specs.declared.Register.the-variants.{Only}
+use Rattle.rules.specs.declared.Single.the-variants.{PingEnable}
 use Rattle.policy.specs.Install.{asks}
 use Rattle.policy.specs.Plan.{planOf, boot}
 use Rattle.policy.specs.Sound.{free}
@@ -27,7 +30,7 @@ use Rattle.policy.specs.declared.Installed.{Installed}
 use Rattle.policy.specs.declared.Lifecycle.{Lifecycle}
 use Rattle.policy.specs.declared.Progress.{Progress}
 use Rattle.boot_laws.specs.Ran.{inputs, StoppedAt}
-use Rattle.boot_laws.specs.Stands.{Success, Stands, Untouched, Unlocked, Eventless, Linked}
+use Rattle.boot_laws.specs.Stands.{Success, Stands, Untouched, Unlocked, NoPingEvent, Eventless, Linked}
 
 -- what a success gives: register 0, answer 0 and the state after all ticks of the plan
 abbrev pub booted : Lifecycle → Handler → Installed
@@ -49,7 +52,7 @@ pub record Boots (l : Lifecycle) (h : Handler) : Type 0 where
   pub success : Success l h → (valid h ≡ true) × (alertCount ≤ h .n) × (boot l h ≡ booted l h)
   -- "and after a success each of the 58 alerts is proved to stand as the table says"
   pub stands : Success l h → Stands l (boot l h .handler)
-  pub eventless : Success l h → Eventless h (boot l h .handler)
+  pub eventless : Success l h → NoPingEvent h → Eventless h (boot l h .handler)
   pub untouched : Untouched l h (boot l h .handler)
   pub unlocked : Unlocked l h (boot l h .handler)
   -- "States that calls produce never get it", and "Stored entries at N and above are no registers: .. no call changes them"
@@ -58,10 +61,14 @@ pub record Boots (l : Lifecycle) (h : Handler) : Type 0 where
   -- request (viii): the receivers below N of any boot; after a success all are ready, wherever they stood ..
   pub linked : Linked h (boot l h .handler)
   pub ready : Success l h → (i : ℕ) → i < h .n → receiver (boot l h .handler) i .stands ≡ Ready
-  -- .. so that a rise in the next tick is an event, unless a ping is open since before the boot or is asked for now
+  -- .. so that a rise in the next tick is an event, unless its ping is open after the boot or opens now
   pub first-rise :
       Success l h → (x : Input) (i : ℕ) → i < h .n → rises (positive (x .sample .alerts) i) (negative (x .sample .alerts) i) ≡ true
-      → receiver h i .pending ≡ false → placeIn (x .sample .asks) i ≡ false → happensIn (boot l h .handler) x i ≡ true
+      → receiver (boot l h .handler) i .pending ≡ false → asksIn (boot l h .handler) x i ≡ false → happensIn (boot l h .handler) x i ≡ true
+  -- request (ix): while register 6 is 0 none is open and none opens
+  pub off-rise :
+      Success l h → value h (Only PingEnable) ≡ 0 → (x : Input) (i : ℕ) → i < h .n
+      → rises (positive (x .sample .alerts) i) (negative (x .sample .alerts) i) ≡ true → happensIn (boot l h .handler) x i ≡ true
 
 -- "On a new handler so large it always succeeds", and every receiver is then as in a new handler: ready, with no ping open
 pub record NewBoots (l : Lifecycle) (n : ℕ) : Type 0 where

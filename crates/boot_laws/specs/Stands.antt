@@ -3,6 +3,7 @@
 use Prim.Native.Nat.{ℕ, _≤_, _<_}
 use mathlib.Core.Path.{_≡_}
 use mathlib.Core.Bool.{Bool, true, false, _&&_}
+use mathlib.Core.Logic.{_⊎_}
 use lib.Dec.{eqb}
 use lib.IntN.{pos}
 use Rattle.class_rules.specs.Class.{en, lock}
@@ -20,7 +21,7 @@ use Rattle.rules.specs.declared.Register.{Register}
 use Rattle.rules.specs.declared.Register.the-variants.{Only, Local, Alert, Block}
 use Rattle.rules.specs.declared.Setting.{Setting}
 use Rattle.rules.specs.declared.Setting.the-variants.{Ctrl, AccumCnt, AccumThresh, TimeoutCyc, PhaseCyc}
-use Rattle.rules.specs.declared.Single.the-variants.{IntrState, IntrEnable}
+use Rattle.rules.specs.declared.Single.the-variants.{IntrState, IntrEnable, PingEnable}
 use Rattle.policy.specs.Plan.{classOf, enOf, isA, locks, ctrlOf, lengthOf, planOf, boot}
 use Rattle.policy.specs.Install.{Entry}
 use Rattle.boot_laws.specs.Ran.{Among}
@@ -58,6 +59,8 @@ pub record Untouched (l : Lifecycle) (h g : Handler) : Type 0 where
   pub local-stages : (f : Field) (j : ℕ) → j < localCount → stage g (Local f j) ≡ stage h (Local f j)
   pub others : (f : Field) (i : ℕ) → alertCount ≤ i → i < h .n → fieldRow f .moves ≡ false → value g (Alert f i) ≡ value h (Alert f i)
   pub other-stages : (f : Field) (i : ℕ) → alertCount ≤ i → i < h .n → stage g (Alert f i) ≡ stage h (Alert f i)
+  -- all wires are at (0,1), so no alert has an event, whatever the ping timer does
+  pub causes : (i : ℕ) → i < h .n → value g (Alert Field.Cause i) ≡ value h (Alert Field.Cause i)
 
 -- the boot locks alert i, and class k
 abbrev pub locksAlert : Lifecycle → ℕ → Bool
@@ -72,6 +75,10 @@ pub record Unlocked (l : Lifecycle) (h g : Handler) : Type 0 where
   -- classes B, C and D always, and class A where the lifecycle does not lock it
   pub classes : (k : ℕ) → k < classCount → locksClass l k ≡ false → value g (Block Setting.Regwen k) ≡ value h (Block Setting.Regwen k)
 
+-- request (ix): a ping that fails in a boot makes no local alert occur: register 6 is 0, or local 0 and local 1 are disabled
+abbrev pub NoPingEvent : Handler → Type 0
+NoPingEvent h = (value h (Only PingEnable) ≡ 0) ⊎ ((value h (Local Field.En 0) ≡ 0) × (value h (Local Field.En 1) ≡ 0))
+
 -- what moves only with an event: after a success none came, so INTR_STATE, every CAUSE and every ACCUM_CNT is as before. STATE, ESC_CNT and
 -- CLR_REGWEN are the run's: a class in Timeout or a phase moves without an event
 pub record Eventless (h g : Handler) : Type 0 where
@@ -81,9 +88,9 @@ pub record Eventless (h g : Handler) : Type 0 where
   pub causes : (i : ℕ) → i < h .n → value g (Alert Field.Cause i) ≡ value h (Alert Field.Cause i)
   pub counts : (k : ℕ) → k < classCount → value g (Block AccumCnt k) ≡ value h (Block AccumCnt k)
 
--- request (viii): a boot has all wires at (0,1) and asks for no ping. So no ping pair changes its level, no ping opens or is answered, and a receiver that
--- is ready stays ready, wherever the boot stops
+-- request (viii): a boot has all wires at (0,1), so that a receiver that is ready stays ready, wherever the boot stops. Request (ix): no plan sets register
+-- 6, and while it is 0 no ping pair changes its level and no ping opens
 pub record Linked (h g : Handler) : Type 0 where
-  pub levels : (i : ℕ) → i < h .n → receiver g i .level ≡ receiver h i .level
-  pub pings : (i : ℕ) → i < h .n → receiver g i .pending ≡ receiver h i .pending
+  pub levels : value h (Only PingEnable) ≡ 0 → (i : ℕ) → i < h .n → receiver g i .level ≡ receiver h i .level
+  pub pings : value h (Only PingEnable) ≡ 0 → (i : ℕ) → i < h .n → receiver g i .pending ≡ receiver h i .pending
   pub stays-ready : (i : ℕ) → i < h .n → receiver h i .stands ≡ Ready → receiver g i .stands ≡ Ready

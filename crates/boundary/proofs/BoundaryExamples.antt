@@ -1,6 +1,6 @@
 -- Calls from outside by their numbers: kinds, wires, refusal 7 and each part of what a call gives back.
 -- Assumes nothing.
-use Prim.Native.Nat.{ℕ, _-_, _^_}
+use Prim.Native.Nat.{ℕ, zero, suc, _-_, _^_}
 use mathlib.Core.Path.{_≡_, refl, ap}
 use mathlib.Core.List.{List, [], _∷_, _++_, map}
 use lib.IntN.{pos, negsuc}
@@ -14,12 +14,13 @@ use Rattle.handler.specs.Account.{account}
 use Rattle.handler.specs.Answered.{answered}
 use Rattle.handler.specs.declared.account.Account.{Account}
 use Rattle.handler.specs.declared.tick.Answered.{Answered}
+use Rattle.link_rules.specs.Receiver.{newReceiver}
 use Rattle.policy.specs.Plan.{boot, lifecycleOf}
 use Rattle.policy.specs.declared.Installed.{Installed}
 use Rattle.policy.specs.declared.Lifecycle.{Lifecycle}
 use Rattle.rules.proofs.Scenes.{rules, settings, zeros, station}
 use Rattle.rules.specs.Samples.{atRest}
-use Rattle.rules.specs.State.{newHandler, made, alert, classAt, resetClass, withInterrupts, withClasses}
+use Rattle.rules.specs.State.{newHandler, made, alert, classAt, resetClass, receiversBy, withInterrupts, withLocals, withAlerts, withClasses, withLinks, withTimer}
 use Rattle.rules.specs.Tick.{ticked}
 use Rattle.rules.specs.declared.Access.{Access}
 use Rattle.trace_rules.specs.declared.Edition.{Edition}
@@ -58,15 +59,23 @@ wire i = unpack (replicate 4 64) (2 ^ (255 - i))
 
 -- alert i at (1,0), the others at (0,1)
 abbrev high : ℕ → Sample
-high i = record { alerts = record { pos = wire i; neg = unpack (replicate 4 64) (2 ^ 256 - 1 - 2 ^ (255 - i)) }; asks = replicate 4 0 }
-
--- the same with its ping asked for
-abbrev asked : ℕ → Sample
-asked i = record { alerts = high i .alerts; asks = wire i }
+high i = record { alerts = record { pos = wire i; neg = unpack (replicate 4 64) (2 ^ 256 - 1 - 2 ^ (255 - i)) }; word = 0; answers = 0 }
 
 -- alerts 0 and 247 enabled in class 2, which has EN, all lines and threshold 0
 abbrev watching : Handler
 watching = station 248 (1 ∷ replicate 246 0 ++ 1 ∷ []) (replicate 248 2) 2 (settings 0x393D 0 0 zeros)
+
+-- the same with alert 247 locked and local 0 enabled, and with the ping timer on, timeout 3, its turn alert 247's and its ping due in this tick
+abbrev pinging : Handler
+pinging =
+    withTimer (record { timeout = 3; regwen = 1; enable = 1 })
+    (withLinks (record { receivers = receiversBy (λ i. newReceiver); turn = record { number = 0; alert = 247; count = 0 }; lines = 0 })
+    (withLocals (record { regwen = replicate 7 1; en = 1 ∷ replicate 6 0; class = replicate 7 2; cause = replicate 7 0 })
+    (withAlerts (record { regwen = replicate 247 1 ++ 0 ∷ []; en = watching .alerts .en; class = watching .alerts .class; cause = replicate 248 0 }) watching)))
+
+-- a sample with this word
+abbrev drawing : ℕ → Sample → Sample
+drawing word s = record { alerts = s .alerts; word = word; answers = 0 }
 
 module _ (r : Answered) where
   -- a read of 1281, a write of 9 to INTR_ENABLE, and kind 3 with alert 0 high: refused, and the tick runs with its samples
@@ -91,23 +100,38 @@ module _ (r : Answered) where
     ap (λ (x : Answered). x .output .lines) e,
   )
 
-  swapped : r ≡ tick watching 0 0 0 (record { alerts = record { pos = high 247 .alerts .neg; neg = high 247 .alerts .pos }; asks = replicate 4 0 }) → alert (r .handler) Field.Cause 247 ≡ 0
+  swapped : r ≡ tick watching 0 0 0 (record { alerts = record { pos = high 247 .alerts .neg; neg = high 247 .alerts .pos }; word = 0; answers = 0 }) → alert (r .handler) Field.Cause 247 ≡ 0
   unfolding rules traces answered
   swapped e = ap (λ (x : Answered). alert (x .handler) Field.Cause 247) e
 
-  -- a ping that is asked for and answered in one tick: no cause, its pair at (1,0), the others at (0,1), those that are no alert's too
-  answers : r ≡ tick watching 0 0 0 (asked 247) → (alert (r .handler) Field.Cause 247 ≡ 0) × (r .output .ping ≡ high 247 .alerts)
+  -- a ping that is due and answered in one tick: no cause, its pair at (1,0), the others at (0,1), those that are no alert's too; the turn ends, and the
+  -- tick's word sets the next
+  answers : r ≡ tick pinging 0 0 0 (drawing 0x00050007 (high 247))
+      → (alert (r .handler) Field.Cause 247 ≡ 0) × (r .output .ping ≡ high 247 .alerts) × (r .handler .links .turn ≡ record { number = 1; alert = 5; count = 7 })
   unfolding rules traces answered
-  answers e = (ap (λ (x : Answered). alert (x .handler) Field.Cause 247) e, ap (λ (x : Answered). x .output .ping) e)
+  answers e = (
+    ap (λ (x : Answered). alert (x .handler) Field.Cause 247) e,
+    ap (λ (x : Answered). x .output .ping) e,
+    ap (λ (x : Answered). x .handler .links .turn) e,
+  )
 
--- what those two ticks hear
+-- what the tick of the event hears, and that of the answer
 hears : (a : Account) → a ≡ account watching (inputBy 0 0 0 (high 247)) → (a .events ≡ wire 247) × (a .answers ≡ replicate 4 0) × (a .locals ≡ 0) × (a .answer ≡ pos 0)
 unfolding rules traces account
 hears a e = (ap (λ (x : Account). x .events) e, ap (λ (x : Account). x .answers) e, ap (λ (x : Account). x .locals) e, ap (λ (x : Account). x .answer) e)
 
-hears-answer : (a : Account) → a ≡ account watching (inputBy 1 1281 0 (asked 247)) → (a .events ≡ replicate 4 0) × (a .answers ≡ wire 247) × (a .answer ≡ pos 0x393C)
+hears-answer : (a : Account) → a ≡ account pinging (inputBy 1 1281 0 (high 247)) → (a .events ≡ replicate 4 0) × (a .answers ≡ wire 247) × (a .locals ≡ 0) × (a .answer ≡ pos 0x393C)
 unfolding rules traces account
-hears-answer a e = (ap (λ (x : Account). x .events) e, ap (λ (x : Account). x .answers) e, ap (λ (x : Account). x .answer) e)
+hears-answer a e = (ap (λ (x : Account). x .events) e, ap (λ (x : Account). x .answers) e, ap (λ (x : Account). x .locals) e, ap (λ (x : Account). x .answer) e)
+
+-- unanswered it fails three ticks later, and local 0 occurs: not in the tick before
+abbrev waited : ℕ → Handler
+waited zero = pinging
+waited (suc n) = tick (waited n) 0 0 0 atRest .handler
+
+hears-failure : (a b : Account) → a ≡ account (waited 2) (inputBy 0 0 0 atRest) → b ≡ account (waited 3) (inputBy 0 0 0 atRest) → (a .locals ≡ 0) × (b .locals ≡ 1)
+unfolding rules traces answered account
+hears-failure a b e f = (ap (λ (x : Account). x .locals) e, ap (λ (x : Account). x .locals) f)
 
 -- ── refusal 7: N is 249, every interrupt is pending and enabled, and class 0 is in Phase 0 with all lines ──
 

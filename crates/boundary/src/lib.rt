@@ -91,13 +91,22 @@ pub extern "C" fn tarravane_batch_24(h: Handler, bytes: &[u8], out: &mut [u64]) 
     batch(Edition::Alerts64, h, bytes, out)
 }
 
-// The ticks of the newest records, of 70 bytes, a word for each.
+// The ticks of the records of 70 bytes, a word for each.
 #[no_mangle]
 pub extern "C" fn tarravane_batch_70(h: Handler, bytes: &[u8], out: &mut [u64]) -> Batched
     ensures { λ r. ⌜ BatchedBy Edition.Alerts248 h (now (bytes .entry)) (now (out .entry)) r (now (out .exit)) ⌝ }
     ensures demand3 { λ r. ⌜ (valid h ≡ true → Demand3 h (batchInputs Edition.Alerts248 (batchVerdict Edition.Alerts248 h (now (bytes .entry)) (now (out .entry))) (now (bytes .entry)))) ⌝ }
 {
     batch(Edition::Alerts248, h, bytes, out)
+}
+
+// The ticks of the newest records, of 75 bytes with the ping timer's word and answers, a word for each.
+#[no_mangle]
+pub extern "C" fn tarravane_batch_pings(h: Handler, bytes: &[u8], out: &mut [u64]) -> Batched
+    ensures { λ r. ⌜ BatchedBy Edition.Pings h (now (bytes .entry)) (now (out .entry)) r (now (out .exit)) ⌝ }
+    ensures demand3 { λ r. ⌜ (valid h ≡ true → Demand3 h (batchInputs Edition.Pings (batchVerdict Edition.Pings h (now (bytes .entry)) (now (out .entry))) (now (bytes .entry)))) ⌝ }
+{
+    batch(Edition::Pings, h, bytes, out)
 }
 
 // A record for each entry of the lent lists, into the lent buffer.
@@ -108,13 +117,24 @@ pub extern "C" fn tarravane_record(
     values: &[u32],
     positive: &[u64],
     negative: &[u64],
+    entropy: &[u32],
+    answers: &[u8],
     out: &mut [u8],
 ) -> i64
-    ensures { λ r. ⌜ Wrote (lent (now (kinds .entry)) (now (registers .entry)) (now (values .entry)) (now (positive .entry)) (now (negative .entry))) (now (out .entry)) r (now (out .exit)) ⌝ }
-    ensures readback { λ r. ⌜ ReadBack (lent (now (kinds .entry)) (now (registers .entry)) (now (values .entry)) (now (positive .entry)) (now (negative .entry))) (now (out .entry)) (now (out .exit)) ⌝ }
-    ensures writtenback { λ r. ⌜ WrittenBack (lent (now (kinds .entry)) (now (registers .entry)) (now (values .entry)) (now (positive .entry)) (now (negative .entry))) (now (out .entry)) (now (out .exit)) ⌝ }
+    ensures { λ r. ⌜ Wrote (lent (now (kinds .entry)) (now (registers .entry)) (now (values .entry)) (now (positive .entry)) (now (negative .entry)) (now (entropy .entry)) (now (answers .entry))) (now (out .entry)) r (now (out .exit)) ⌝ }
+    ensures readback { λ r. ⌜ ReadBack (lent (now (kinds .entry)) (now (registers .entry)) (now (values .entry)) (now (positive .entry)) (now (negative .entry)) (now (entropy .entry)) (now (answers .entry))) (now (out .entry)) (now (out .exit)) ⌝ }
+    ensures writtenback { λ r. ⌜ WrittenBack (lent (now (kinds .entry)) (now (registers .entry)) (now (values .entry)) (now (positive .entry)) (now (negative .entry)) (now (entropy .entry)) (now (answers .entry))) (now (out .entry)) (now (out .exit)) ⌝ }
 {
-    write(kinds, registers, values, positive, negative, out)
+    write(
+        kinds,
+        registers,
+        values,
+        positive,
+        negative,
+        entropy,
+        answers,
+        out,
+    )
 }
 
 // The boot policy of the lifecycle of this number, installed and read back.

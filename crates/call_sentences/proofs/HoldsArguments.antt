@@ -1,16 +1,17 @@
 -- The boundary's definitions satisfy the sentences of its calls.
 -- Assumes nothing.
 use Prim.Native.Nat.{ℕ, _+_, _*_, _≤_, _<_}
-use mathlib.Core.Path.{_≡_, refl, sym, ap, _∙_, subst}
-use mathlib.Core.Logic.{_≢_, inl, inr}
-use mathlib.Core.Bool.{Bool, true, false, false≢true, cond, and-false, _&&_}
+use mathlib.Core.Path.{_≡_, refl, sym, ap, subst}
+use mathlib.Core.Logic.{_≢_, inl, inr, ⊎-elim}
+use mathlib.Core.Bool.{Bool, true, false, cond, and-false, _&&_}
 use mathlib.Core.List.{List}
 use native.Mathlib.Omega.{arith}
-use borrow.Author.Tests.{ne-eqb, eq-eqb}
+use native.Mathlib.Decide.{ℕ-discrete}
+use borrow.Author.Tests.{ne-eqb, eq-eqb, eqb-true}
 use lib.Dec.{eqb}
 use lib.IntN.{pos}
 use lib.ListN.{getD, length}
-use Rattle.bits.proofs.IndexLaws.{at-each, length-each}
+use Rattle.bits.proofs.IndexLaws.{at-each, length-each, and-true, true-and}
 use Rattle.boundary.specs.Input.{inputBy}
 use Rattle.rules.specs.Answer.{number}
 use Rattle.trace_rules.specs.Record.{accessOf}
@@ -20,7 +21,7 @@ use Rattle.trace_laws.proofs.RecordLaws.{kind-over}
 use Rattle.trace_sentences.specs.Writers.{entry, Arrays}
 use Rattle.trace_sentences.proofs.HoldsWriters.{holds-writer}
 use Rattle.writer.specs.Lent.{Lent, lent, inputAt, listOf, even, writeLent, wordsAt, wordAt}
-use Rattle.call_sentences.specs.Arguments.{TickInputs, EntryIs, FourOf, ListIs, Uneven, WriteCalls}
+use Rattle.call_sentences.specs.Arguments.{TickInputs, Lists, EntryIs, FourOf, ListIs, Uneven, Words, WriteCalls}
 
 -- ── a tick ──
 
@@ -53,82 +54,107 @@ holds-entry kind register value =
 holds-four : (list : List ℕ) (i : ℕ) → FourOf list i (wordsAt list i)
 holds-four list i = record { four = length-each 4 (wordAt list i); word = λ v l. at-each 4 (wordAt list i) v 0 l }
 
-module _ (kinds registers values positive negative : List ℕ) where
-  abbrev l : Lent
-  l = lent kinds registers values positive negative
+-- as the contract of `tarravane_record` names them
+abbrev pub lentBy : Lists → Lent
+lentBy l = lent (l .kinds) (l .registers) (l .values) (l .positive) (l .negative) (l .entropy) (l .answers)
 
-  entry-at : (i : ℕ) → i < length kinds → entry (listOf l) i ≡ inputAt l i
+module _ (l : Lists) where
+  entry-at : (i : ℕ) → i < length (l .kinds) → entry (listOf (lentBy l)) i ≡ inputAt (lentBy l) i
   unfolding listOf
-  entry-at i h = at-each (length kinds) (inputAt l) i _ h
+  entry-at i h = at-each (length (l .kinds)) (inputAt (lentBy l)) i _ h
 
-  many-of : length (listOf l) ≡ length kinds
+  many-of : length (listOf (lentBy l)) ≡ length (l .kinds)
   unfolding listOf
-  many-of = length-each (length kinds) (inputAt l)
+  many-of = length-each (length (l .kinds)) (inputAt (lentBy l))
 
-  holds-list : ListIs kinds registers values positive negative (listOf l)
+  holds-list : ListIs l (listOf (lentBy l))
   holds-list =
       record {
         many = many-of;
         access = λ i h.
-            subst (λ (x : Input). EntryIs (getD kinds i 0) (getD registers i 0) (getD values i 0) (x .access)) (sym (entry-at i h))
-            (holds-entry (getD kinds i 0) (getD registers i 0) (getD values i 0));
-        pos = λ i h. subst (λ (x : Input). FourOf positive i (x .sample .alerts .pos)) (sym (entry-at i h)) (holds-four positive i);
-        neg = λ i h. subst (λ (x : Input). FourOf negative i (x .sample .alerts .neg)) (sym (entry-at i h)) (holds-four negative i);
-        asks = λ i h. ap (λ (x : Input). x .sample .asks) (entry-at i h);
+            subst (λ (x : Input). EntryIs (getD (l .kinds) i 0) (getD (l .registers) i 0) (getD (l .values) i 0) (x .access)) (sym (entry-at i h))
+            (holds-entry (getD (l .kinds) i 0) (getD (l .registers) i 0) (getD (l .values) i 0));
+        pos = λ i h. subst (λ (x : Input). FourOf (l .positive) i (x .sample .alerts .pos)) (sym (entry-at i h)) (holds-four (l .positive) i);
+        neg = λ i h. subst (λ (x : Input). FourOf (l .negative) i (x .sample .alerts .neg)) (sym (entry-at i h)) (holds-four (l .negative) i);
+        word = λ i h. ap (λ (x : Input). x .sample .word) (entry-at i h);
+        answers = λ i h. ap (λ (x : Input). x .sample .answers) (entry-at i h);
       }
 
-  module _ (p : (i : ℕ) → getD positive i 0 ≤ 18446744073709551615) (q : (i : ℕ) → getD negative i 0 ≤ 18446744073709551615) where
-    arrays : (i : ℕ) → i < length (listOf l) → Arrays (entry (listOf l) i)
-    arrays i h =
-        let k : i < length kinds = omega (arith, many-of) in
-        let a = holds-list .pos i k in
-        let b = holds-list .neg i k in
-        record {
-          positive = a .four;
-          positive-word = λ v s. subst (λ (n : ℕ). n ≤ 18446744073709551615) (sym (a .word v s)) (p (i * 4 + v));
-          negative = b .four;
-          negative-word = λ v s. subst (λ (n : ℕ). n ≤ 18446744073709551615) (sym (b .word v s)) (q (i * 4 + v));
-        }
+  arrays : Words l → (i : ℕ) → i < length (listOf (lentBy l)) → Arrays (entry (listOf (lentBy l)) i)
+  arrays w i h =
+      let k : i < length (l .kinds) = omega (arith, many-of) in
+      let a = holds-list .pos i k in
+      let b = holds-list .neg i k in
+      record {
+        positive = a .four;
+        positive-word = λ v s. subst (λ (n : ℕ). n ≤ 18446744073709551615) (sym (a .word v s)) (w .positive (i * 4 + v));
+        negative = b .four;
+        negative-word = λ v s. subst (λ (n : ℕ). n ≤ 18446744073709551615) (sym (b .word v s)) (w .negative (i * 4 + v));
+        word = subst (λ (n : ℕ). n ≤ 4294967295) (sym (holds-list .word i k)) (w .entropy i);
+      }
 
-  not-even : Uneven kinds registers values positive negative → even l ≡ false
-  not-even (inl f) = rw (ne-eqb (length registers) (length kinds) f)
-  not-even (inr (inl f)) = rw (ne-eqb (length values) (length kinds) f, and-false (eqb (length registers) (length kinds)))
-  not-even (inr (inr (inl f))) =
-      rw (ne-eqb (length positive) (length kinds * 4) f, and-false (eqb (length values) (length kinds)), and-false (eqb (length registers) (length kinds)))
-  not-even (inr (inr (inr f))) =
-      rw (
-        ne-eqb (length negative) (length kinds * 4) f,
-        and-false (eqb (length positive) (length kinds * 4)),
-        and-false (eqb (length values) (length kinds)),
-        and-false (eqb (length registers) (length kinds)),
-      )
+  -- ── lengths: the test of each list but the kinds ──
 
-  is-even : (b : Bool) → even l ≡ b → ¬ Uneven kinds registers values positive negative → b ≡ true
-  is-even true e f = refl
-  is-even false e f = absurd (f (some (eqb (length registers) (length kinds)) (eqb (length values) (length kinds)) (eqb (length positive) (length kinds * 4)) (eqb (length negative) (length kinds * 4)) refl refl refl refl e))
+  abbrev many : List ℕ → Bool
+  many xs = eqb (length xs) (length (l .kinds))
+
+  abbrev fours : List ℕ → Bool
+  fours xs = eqb (length xs) (length (l .kinds) * 4)
+
+  -- the tests behind the first, the second, ..
+  abbrev after4 : Bool
+  after4 = many (l .entropy) && many (l .answers)
+
+  abbrev after3 : Bool
+  after3 = fours (l .negative) && after4
+
+  abbrev after2 : Bool
+  after2 = fours (l .positive) && after3
+
+  abbrev after1 : Bool
+  after1 = many (l .values) && after2
+
+  all-even : even (lentBy l) ≡ true → ¬ Uneven l
+  all-even e =
+      let a = and-true (many (l .registers)) after1 e in
+      let b = and-true (many (l .values)) after2 (a .1) in
+      let c = and-true (fours (l .positive)) after3 (b .1) in
+      let d = and-true (fours (l .negative)) after4 (c .1) in
+      let f = and-true (many (l .entropy)) (many (l .answers)) (d .1) in
+      ⊎-elim (λ n. n (eqb-true (length (l .registers)) (length (l .kinds)) (a .0)))
+      (⊎-elim (λ n. n (eqb-true (length (l .values)) (length (l .kinds)) (b .0)))
+      (⊎-elim (λ n. n (eqb-true (length (l .positive)) (length (l .kinds) * 4) (c .0)))
+      (⊎-elim (λ n. n (eqb-true (length (l .negative)) (length (l .kinds) * 4) (d .0)))
+      (⊎-elim (λ n. n (eqb-true (length (l .entropy)) (length (l .kinds)) (f .0))) (λ n. n (eqb-true (length (l .answers)) (length (l .kinds)) (f .1)))))))
+
+  not-even : Uneven l → even (lentBy l) ≡ false
+  not-even u = go (even (lentBy l)) refl
     where
-      off : (a b : ℕ) → eqb a b ≡ false → a ≢ b
-      off a b e d = false≢true (sym e ∙ eq-eqb a b d)
+      go : (b : Bool) → even (lentBy l) ≡ b → b ≡ false
+      go true e = absurd (all-even e u)
+      go false e = refl
 
-      some : (a b c d : Bool) → eqb (length registers) (length kinds) ≡ a → eqb (length values) (length kinds) ≡ b → eqb (length positive) (length kinds * 4) ≡ c
-          → eqb (length negative) (length kinds * 4) ≡ d → (a && (b && (c && d))) ≡ false → Uneven kinds registers values positive negative
-      some false b c d w x y z e = inl (off _ _ w)
-      some true false c d w x y z e = inr (inl (off _ _ x))
-      some true true false d w x y z e = inr (inr (inl (off _ _ y)))
-      some true true true false w x y z e = inr (inr (inr (off _ _ z)))
-      some true true true true w x y z e = absurd (false≢true (sym e))
+  is-even : ¬ Uneven l → even (lentBy l) ≡ true
+  is-even f =
+      true-and (same (length (l .registers)) (length (l .kinds)) (λ n. f (inl n)))
+      (true-and (same (length (l .values)) (length (l .kinds)) (λ n. f (inr (inl n))))
+      (true-and (same (length (l .positive)) (length (l .kinds) * 4) (λ n. f (inr (inr (inl n)))))
+      (true-and (same (length (l .negative)) (length (l .kinds) * 4) (λ n. f (inr (inr (inr (inl n))))))
+      (true-and (same (length (l .entropy)) (length (l .kinds)) (λ n. f (inr (inr (inr (inr (inl n)))))))
+      (same (length (l .answers)) (length (l .kinds)) (λ n. f (inr (inr (inr (inr (inr n)))))))))))
+    where
+      same : (a b : ℕ) → (a ≢ b → ⊥) → eqb a b ≡ true
+      same a b g = go (ℕ-discrete a b)
+        where
+          go : Dec (a ≡ b) → eqb a b ≡ true
+          go (yes e) = eq-eqb a b e
+          go (no n) = absurd (g n)
 
-pub holds-write-calls : WriteCalls (λ a b c d e buffer. writeLent (lent a b c d e) buffer .answer) (λ a b c d e buffer. writeLent (lent a b c d e) buffer .buffer)
+pub holds-write-calls : WriteCalls (λ l buffer. writeLent (lentBy l) buffer .answer) (λ l buffer. writeLent (lentBy l) buffer .buffer)
 unfolding writeLent writeOf number
-holds-write-calls kinds registers values positive negative buffer p q =
+holds-write-calls l buffer w =
     record {
-      uneven = λ u.
-          let n = not-even kinds registers values positive negative u in
-          record { answer = rw n; bytes = rw n };
+      uneven = λ u. let n = not-even l u in record { answer = rw n; bytes = rw n };
       writes = λ u.
-          let y = is-even kinds registers values positive negative (even (lent kinds registers values positive negative)) refl u in (
-            listOf (lent kinds registers values positive negative),
-            holds-list kinds registers values positive negative,
-            rw y (holds-writer (listOf (lent kinds registers values positive negative)) buffer (arrays kinds registers values positive negative p q)),
-          );
+          let y = is-even l u in (listOf (lentBy l), holds-list l, rw y (holds-writer (listOf (lentBy l)) buffer (arrays l w)));
     }

@@ -9,7 +9,7 @@ use Rattle.handler.specs.Account.{told, account}
 use Rattle.handler.specs.declared.account.Account.{Account}
 use Rattle.laws.proofs.Samples.Heard.{heard-event, heard-answer}
 use Rattle.rules.specs.Access.{accessed, acted, effects}
-use Rattle.rules.specs.Samples.{happened, answered, heard, occurs}
+use Rattle.rules.specs.Samples.{asksFor, happened, answered, heard, occurs}
 use Rattle.rules.specs.Tick.{hears}
 use Rattle.rules.specs.Valid.{valid}
 use Rattle.rules.specs.declared.Effects.{Effects}
@@ -18,6 +18,7 @@ use Rattle.rules.specs.declared.Input.{Input}
 use Rattle.rules.specs.declared.Sample.{Sample}
 use Rattle.sentences.specs.Receivers.{Answers, Event}
 use Rattle.sentences.specs.Samples.{RaisesFiveOrNone, Occurs}
+use Rattle.sentences.specs.Valid.{Valid}
 use Rattle.sentences.proofs.HoldsReceivers.{four-words, event-is, answers-is}
 use Rattle.sentences.proofs.HoldsSamples.{holds-occurs}
 use Rattle.sentences.proofs.HoldsTick.{holds-step1}
@@ -39,15 +40,15 @@ module _ (h : Handler) (x : Input) where
   abbrev s : Sample
   s = x .sample
 
-  holds-tells : RaisesFiveOrNone f → Tells g s f (toldBy (told h x))
+  holds-tells : Valid g → RaisesFiveOrNone f → Tells g s f (toldBy (told h x))
   unfolding hears heard acted effects
-  holds-tells r =
+  holds-tells v r =
       record {
-        event = λ i l. subst (λ (t : Bool). (t ≡ true) ↔ Event g s i) (sym (heard-event g s f i l)) (event-is g s i);
-        event-words = four-words (happened g (s .asks) (s .alerts));
-        answer = λ i l. subst (λ (t : Bool). (t ≡ true) ↔ Answers g s i) (sym (heard-answer g s f i l)) (answers-is g s i);
-        answer-words = four-words (answered g (s .asks) (s .alerts));
-        local = λ j l. subst (λ (t : Bool). (t ≡ true) ↔ Occurs g s f j) (sym (bit-bitsOf 7 (occurs g (heard g s f)) j l)) (holds-occurs g s f j r l);
+        event = λ i l. subst (λ (t : Bool). (t ≡ true) ↔ Event g s f i) (sym (heard-event g s f i l)) (event-is g s f i l);
+        event-words = four-words (happened g (asksFor g s f) (s .alerts));
+        answer = λ i l. subst (λ (t : Bool). (t ≡ true) ↔ Answers g s f i) (sym (heard-answer g s f i l)) (answers-is g s f i l);
+        answer-words = four-words (answered g (asksFor g s f) (s .alerts));
+        local = λ j l. subst (λ (t : Bool). (t ≡ true) ↔ Occurs g s f j) (sym (bit-bitsOf 7 (occurs g (heard g s f)) j l)) (holds-occurs g s f j (v .n) (v .ping-timeout) r l);
         seven = omega (arith, bitsOf-lt 7 (occurs g (heard g s f)));
       }
 
@@ -56,5 +57,5 @@ module _ (h : Handler) (x : Input) where
   holds-hears =
       record {
         refused = λ n. let e : valid h ≡ false = off (valid h) (holds-valid h) n in rw e (record { events = refl; answers = refl; locals = refl });
-        runs = λ v. let e : valid h ≡ true = holds-valid h .1 v in rw e (holds-tells (holds-step1 .raises h (x .access)));
+        runs = λ v. let e : valid h ≡ true = holds-valid h .1 v in rw e (holds-tells (holds-step1 .valid h (x .access) v) (holds-step1 .raises h (x .access)));
       }

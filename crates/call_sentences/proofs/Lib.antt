@@ -1,5 +1,6 @@
 pub mod HoldsArguments
 pub mod OnlyArguments
+pub mod RefutedArguments
 pub mod HoldsHearing
 pub mod OnlyHearing
 pub mod Station

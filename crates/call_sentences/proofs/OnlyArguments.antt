@@ -14,7 +14,7 @@ use Rattle.rules.specs.declared.Sample.{Sample}
 use Rattle.trace_sentences.specs.Writers.{noInput, entry, WriteIs}
 use Rattle.trace_sentences.proofs.OnlyWriters.{SameWrite, same-refuses, same-write}
 use Rattle.trace_sentences.proofs.BytePlaces.{dec-or, dec-not}
-use Rattle.call_sentences.specs.Arguments.{TickInput, TickInputs, EntryIs, FourOf, ListIs, Uneven, WriteCall, WriteCalls}
+use Rattle.call_sentences.specs.Arguments.{TickInput, TickInputs, Lists, EntryIs, FourOf, ListIs, Uneven, Words, WriteCall, WriteCalls}
 
 module _ (register value : ℕ) (w : Sample) (x y : Input) where
   same-access : (kind : ℕ) → TickInput kind register value w x → TickInput kind register value w y → x .access ≡ y .access
@@ -52,34 +52,38 @@ same-four : (list : List ℕ) (i : ℕ) (ws vs : List ℕ) → FourOf list i ws 
 same-four list i ws vs x y =
     ext-getD 0 ws vs (x .four ∙ sym (y .four)) (λ v l. let k : v < 4 = omega (arith, x .four) in x .word v k ∙ sym (y .word v k))
 
-module _ (kinds registers values positive negative : List ℕ) where
-  same-lists : (xs ys : List Input) → ListIs kinds registers values positive negative xs → ListIs kinds registers values positive negative ys → xs ≡ ys
-  same-lists xs ys x y = ext-getD noInput xs ys (x .many ∙ sym (y .many)) (λ i l. at i (omega (arith, x .many)))
+module _ (l : Lists) where
+  same-lists : (xs ys : List Input) → ListIs l xs → ListIs l ys → xs ≡ ys
+  same-lists xs ys x y = ext-getD noInput xs ys (x .many ∙ sym (y .many)) (λ i h. at i (omega (arith, x .many)))
     where
-      at : (i : ℕ) → i < length kinds → entry xs i ≡ entry ys i
-      at i l = λ j.
+      at : (i : ℕ) → i < length (l .kinds) → entry xs i ≡ entry ys i
+      at i h = λ j.
           record {
-            access = same-entry (getD kinds i 0) (getD registers i 0) (getD values i 0) (entry xs i .access) (entry ys i .access) (x .access i l) (y .access i l) j;
+            access =
+                same-entry (getD (l .kinds) i 0) (getD (l .registers) i 0) (getD (l .values) i 0) (entry xs i .access) (entry ys i .access) (x .access i h)
+                (y .access i h) j;
             sample = record {
               alerts = record {
-                pos = same-four positive i (entry xs i .sample .alerts .pos) (entry ys i .sample .alerts .pos) (x .pos i l) (y .pos i l) j;
-                neg = same-four negative i (entry xs i .sample .alerts .neg) (entry ys i .sample .alerts .neg) (x .neg i l) (y .neg i l) j;
+                pos = same-four (l .positive) i (entry xs i .sample .alerts .pos) (entry ys i .sample .alerts .pos) (x .pos i h) (y .pos i h) j;
+                neg = same-four (l .negative) i (entry xs i .sample .alerts .neg) (entry ys i .sample .alerts .neg) (x .neg i h) (y .neg i h) j;
               };
-              asks = (x .asks i l ∙ sym (y .asks i l)) j;
+              word = (x .word i h ∙ sym (y .word i h)) j;
+              answers = (x .answers i h ∙ sym (y .answers i h)) j;
             };
           }
 
-  dec-uneven : Dec (Uneven kinds registers values positive negative)
+  dec-uneven : Dec (Uneven l)
   dec-uneven =
-      dec-or (dec-not (ℕ-discrete (length registers) (length kinds)))
-      (dec-or (dec-not (ℕ-discrete (length values) (length kinds)))
-      (dec-or (dec-not (ℕ-discrete (length positive) (length kinds * 4))) (dec-not (ℕ-discrete (length negative) (length kinds * 4)))))
+      dec-or (dec-not (ℕ-discrete (length (l .registers)) (length (l .kinds))))
+      (dec-or (dec-not (ℕ-discrete (length (l .values)) (length (l .kinds))))
+      (dec-or (dec-not (ℕ-discrete (length (l .positive)) (length (l .kinds) * 4)))
+      (dec-or (dec-not (ℕ-discrete (length (l .negative)) (length (l .kinds) * 4)))
+      (dec-or (dec-not (ℕ-discrete (length (l .entropy)) (length (l .kinds)))) (dec-not (ℕ-discrete (length (l .answers)) (length (l .kinds))))))))
 
-  pub same-call : (buffer : List ℕ) (a b : ℤ) (left kept : List ℕ) → WriteCall kinds registers values positive negative buffer a left
-      → WriteCall kinds registers values positive negative buffer b kept → SameWrite a b left kept
+  pub same-call : (buffer : List ℕ) (a b : ℤ) (left kept : List ℕ) → WriteCall l buffer a left → WriteCall l buffer b kept → SameWrite a b left kept
   same-call buffer a b left kept x y = go dec-uneven
     where
-      go : Dec (Uneven kinds registers values positive negative) → SameWrite a b left kept
+      go : Dec (Uneven l) → SameWrite a b left kept
       go (yes u) = same-refuses [] buffer a b left kept 10 (x .uneven u) (y .uneven u)
       go (no f) =
           let p = x .writes f in
@@ -87,9 +91,6 @@ module _ (kinds registers values positive negative : List ℕ) where
           let e = same-lists (p .0) (q .0) (p .1) (q .1) in
           same-write (p .0) buffer a b left kept (p .2) (subst (λ (xs : List Input). WriteIs xs buffer b kept) (sym e) (q .2))
 
-pub only-write-calls : (f g : List ℕ → List ℕ → List ℕ → List ℕ → List ℕ → List ℕ → ℤ) (l k : List ℕ → List ℕ → List ℕ → List ℕ → List ℕ → List ℕ → List ℕ)
-    → WriteCalls f l → WriteCalls g k → (kinds registers values positive negative buffer : List ℕ)
-    → ((i : ℕ) → getD positive i 0 ≤ 18446744073709551615) → ((i : ℕ) → getD negative i 0 ≤ 18446744073709551615)
-    → SameWrite (f kinds registers values positive negative buffer) (g kinds registers values positive negative buffer) (l kinds registers values positive negative buffer) (k kinds registers values positive negative buffer)
-only-write-calls f g l k x y kinds registers values positive negative buffer p q =
-    same-call kinds registers values positive negative buffer _ _ _ _ (x kinds registers values positive negative buffer p q) (y kinds registers values positive negative buffer p q)
+pub only-write-calls : (f g : Lists → List ℕ → ℤ) (m k : Lists → List ℕ → List ℕ) → WriteCalls f m → WriteCalls g k → (l : Lists) (buffer : List ℕ)
+    → Words l → SameWrite (f l buffer) (g l buffer) (m l buffer) (k l buffer)
+only-write-calls f g m k x y l buffer w = same-call l buffer (f l buffer) (g l buffer) (m l buffer) (k l buffer) (x l buffer w) (y l buffer w)

@@ -14,7 +14,7 @@ use Rattle.rules.specs.declared.Handler.{Handler}
 use Rattle.rules.specs.declared.Input.{Input}
 use Rattle.rules.specs.declared.Made.{Made}
 use Rattle.rules.specs.declared.Sample.{Sample}
-use Rattle.writer.specs.Lent.{lent, writeLent}
+use Rattle.writer.specs.Lent.{writeLent}
 use Rattle.sentences.specs.AccessArrays.{Sized}
 use Rattle.sentences.proofs.OnlyMaking.{only-making}
 use Rattle.sentences.proofs.Whole.{holds-whole}
@@ -23,7 +23,7 @@ use Rattle.trace_sentences.proofs.Library.{rules, holds-library, same-got, same
 use Rattle.trace_sentences.proofs.Replays.{holds-replays}
 use Rattle.call_sentences.specs.Hearing.{Hears}
 use Rattle.call_sentences.specs.Station.{Station, Sound, Call, make, step, hear, replay, write, Typed, any-count, any-step, any-hear, all-bytes, all-words, AllTyped, none, one, Got, untold, got, all}
-use Rattle.call_sentences.proofs.HoldsArguments.{holds-tick-inputs, holds-write-calls}
+use Rattle.call_sentences.proofs.HoldsArguments.{lentBy, holds-tick-inputs, holds-write-calls}
 use Rattle.call_sentences.proofs.HoldsHearing.{toldBy, holds-hears}
 use Rattle.call_sentences.proofs.OnlyArguments.{only-tick-inputs, only-write-calls}
 use Rattle.call_sentences.proofs.OnlyHearing.{only-hears}
@@ -41,8 +41,8 @@ boundary =
       batch-state = λ e h bytes out. batch e h bytes out .handler;
       batch-answer = λ e h bytes out. batch e h bytes out .answer;
       batch-list = λ e h bytes out. batch e h bytes out .out;
-      write-answer = λ a b c d e buffer. writeLent (lent a b c d e) buffer .answer;
-      write-buffer = λ a b c d e buffer. writeLent (lent a b c d e) buffer .buffer;
+      write-answer = λ l buffer. writeLent (lentBy l) buffer .answer;
+      write-buffer = λ l buffer. writeLent (lentBy l) buffer .buffer;
     }
 
 pub sound-boundary : Sound boundary
@@ -71,7 +71,7 @@ sized-call c s h (make n) z = subst (λ (m : Made). Sized (m .handler)) (sym (s 
 sized-call c s h (step k r v w) z = subst Sized (sym (s .tick-state h k r v w)) (sized-leaves (s .behind) (s .sound) h (l-step (s .input k r v w)) z)
 sized-call c s h (hear k r v w) z = z
 sized-call c s h (replay e bytes out) z = subst Sized (sym (s .batch-state e h bytes out)) (sized-leaves (s .behind) (s .sound) h (l-replay e bytes out) z)
-sized-call c s h (write ks rs vs ps ns buffer) z = z
+sized-call c s h (write l buffer) z = z
 
 module _ (c d : Station) (s : Sound c) (t : Sound d) where
   same-new : (n : ℕ) → c .new n ≡ d .new n
@@ -120,8 +120,8 @@ module _ (c d : Station) (s : Sound c) (t : Sound d) where
         lent = (s .batch-list e h bytes out ∙ ap (λ (y : LGot). y .lent) g ∙ sym (t .batch-list e h bytes out)) i;
         state = (s .batch-state e h bytes out ∙ l ∙ sym (t .batch-state e h bytes out)) i;
       }
-  same-call h (write ks rs vs ps ns buffer) z (all-words p q) =
-      let w = only-write-calls (c .write-answer) (d .write-answer) (c .write-buffer) (d .write-buffer) (s .writes) (t .writes) ks rs vs ps ns buffer p q in
+  same-call h (write l buffer) z (all-words p) =
+      let w = only-write-calls (c .write-answer) (d .write-answer) (c .write-buffer) (d .write-buffer) (s .writes) (t .writes) l buffer p in
       λ i. record { number = w .answer i; output = off; told = untold; lent = w .buffer i; state = h }
 
   -- every sequence of calls, from any state whose arrays have their lengths

@@ -4,7 +4,7 @@
 use Prim.Native.Nat.{ℕ, _+_, _*_, _≤_, _<_}
 use mathlib.Core.Path.{_≡_}
 use mathlib.Core.Logic.{_⊎_, _≢_}
-use mathlib.Core.List.{List, [], _∷_}
+use mathlib.Core.List.{List}
 use lib.IntN.{ℤ}
 use lib.ListN.{getD, length}
 use Rattle.rules.specs.declared.Access.{Access}
@@ -25,7 +25,17 @@ pub record TickInput (kind register value : ℕ) (s : Sample) (x : Input) : Type
 abbrev pub TickInputs : (ℕ → ℕ → ℕ → Sample → Input) → Type 0
 TickInputs by = (kind register value : ℕ) (s : Sample) → TickInput kind register value s (by kind register value s)
 
--- ── a writing: entry i of the lists is tick i's, as a record would hold it ──
+-- ── a writing: "seven lists of numbers, of which entry i is tick i's", as a record would hold it ──
+
+pub record Lists : Type 0 where
+  pub kinds : List ℕ
+  pub registers : List ℕ
+  pub values : List ℕ
+  pub positive : List ℕ
+  pub negative : List ℕ
+  -- request (ix): the word of each tick, and the lines whose ping is answered
+  pub entropy : List ℕ
+  pub answers : List ℕ
 
 pub record EntryIs (kind register value : ℕ) (a : Access) : Type 0 where
   pub nothing : kind ≡ 0 → register ≡ 0 → value ≡ 0 → a ≡ Access.Nothing
@@ -42,27 +52,33 @@ pub record FourOf (list : List ℕ) (i : ℕ) (ws : List ℕ) : Type 0 where
   pub four : length ws ≡ 4
   pub word : (v : ℕ) → v < 4 → getD ws v 0 ≡ getD list (i * 4 + v) 0
 
-pub record ListIs (kinds registers values positive negative : List ℕ) (xs : List Input) : Type 0 where
-  pub many : length xs ≡ length kinds
-  pub access : (i : ℕ) → i < length kinds → EntryIs (getD kinds i 0) (getD registers i 0) (getD values i 0) (entry xs i .access)
-  pub pos : (i : ℕ) → i < length kinds → FourOf positive i (entry xs i .sample .alerts .pos)
-  pub neg : (i : ℕ) → i < length kinds → FourOf negative i (entry xs i .sample .alerts .neg)
-  -- request (viii): records hold no asks, and the lists have none
-  pub asks : (i : ℕ) → i < length kinds → entry xs i .sample .asks ≡ 0 ∷ 0 ∷ 0 ∷ 0 ∷ []
+pub record ListIs (l : Lists) (xs : List Input) : Type 0 where
+  pub many : length xs ≡ length (l .kinds)
+  pub access : (i : ℕ) → i < length (l .kinds) → EntryIs (getD (l .kinds) i 0) (getD (l .registers) i 0) (getD (l .values) i 0) (entry xs i .access)
+  pub pos : (i : ℕ) → i < length (l .kinds) → FourOf (l .positive) i (entry xs i .sample .alerts .pos)
+  pub neg : (i : ℕ) → i < length (l .kinds) → FourOf (l .negative) i (entry xs i .sample .alerts .neg)
+  -- request (ix): the words and the answers as they were handed in
+  pub word : (i : ℕ) → i < length (l .kinds) → entry xs i .sample .word ≡ getD (l .entropy) i 0
+  pub answers : (i : ℕ) → i < length (l .kinds) → entry xs i .sample .answers ≡ getD (l .answers) i 0
 
 -- "lists of unequal lengths name a tick that lacks a part, which no record holds: 10"
-abbrev pub Uneven : List ℕ → List ℕ → List ℕ → List ℕ → List ℕ → Type 0
-Uneven kinds registers values positive negative =
-    (length registers ≢ length kinds)
-    ⊎ ((length values ≢ length kinds)
-    ⊎ ((length positive ≢ length kinds * 4) ⊎ (length negative ≢ length kinds * 4)))
+abbrev pub Uneven : Lists → Type 0
+Uneven l =
+    (length (l .registers) ≢ length (l .kinds))
+    ⊎ ((length (l .values) ≢ length (l .kinds))
+    ⊎ ((length (l .positive) ≢ length (l .kinds) * 4)
+    ⊎ ((length (l .negative) ≢ length (l .kinds) * 4)
+    ⊎ ((length (l .entropy) ≢ length (l .kinds)) ⊎ (length (l .answers) ≢ length (l .kinds))))))
 
-pub record WriteCall (kinds registers values positive negative buffer : List ℕ) (a : ℤ) (left : List ℕ) : Type 0 where
-  pub uneven : Uneven kinds registers values positive negative → Refuses 10 buffer a left
-  pub writes : ¬ Uneven kinds registers values positive negative → (xs : List Input) × ListIs kinds registers values positive negative xs × WriteIs xs buffer a left
+pub record WriteCall (l : Lists) (buffer : List ℕ) (a : ℤ) (left : List ℕ) : Type 0 where
+  pub uneven : Uneven l → Refuses 10 buffer a left
+  pub writes : ¬ Uneven l → (xs : List Input) × ListIs l xs × WriteIs xs buffer a left
 
--- with words of 64 bits
-abbrev pub WriteCalls : (List ℕ → List ℕ → List ℕ → List ℕ → List ℕ → List ℕ → ℤ) → (List ℕ → List ℕ → List ℕ → List ℕ → List ℕ → List ℕ → List ℕ) → Type 0
-WriteCalls answer left =
-    (kinds registers values positive negative buffer : List ℕ) → ((i : ℕ) → getD positive i 0 ≤ 18446744073709551615) → ((i : ℕ) → getD negative i 0 ≤ 18446744073709551615)
-    → WriteCall kinds registers values positive negative buffer (answer kinds registers values positive negative buffer) (left kinds registers values positive negative buffer)
+-- wires in words of 64 bits, and entropy words of 32
+pub record Words (l : Lists) : Type 0 where
+  pub positive : (i : ℕ) → getD (l .positive) i 0 ≤ 18446744073709551615
+  pub negative : (i : ℕ) → getD (l .negative) i 0 ≤ 18446744073709551615
+  pub entropy : (i : ℕ) → getD (l .entropy) i 0 ≤ 4294967295
+
+abbrev pub WriteCalls : (Lists → List ℕ → ℤ) → (Lists → List ℕ → List ℕ) → Type 0
+WriteCalls answer left = (l : Lists) (buffer : List ℕ) → Words l → WriteCall l buffer (answer l buffer) (left l buffer)

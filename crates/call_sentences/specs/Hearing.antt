@@ -27,10 +27,10 @@ pub record Told : Type 0 where
 -- of a tick that runs: g is the state that step 1 leaves, f what it hands on, s the tick's sample
 pub record Tells (g : Handler) (s : Sample) (f : Effects) (t : Told) : Type 0 where
   -- "The alerts with an event, enabled or not", alert i at bit 63 - i % 64 of word i / 64; at N and above there is none
-  pub event : (i : ℕ) → i < 256 → (bitOfAlert (t .events) i ≡ true) ↔ Event g s i
+  pub event : (i : ℕ) → i < 256 → (bitOfAlert (t .events) i ≡ true) ↔ Event g s f i
   pub event-words : FourWords (t .events)
   -- "and those whose open ping is answered"
-  pub answer : (i : ℕ) → i < 256 → (bitOfAlert (t .answers) i ≡ true) ↔ Answers g s i
+  pub answer : (i : ℕ) → i < 256 → (bitOfAlert (t .answers) i ≡ true) ↔ Answers g s f i
   pub answer-words : FourWords (t .answers)
   -- "the local alerts that occur, local 0 at the lowest bit", and no bit above local 6
   pub local : (j : ℕ) → j < 7 → (bit (t .locals) j ≡ true) ↔ Occurs g s f j

@@ -12,7 +12,7 @@ use Rattle.rules.specs.declared.Made.{Made}
 use Rattle.rules.specs.declared.Output.{Output}
 use Rattle.rules.specs.declared.Sample.{Sample}
 use Rattle.trace_sentences.specs.Library.{Library, Satisfies, off}
-use Rattle.call_sentences.specs.Arguments.{TickInputs, WriteCalls}
+use Rattle.call_sentences.specs.Arguments.{TickInputs, Lists, Words, WriteCalls}
 use Rattle.call_sentences.specs.Hearing.{Told, Hears}
 
 pub record Station : Type 0 where
@@ -25,8 +25,8 @@ pub record Station : Type 0 where
   pub batch-state : Edition → Handler → List ℕ → List ℕ → Handler
   pub batch-answer : Edition → Handler → List ℕ → List ℕ → ℤ
   pub batch-list : Edition → Handler → List ℕ → List ℕ → List ℕ
-  pub write-answer : List ℕ → List ℕ → List ℕ → List ℕ → List ℕ → List ℕ → ℤ
-  pub write-buffer : List ℕ → List ℕ → List ℕ → List ℕ → List ℕ → List ℕ → List ℕ
+  pub write-answer : Lists → List ℕ → ℤ
+  pub write-buffer : Lists → List ℕ → List ℕ
 
 pub record Sound (c : Station) : Type 0 where
   -- a library of the sentences stands behind it
@@ -55,16 +55,15 @@ pub data Call : Type 0 where
   step : ℕ → ℕ → ℕ → Sample → Call
   hear : ℕ → ℕ → ℕ → Sample → Call
   replay : Edition → List ℕ → List ℕ → Call
-  write : List ℕ → List ℕ → List ℕ → List ℕ → List ℕ → List ℕ → Call
+  write : Lists → List ℕ → Call
 
--- bytes are bytes, and words have 64 bits: what the C types say
+-- bytes are bytes, wires are in words of 64 bits and entropy words have 32: what the C types say
 pub data Typed : Call → Type 0 where
   any-count : {n : ℕ} → Typed (make n)
   any-step : {k r v : ℕ} {w : Sample} → Typed (step k r v w)
   any-hear : {k r v : ℕ} {w : Sample} → Typed (hear k r v w)
   all-bytes : {e : Edition} {bytes out : List ℕ} → ((i : ℕ) → getD bytes i 0 ≤ 255) → Typed (replay e bytes out)
-  all-words : {ks rs vs ps ns buffer : List ℕ} → ((i : ℕ) → getD ps i 0 ≤ 18446744073709551615) → ((i : ℕ) → getD ns i 0 ≤ 18446744073709551615)
-      → Typed (write ks rs vs ps ns buffer)
+  all-words : {l : Lists} {buffer : List ℕ} → Words l → Typed (write l buffer)
 
 pub data AllTyped : List Call → Type 0 where
   none : AllTyped []
@@ -88,8 +87,7 @@ got c h (step k r v w) = record { number = c .tick-answer h k r v w; output = c 
 got c h (hear k r v w) = record { number = c .hear-answer h k r v w; output = off; told = c .hear-told h k r v w; lent = []; state = h }
 got c h (replay e bytes out) =
     record { number = c .batch-answer e h bytes out; output = off; told = untold; lent = c .batch-list e h bytes out; state = c .batch-state e h bytes out }
-got c h (write ks rs vs ps ns buffer) =
-    record { number = c .write-answer ks rs vs ps ns buffer; output = off; told = untold; lent = c .write-buffer ks rs vs ps ns buffer; state = h }
+got c h (write l buffer) = record { number = c .write-answer l buffer; output = off; told = untold; lent = c .write-buffer l buffer; state = h }
 
 -- all that a sequence of calls gives, each on the state that the one before it left
 unfoldable pub all : Station → Handler → List Call → List Got

@@ -1,10 +1,11 @@
-// The cases of document 01 that are run, its slips that look right, the waves of the public papers, the handshake and a class with no lines,
-// through the code's own tick, the trace writer and shadow writes. What each prints is held to the file `stdout`.
+// The cases of document 01 that are run, its slips that look right, the waves of the public papers, the handshake, the ping timer and a class with no
+// lines, through the code's own tick, the trace writer and shadow writes. What each prints is held to the file `stdout`.
 mod play; // play.rt: one tick, played and shown
 mod refusals; // refusals.rt: answers of single accesses
 mod slips; // slips.rt: "Slips that look right"
 mod waves; // waves.rt: waves of the public papers, of a class
 mod pairs; // pairs.rt: those of an alert's pair
+mod pings; // pings.rt: the ping timer
 mod handshake; // handshake.rt: an alert's receiver, its acknowledge and ping pairs
 mod lines; // lines.rt: a class with no lines
 mod writing; // writing.rt: the trace writer
@@ -30,6 +31,12 @@ fn main() {
     handshake::held_pause();
     handshake::answered_ping();
     handshake::alert_answers();
+    pings::answered();
+    pings::failing();
+    pings::line_answered();
+    pings::line_failing();
+    pings::waiting();
+    pings::not_locked();
     lines::no_event();
     lines::timeout();
     lines::phase();

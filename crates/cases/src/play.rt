@@ -31,7 +31,9 @@ pub const STATE: u16 = 332;
 // INTR_ENABLE.
 pub const INTR_ENABLE: u16 = 1;
 
-// EN of alerts 0 and 1, and CTRL with EN, LOCK and all lines, line e in phase e.
+// REGWEN of alert 0, EN of alerts 0 and 1, and CTRL with EN, LOCK and all lines, line e in phase e.
+pub const ALERT0_REGWEN: u16 = 64;
+
 pub const ALERT0_EN: u16 = 128;
 
 pub const ALERT1_EN: u16 = 129;
@@ -69,7 +71,7 @@ pub fn print_answer(a: i64) {
         -1 => print(b"-1"),
         0 => print(b"0"),
         1 => print(b"1"),
-        140 => print(b"140"),
+        150 => print(b"150"),
         14652 => print(b"14652"),
         65535 => print(b"65535"),
         _ => print(b"?"),
@@ -86,23 +88,24 @@ fn old(x: Access) -> Access {
     }
 }
 
-// An access, these wires of the first alerts, and the pings that are asked for of them.
-pub fn asking(x: Access, pos: u64, neg: u64, asks: u64) -> Input {
+// An access by the map's numbers, these wires of the first alerts, the entropy word and the lines whose ping is answered.
+pub fn timing(x: Access, pos: u64, neg: u64, word: u32, answers: u32) -> Input {
     Input {
-        access: old(x),
+        access: x,
         sample: Sample {
             alerts: Wires {
                 pos: [pos, 0, 0, 0],
                 neg: [neg, 0, 0, 0],
             },
-            asks: [asks, 0, 0, 0],
+            word: word,
+            answers: answers,
         },
     }
 }
 
-// The same with no ping asked for.
+// An access by document 01's numbers, word 0 and no answer.
 pub fn input(x: Access, pos: u64, neg: u64) -> Input {
-    asking(x, pos, neg, 0)
+    timing(old(x), pos, neg, 0, 0)
 }
 
 // A tick that is not shown.

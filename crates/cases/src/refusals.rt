@@ -28,7 +28,7 @@ pub fn making() {
     make(4294967296);
 }
 
-// "Read 333: -1. Read 323, write 324: -2. Write 16 to 1: -4.", each on a new handler of one alert.
+// "Read 333: -1. Read 323, write 324: -2. Write 16 to 1: -4.", each on a new handler of one alert; and register 5, which old records do not reach.
 pub fn accesses() {
     let h = state::new::new(1).handler;
     print(b"accesses\n");
@@ -39,4 +39,5 @@ pub fn accesses() {
     show(h, Access::Read(321), 0);
     show(h, Access::Malformed, 0);
     show(h, Access::Read(129), 0);
+    show(h, Access::Read(5), 0);
 }

@@ -14,14 +14,25 @@ fn show_bytes(bytes: &[u8]) {
     print(b"\n");
 }
 
-// A read of 1281 and a write of 0 to this register, with negative wire 0 at 1, into the first bytes of a buffer.
+// A read of 1281 and a write of 0 to this register, with negative wire 0 at 1, into the first bytes of a buffer. The second has a word, and the
+// answers of lines 0 and 2 with a bit that is no line's.
 fn show_two(register: u16, out: &mut [u8]) {
     let registers: [u16; 2] = [1281, register];
     let positive: [u64; 2 * WORDS] = [0; 2 * WORDS];
     let mut negative: [u64; 2 * WORDS] = [0; 2 * WORDS];
     negative[0] = 0x8000_0000_0000_0000;
     negative[WORDS] = 0x8000_0000_0000_0000;
-    let answer = write(&[1, 2], &registers, &[0, 0], &positive, &negative, out);
+    let entropy: [u32; 2] = [0, 0x0102_0304];
+    let answer = write(
+        &[1, 2],
+        &registers,
+        &[0, 0],
+        &positive,
+        &negative,
+        &entropy,
+        &[0, 0x15],
+        out,
+    );
     print(b"  ");
     print_answer(answer);
     show_bytes(out);
@@ -30,10 +41,10 @@ fn show_two(register: u16, out: &mut [u8]) {
 // The two records of document 01 in the newest form; a register that no record holds; a buffer one byte too short; both.
 pub fn two_records() {
     print(b"writing\n");
-    let mut long: [u8; 142] = [7; 142];
+    let mut long: [u8; 152] = [7; 152];
     show_two(2047, &mut long);
     show_two(2048, &mut long);
-    let mut short: [u8; 139] = [7; 139];
+    let mut short: [u8; 149] = [7; 149];
     show_two(2047, &mut short);
     show_two(2048, &mut short);
 }

@@ -1,4 +1,4 @@
-// A tick in which the access leaves the state as it is and no alert has an event or equal wires. The links, the classes and INTR_STATE
+// A tick in which the access leaves the state as it is, no alert has an event or equal wires and no ping fails. The links, the classes and INTR_STATE
 // alone can move then, so that the state need not be handed from step to step.
 use crate::classes::classes_after;
 use crate::classes::interrupts_after;
@@ -11,6 +11,7 @@ use rules::Handler;
 use rules::Input;
 use rules::Interrupts;
 use rules::Links;
+use samples::hear::is_pingable;
 use samples::links::links_after;
 ghost use mathlib.Core.Path.{_≡_};
 ghost use mathlib.Core.Bool.{true};
@@ -42,7 +43,10 @@ pub fn quiet_of(h: Handler, x: Input) -> Quiet
 {
     let sent = x.access;
     let before = h.links;
-    let linked = links_after(h.n, before, x.sample);
+    let regwen = h.alerts.regwen;
+    let en = h.alerts.en;
+    let pingable = is_pingable(h.n, before.turn.alert, &regwen, &en);
+    let linked = links_after(h.n, before, h.timer, pingable, x.sample);
     let unmoved = unmoved_by(h, sent);
     let links = linked.links;
     let answer = unmoved.answer;

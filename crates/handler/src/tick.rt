@@ -11,7 +11,6 @@ use rules::Answer;
 use rules::Handler;
 use rules::Input;
 use rules::Interrupts;
-use rules::Links;
 use rules::Output;
 use rules::Refusal;
 use rules::WORDS;
@@ -66,8 +65,7 @@ pub fn step(h: Handler, x: Input) -> Stepped
     next.classes = classes;
     let interrupts = Interrupts { state, enable };
     next.interrupts = interrupts;
-    let receivers = heard.receivers;
-    let links = Links { receivers };
+    let links = heard.links;
     next.links = links;
     Stepped {
         handler: next,

@@ -19,13 +19,13 @@ use Rattle.laws.proofs.Tick.Pairs.{acknowledge-at, ping-at}
 use Rattle.laws.proofs.Tick.Runs.{ticks-at}
 use Rattle.laws.proofs.Valid.Refusal7.{ticked-good}
 use Rattle.laws.proofs.Valid.ValidLaws.{facts}
-use Rattle.link_rules.specs.Handshake.{receiverAt, receivedAt}
+use Rattle.laws.specs.Pinging.{closedIf}
 use Rattle.link_rules.specs.Receiver.{acknowledges, received}
 use Rattle.link_rules.specs.declared.Received.{Received}
 use Rattle.link_rules.specs.declared.Receiver.{Receiver}
 use Rattle.rules.specs.Access.{acted, effects}
 use Rattle.rules.specs.Run.{run}
-use Rattle.rules.specs.Samples.{receivedBy, happened, answered}
+use Rattle.rules.specs.Samples.{receivedBy, happened, answered, asksFor}
 use Rattle.rules.specs.State.{most, words, receiver}
 use Rattle.rules.specs.Tick.{acknowledgePairs, pingPairs, outputOf, hears, after, tick}
 use Rattle.rules.specs.Valid.{valid}
@@ -34,7 +34,7 @@ use Rattle.rules.specs.declared.Input.{Input}
 use Rattle.rules.specs.declared.Output.{Output}
 use Rattle.rules.specs.declared.Ticked.{Ticked}
 use Rattle.rules.specs.declared.Wires.{Wires}
-use Rattle.handshake.specs.Alone.{outputAt, givenIn, eventIn, answerIn, IsPair, Alone, Above, New}
+use Rattle.handshake.specs.Alone.{outputAt, givenIn, failsIn, eventIn, answerIn, IsPair, receiverAt, givesAlone, Alone, Above, New}
 
 -- a pair by an equal value
 is-pair : (w : Wires) (i : ℕ) (b c : Bool) → IsPair w i b → b ≡ c → IsPair w i c
@@ -70,32 +70,32 @@ module _ (h : Handler) (xs : List Input) (v : valid h ≡ true) where
     fits : (t : ℕ) → at h xs t .n ≤ most
     fits t = omega (arith, small, at-n t)
 
-    stood : (t : ℕ) → t ≤ length xs → receiver (at h xs t) i ≡ receiverAt (receiver h i) (givenIn xs i) t
+    stood : (t : ℕ) → t ≤ length xs → receiver (at h xs t) i ≡ receiverAt (receiver h i) (givenIn h xs i) (failsIn h xs i) t
     unfolding run receiverAt
     stood zero m = refl
     stood (suc t) m =
         ap (λ (g : Handler). receiver g i) (at-next h xs v t m) ∙ after-receiver (at h xs t) (input xs t) i (fits t) (below t)
-        ∙ ap (λ (r : Receiver). received (givenIn xs i t) r .receiver) (stood t (omega (arith, m)))
+        ∙ ap (λ (r : Receiver). closedIf (failsIn h xs i t) (received (givenIn h xs i t) r .receiver)) (stood t (omega (arith, m)))
 
     -- what it gives in tick t, from the receiver that stands there
-    gives : (t : ℕ) → t < length xs → received (givenIn xs i t) (receiver (at h xs t) i) ≡ receivedAt (receiver h i) (givenIn xs i) t
-    gives t m = ap (received (givenIn xs i t)) (stood t (omega (arith, m)))
+    gives : (t : ℕ) → t < length xs → received (givenIn h xs i t) (receiver (at h xs t) i) ≡ givesAlone h xs i t
+    gives t m = ap (received (givenIn h xs i t)) (stood t (omega (arith, m)))
 
-    acknowledge : (t : ℕ) → t < length xs → IsPair (outputAt h xs t .acknowledge) i (receivedAt (receiver h i) (givenIn xs i) t .acknowledge)
+    acknowledge : (t : ℕ) → t < length xs → IsPair (outputAt h xs t .acknowledge) i (givesAlone h xs i t .acknowledge)
     unfolding received
     acknowledge t m =
-        subst (λ (w : Wires). IsPair w i (receivedAt (receiver h i) (givenIn xs i) t .acknowledge)) (sym (acknowledge-is t m))
+        subst (λ (w : Wires). IsPair w i (givesAlone h xs i t .acknowledge)) (sym (acknowledge-is t m))
         (is-pair (acknowledgePairs (at h xs t)) i _ _ (acknowledge-at (at h xs t) i (omega (arith, l, small)))
         (ap (λ (b : Bool). b && acknowledges (receiver (at h xs t) i .stands)) (lt-ltb i (at h xs t .n) (below t))
         ∙ ap (λ (o : Received). o .acknowledge) (gives t m)))
 
     -- asking has changed the level in the receiver that the tick leaves
-    ping : (t : ℕ) → t < length xs → IsPair (outputAt h xs t .ping) i (receivedAt (receiver h i) (givenIn xs i) t .ping)
+    ping : (t : ℕ) → t < length xs → IsPair (outputAt h xs t .ping) i (givesAlone h xs i t .ping)
     unfolding received
     ping t m =
         let g : Handler = after (at h xs t) (input xs t) in
         let n : i < g .n = omega (arith, below t, after-n (at h xs t) (input xs t)) in
-        subst (λ (w : Wires). IsPair w i (receivedAt (receiver h i) (givenIn xs i) t .ping)) (sym (ping-is t m))
+        subst (λ (w : Wires). IsPair w i (givesAlone h xs i t .ping)) (sym (ping-is t m))
         (is-pair (pingPairs g) i _ _ (ping-at g i (omega (arith, l, small)))
         (ap₂ (λ (b : Bool) (r : Receiver). b && r .level) (lt-ltb i (g .n) n) (after-receiver (at h xs t) (input xs t) i (fits t) (below t))
         ∙ ap (λ (o : Received). o .ping) (gives t m)))
@@ -138,14 +138,14 @@ module _ (h : Handler) (xs : List Input) (v : valid h ≡ true) where
     above-event t =
         let g : Handler = acted (at h xs t) (input xs t .access) in
         heard-event g (input xs t .sample) (effects (at h xs t) (input xs t .access)) i b
-        ∙ ap (λ (c : Bool). c && receivedBy g (input xs t .sample .asks) (input xs t .sample .alerts) i .event) (over-acted t)
+        ∙ ap (λ (c : Bool). c && receivedBy g (asksFor g (input xs t .sample) (effects (at h xs t) (input xs t .access))) (input xs t .sample .alerts) i .event) (over-acted t)
 
     above-answer : (t : ℕ) → answerIn h xs i t ≡ false
     unfolding hears answered
     above-answer t =
         let g : Handler = acted (at h xs t) (input xs t .access) in
         heard-answer g (input xs t .sample) (effects (at h xs t) (input xs t .access)) i b
-        ∙ ap (λ (c : Bool). c && receivedBy g (input xs t .sample .asks) (input xs t .sample .alerts) i .answer) (over-acted t)
+        ∙ ap (λ (c : Bool). c && receivedBy g (asksFor g (input xs t .sample) (effects (at h xs t) (input xs t .access))) (input xs t .sample .alerts) i .answer) (over-acted t)
 
     pub above : Above h xs i
     above =

@@ -1,30 +1,35 @@
 -- The claim of specs/Handshake.antt: one receiver by itself, its ticks in the handler's own terms.
 -- Assumes nothing.
 use Prim.Native.Nat.{ℕ, suc, _+_, _≤_, _<_}
-use mathlib.Core.Path.{_≡_, sym, ap, ap₂, _∙_}
+use mathlib.Core.Path.{_≡_, refl, sym, ap, ap₂, _∙_}
 use mathlib.Core.Bool.{Bool, true, false, cond, not, _&&_, _||_}
 use mathlib.Core.List.{List}
 use native.Mathlib.Omega.{arith}
 use lib.ListN.{length}
 use Rattle.escalation.proofs.ListTicks.{at, input, at-next}
+use Rattle.laws.proofs.Samples.Receivers.{happens-in, answered-in, after-receiver}
 use Rattle.laws.proofs.Tick.Causes.{after-cause}
 use Rattle.link_rules.proofs.Handshakes.{handshakes}
+use Rattle.link_rules.proofs.ReceiverLaws.{received-taken}
 use Rattle.link_rules.proofs.Steps
-use Rattle.link_rules.specs.Handshake.{receiverAt, receivedAt, takenAt, pendingAt, Handshakes}
+use Rattle.link_rules.specs.Handshake.{receivedAt, takenAt, Handshakes}
 use Rattle.link_rules.specs.Handshake
+use Rattle.link_rules.specs.Receiver.{takes, askedFor, received}
 use Rattle.link_rules.specs.declared.Given.{Given}
 use Rattle.link_rules.specs.declared.Receiver.{Receiver}
 use Rattle.rules.specs.Access.{value, acted}
 use Rattle.rules.specs.Samples.{marked, alertEnabled}
-use Rattle.rules.specs.State.{receiver}
+use Rattle.rules.specs.State.{most, receiver}
 use Rattle.rules.specs.Valid.{valid}
 use Rattle.rules.specs.declared.Field.{Field}
 use Rattle.rules.specs.declared.Handler.{Handler}
 use Rattle.rules.specs.declared.Input.{Input}
 use Rattle.rules.specs.declared.Register.the-variants.{Alert}
-use Rattle.handshake.specs.Alone.{before, givenIn, eventIn, Alone}
+use Rattle.handshake.specs.Alone.{before, givenIn, failsIn, eventIn, answerIn, receiverAt, givesAlone, Alone}
 use Rattle.handshake.specs.Handshake.{risesIn, fallsIn, asksIn, takenIn, openBefore, openIn, acknowledgesIn, pingsIn, NoneTaken, OneAlert, Handshake}
 use Rattle.handshake.proofs.Alone.{small, at-n, alone, above}
+use Rattle.handshake.proofs.Closing.{same-stands, same-acknowledge, same-taken, stays, closed}
+use Rattle.handshake.proofs.Pinged.{fresh, is-pingable, was-open, none-taken}
 
 -- ── CAUSE ──
 
@@ -52,7 +57,7 @@ module _ (h : Handler) (xs : List Input) (v : valid h ≡ true) (i : ℕ) (l : i
   r = receiver h i
 
   abbrev given : ℕ → Given
-  given = givenIn xs i
+  given = givenIn h xs i
 
   it : Alone h xs i
   it = alone h xs v i l
@@ -60,25 +65,28 @@ module _ (h : Handler) (xs : List Input) (v : valid h ≡ true) (i : ℕ) (l : i
   claim : Handshakes r given
   claim = handshakes r given
 
+  few : (t : ℕ) → at h xs t .n ≤ most
+  few t = omega (arith, small h xs v, at-n h xs v t)
+
+  below : (t : ℕ) → i < at h xs t .n
+  below t = omega (arith, l, at-n h xs v t)
+
   -- what is said of it, in the handler's terms
   taken : (t : ℕ) → t < length xs → takenIn h xs i t ≡ takenAt r given t
-  taken t m = ap₂ _||_ (it .event t m) (it .answer t m)
-
-  was-open : (t : ℕ) → t ≤ length xs → openBefore h xs i t ≡ receiverAt r given t .pending
-  was-open t m = ap (λ (q : Receiver). q .pending) (it .stood t m)
-
-  is-open : (t : ℕ) → t < length xs → openIn h xs i t ≡ pendingAt r given t
-  is-open t m = ap (λ (b : Bool). asksIn xs i t || b) (was-open t (omega (arith, m)))
+  taken t m = ap₂ _||_ (it .event t m) (it .answer t m) ∙ same-taken r given (failsIn h xs i) t
 
   acknowledges : (t : ℕ) → t < length xs → acknowledgesIn h xs i t ≡ receivedAt r given t .acknowledge
-  acknowledges t m = it .acknowledge t m .0
+  acknowledges t m = it .acknowledge t m .0 ∙ same-acknowledge r given (failsIn h xs i) t
 
-  pings : (t : ℕ) → t < length xs → pingsIn h xs i t ≡ receivedAt r given t .ping
+  stands : (t : ℕ) → t ≤ length xs → receiver (at h xs t) i .stands ≡ Handshake.receiverAt r given t .stands
+  stands t m = ap (λ (y : Receiver). y .stands) (it .stood t m) ∙ same-stands r given (failsIn h xs i) t
+
+  pings : (t : ℕ) → t < length xs → pingsIn h xs i t ≡ givesAlone h xs i t .ping
   pings t m = it .ping t m .0
 
   -- none taken in ticks of the list, both ways
-  none-taken : (a b : ℕ) → b ≤ length xs → NoneTaken h xs i a b → Handshake.NoneTaken r given a b
-  none-taken a b m n t p q = sym (taken t (omega (arith, m, q))) ∙ n t p q
+  none-at : (a b : ℕ) → b ≤ length xs → NoneTaken h xs i a b → Handshake.NoneTaken r given a b
+  none-at a b m n t p q = sym (taken t (omega (arith, m, q))) ∙ n t p q
 
   none-there : (a b : ℕ) → b ≤ length xs → Handshake.NoneTaken r given a b → NoneTaken h xs i a b
   none-there a b m n t p q = taken t (omega (arith, m, q)) ∙ n t p q
@@ -90,16 +98,63 @@ module _ (h : Handler) (xs : List Input) (v : valid h ≡ true) (i : ℕ) (l : i
       (ap₂ _||_ (taken (suc (suc t)) (omega (arith, m))) (taken (suc (suc (suc t))) (omega (arith, m))))
       ∙ claim .soon t f (λ u p q n. g u p q (none-there (suc t) u (omega (arith, m, q)) n))
 
-  level : (t : ℕ) → suc t < length xs
-      → pingsIn h xs i (suc t) ≡ cond (asksIn xs i (suc t) && not (openBefore h xs i (suc t))) (not (pingsIn h xs i t)) (pingsIn h xs i t)
+  -- ── pings ──
+
+  abbrev levelAt : ℕ → Bool
+  levelAt u = receiverAt r given (failsIn h xs i) u .level
+
+  turned : (u : ℕ) → givesAlone h xs i u .ping ≡ cond (asksIn h xs i u && not (receiverAt r given (failsIn h xs i) u .pending)) (not (levelAt u)) (levelAt u)
+  unfolding received askedFor
+  turned u = refl
+
+  left : (u : ℕ) → givesAlone h xs i u .ping ≡ levelAt (suc u)
+  unfolding received askedFor receiverAt
+  left u = refl
+
+  level : (t : ℕ) → suc t < length xs → pingsIn h xs i (suc t) ≡ cond (asksIn h xs i (suc t)) (not (pingsIn h xs i t)) (pingsIn h xs i t)
   level t m =
-      pings (suc t) m ∙ Steps.level r given t
-      ∙ ap₂ (λ (o p : Bool). cond (asksIn xs i (suc t) && not o) (not p) p) (sym (was-open (suc t) (omega (arith, m)))) (sym (pings t (omega (arith, m))))
+      pings (suc t) m ∙ turned (suc t) ∙ ap (λ (b : Bool). cond b (not (levelAt (suc t))) (levelAt (suc t))) (asked-fresh (asksIn h xs i (suc t)) refl)
+      ∙ ap (λ (p : Bool). cond (asksIn h xs i (suc t)) (not p) p) (sym (pings t (omega (arith, m)) ∙ left t))
+    where
+      -- the timer asks where none is open
+      asked-fresh : (b : Bool) → asksIn h xs i (suc t) ≡ b → (b && not (receiverAt r given (failsIn h xs i) (suc t) .pending)) ≡ b
+      asked-fresh true e =
+          ap not (sym (ap (λ (q : Receiver). q .pending) (it .stood (suc t) (omega (arith, m)))) ∙ fresh (at h xs (suc t)) (input xs (suc t)) i (few (suc t)) (below (suc t)) e)
+      asked-fresh false e = refl
+
+  -- its ping after the tick
+  next : (t : ℕ) → t < length xs → openBefore h xs i (suc t) ≡ ((openIn h xs i t && not (takenIn h xs i t)) && not (failsIn h xs i t))
+  unfolding received askedFor
+  next t m =
+      ap (λ (g : Handler). receiver g i .pending) (at-next h xs v t m)
+      ∙ ap (λ (q : Receiver). q .pending) (after-receiver (at h xs t) (input xs t) i (few t) (below t))
+      ∙ ap (λ (b : Bool). (openIn h xs i t && not b) && not (failsIn h xs i t))
+      (sym (received-taken (given t) (receiver (at h xs t) i))
+      ∙ sym (ap₂ _||_ (happens-in (at h xs t) (input xs t) i (few t) (below t)) (answered-in (at h xs t) (input xs t) i (few t) (below t))))
+
+  -- which of the two a rise is that is taken
+  module _ (t : ℕ) (m : t < length xs) (e : takenIn h xs i t ≡ true) where
+    event-is : eventIn h xs i t ≡ received (given t) (receiver (at h xs t) i) .event
+    event-is = happens-in (at h xs t) (input xs t) i (few t) (below t)
+
+    answer-is : answerIn h xs i t ≡ received (given t) (receiver (at h xs t) i) .answer
+    answer-is = answered-in (at h xs t) (input xs t) i (few t) (below t)
+
+    takes-it : takes (receiver (at h xs t) i .stands) (given t .pos) (given t .neg) ≡ true
+    takes-it = sym (received-taken (given t) (receiver (at h xs t) i)) ∙ sym (ap₂ _||_ event-is answer-is) ∙ e
+
+    by-ping : openIn h xs i t ≡ true → (answerIn h xs i t ≡ true) × (eventIn h xs i t ≡ false)
+    unfolding received askedFor
+    by-ping f = (answer-is ∙ ap₂ _&&_ takes-it f, event-is ∙ ap₂ (λ (a b : Bool). a && not b) takes-it f)
+
+    by-event : openIn h xs i t ≡ false → (eventIn h xs i t ≡ true) × (answerIn h xs i t ≡ false)
+    unfolding received askedFor
+    by-event f = (event-is ∙ ap₂ (λ (a b : Bool). a && not b) takes-it f, answer-is ∙ ap₂ _&&_ takes-it f)
 
   pub one-alert : OneAlert h xs i
   one-alert =
       record {
-        pairs = λ t m. (it .acknowledge t m .1 ∙ ap not (sym (acknowledges t m)), it .ping t m .1 ∙ ap not (sym (pings t m)));
+        pairs = λ t m. (it .acknowledge t m .1 ∙ ap not (sym (it .acknowledge t m .0)), it .ping t m .1 ∙ ap not (sym (pings t m)));
         rise = λ t m e. Steps.rise r given t (sym (taken t m) ∙ e);
         acknowledged = λ t m e. acknowledges (suc t) m ∙ claim .acknowledged t (sym (taken t (omega (arith, m))) ∙ e);
         held = λ t m e f. acknowledges (suc t) m ∙ Steps.held r given t (sym (acknowledges t (omega (arith, m))) ∙ e) f;
@@ -110,16 +165,22 @@ module _ (h : Handler) (xs : List Input) (v : valid h ≡ true) (i : ℕ) (l : i
         soon = soon;
         holds = λ t m e.
             let c = claim .holds t e in
-            (taken t m ∙ c .0, ap (λ (y : Receiver). y .stands) (it .stood (suc t) m) ∙ c .1 ∙ sym (ap (λ (y : Receiver). y .stands) (it .stood t (omega (arith, m)))));
+            (taken t m ∙ c .0, stands (suc t) m ∙ c .1 ∙ sym (stands t (omega (arith, m))));
         level = level;
-        answer = λ t m e f. let c = claim .answer t (sym (taken t m) ∙ e) (sym (is-open t m) ∙ f) in (it .answer t m ∙ c .0, it .event t m ∙ c .1);
-        event = λ t m e f. let c = claim .event t (sym (taken t m) ∙ e) (sym (is-open t m) ∙ f) in (it .event t m ∙ c .0, it .answer t m ∙ c .1);
-        stays = λ t u m e b n. is-open u m ∙ claim .stays t u (sym (is-open t (omega (arith, m, b))) ∙ e) b (none-taken t u (omega (arith, m)) n);
-        closed = λ t u m e b n. is-open u m ∙ claim .closed t u (sym (taken t (omega (arith, m, b))) ∙ e) b n;
+        opened = λ t m e. fresh (at h xs t) (input xs t) i (few t) (below t) e;
+        pingable = λ t m e. is-pingable (at h xs t) (input xs t) i (few t) (below t) e;
+        answer = by-ping;
+        event = by-event;
+        failed = λ t m e. (
+          was-open (at h xs t) (input xs t) i (few t) (below t) e,
+          none-taken (at h xs t) (input xs t) i (few t) (below t) e,
+        );
+        stays = stays (length xs) (asksIn h xs i) (openBefore h xs i) (takenIn h xs i) (failsIn h xs i) next;
+        closed = closed (length xs) (asksIn h xs i) (openBefore h xs i) (takenIn h xs i) (failsIn h xs i) next;
         cause = cause;
         no-cause = no-cause;
       }
 
--- request (viii), of every list of ticks from every accepted state
+-- requests (viii) and (ix), of every list of ticks from every accepted state
 pub handshake : (h : Handler) (xs : List Input) → valid h ≡ true → Handshake h xs
 handshake h xs v = record { alone = alone h xs v; above = above h xs v; alerts = one-alert h xs v }

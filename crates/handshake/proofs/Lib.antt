@@ -1,4 +1,16 @@
+pub mod Closing
+pub mod Pinged
+pub mod TurnSteps
+pub mod Turning
+pub mod TurnEnds
 pub mod Alone
 pub mod Handshake
 pub mod WholeHandshake
 pub mod HandshakeExamples
+pub mod TimerTicks
+pub mod PingFails
+pub mod TurnTimes
+pub mod OpenLines
+pub mod Pings
+pub mod WholePings
+pub mod PingExamples

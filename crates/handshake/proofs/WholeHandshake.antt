@@ -1,4 +1,4 @@
--- Request (viii) once more, taken from the claim over every state, list, alert and tick, in raw bits and numbers: alert i has bit 63 - i % 64 of word i / 64.
+-- Requests (viii) and (ix) once more, taken from the claim over every state, list, alert and tick, in raw bits and numbers: alert i has bit 63 - i % 64 of word i / 64.
 -- A claim that says less, or asks for more, does not give it.
 -- Assumes nothing.
 use Prim.Native.Nat.{ℕ, suc, _+_, _-_, _/_, _%_, _^_, _≤_, _<_}
@@ -13,8 +13,8 @@ use Rattle.bits.proofs.IndexLaws.{and-true}
 use Rattle.bits.specs.Bits.{bit}
 use Rattle.escalation.specs.List.{noTick}
 use Rattle.laws.proofs.Samples.Heard.{stands-bits, receiver-bits}
+use Rattle.laws.specs.Pinging.{asksIn, failsIn}
 use Rattle.link_rules.specs.Codes.{handshakeOf}
-use Rattle.link_rules.specs.Handshake.{receiverAt}
 use Rattle.link_rules.specs.Receiver.{received}
 use Rattle.link_rules.specs.declared.Given.{Given}
 use Rattle.link_rules.specs.declared.Handshake.the-variants.{Ready}
@@ -29,7 +29,7 @@ use Rattle.rules.specs.declared.Access.{Access}
 use Rattle.rules.specs.declared.Handler.{Handler}
 use Rattle.rules.specs.declared.Input.{Input}
 use Rattle.rules.specs.declared.Output.{Output}
-use Rattle.handshake.specs.Alone.{Alone, Above}
+use Rattle.handshake.specs.Alone.{receiverAt, Alone, Above}
 use Rattle.handshake.specs.Handshake.{OneAlert}
 use Rattle.handshake.proofs.Alone.{new}
 use Rattle.handshake.proofs.Handshake.{handshake}
@@ -63,12 +63,6 @@ second-off : (a b : Bool) → (a || b) ≡ false → b ≡ false
 second-off true b e = absurd (true≢false e)
 second-off false b e = e
 
-not-both : (a o : Bool) → (a ≡ false) ⊎ (o ≡ true) → (a && not o) ≡ false
-not-both true true w = refl
-not-both true false (inl e) = e
-not-both true false (inr e) = sym e
-not-both false o w = refl
-
 same-wires : (p m : Bool) → p ≡ m → ((p && m) || (not p && not m)) ≡ true
 same-wires true true e = refl
 same-wires true false e = absurd (true≢false e)
@@ -84,7 +78,7 @@ module _ (h : Handler) (xs : List Input) (v : valid h ≡ true) where
   rest =
       record {
         access = Access.Nothing;
-        sample = record { alerts = record { pos = replicate 4 0; neg = replicate 4 (2 ^ 64 - 1) }; asks = replicate 4 0 };
+        sample = record { alerts = record { pos = replicate 4 0; neg = replicate 4 (2 ^ 64 - 1) }; word = 0; answers = 0 };
       }
 
   abbrev input : ℕ → Input
@@ -93,7 +87,7 @@ module _ (h : Handler) (xs : List Input) (v : valid h ≡ true) where
   abbrev out : ℕ → Output
   out t = getD (ticks h xs) t noTick .output
 
-  -- of alert i: event, answer and rise taken; wires and asking; the ping open before the tick; acknowledge and ping pair
+  -- of alert i: event, answer and rise taken; wires; its ping opens, and fails; the ping open before the tick; acknowledge and ping pair
   abbrev event : ℕ → ℕ → Bool
   event i t = on (hears (state t) (input t) .events) i
 
@@ -109,8 +103,12 @@ module _ (h : Handler) (xs : List Input) (v : valid h ≡ true) where
   abbrev low : ℕ → ℕ → Type 0
   low i t = (on (input t .sample .alerts .pos) i ≡ false) × (on (input t .sample .alerts .neg) i ≡ true)
 
+  -- by the timer, of which the sentences speak by themselves
   abbrev ask : ℕ → ℕ → Bool
-  ask i t = on (input t .sample .asks) i
+  ask i t = asksIn (state t) (input t) i
+
+  abbrev fail : ℕ → ℕ → Bool
+  fail i t = failsIn (state t) (input t) i
 
   abbrev pending : ℕ → ℕ → Bool
   pending i t = on (state t .links .receivers .pending) i
@@ -131,8 +129,19 @@ module _ (h : Handler) (xs : List Input) (v : valid h ≡ true) where
     abbrev given : ℕ → Given
     given t = record { asks = ask i t; pos = on (input t .sample .alerts .pos) i; neg = on (input t .sample .alerts .neg) i }
 
+    -- one receiver, tick by tick: a ping that fails closes
+    abbrev closes-by : ℕ → Receiver → Receiver
+    closes-by t r = record { stands = r .stands; level = r .level; pending = r .pending && not (fail i t) }
+
+    abbrev byItself : ℕ → Receiver
+    byItself t = receiverAt (standing h i) given (fail i) t
+
+    step-by-step : (byItself 0 ≡ standing h i) × ((t : ℕ) → byItself (suc t) ≡ closes-by t (received (given t) (byItself t) .receiver))
+    unfolding receiverAt
+    step-by-step = (refl, λ t. refl)
+
     abbrev gives : ℕ → Received
-    gives t = received (given t) (receiverAt (standing h i) given t)
+    gives t = received (given t) (byItself t)
 
     it : Alone h xs i
     it = handshake h xs v .alone i l
@@ -141,7 +150,7 @@ module _ (h : Handler) (xs : List Input) (v : valid h ≡ true) where
     says = handshake h xs v .alerts i l
 
     -- its receiver, its pairs, its event and its answer are those of one receiver by itself
-    by-itself : (t : ℕ) → t ≤ length xs → standing (state t) i ≡ receiverAt (standing h i) given t
+    by-itself : (t : ℕ) → t ≤ length xs → standing (state t) i ≡ byItself t
     by-itself = it .stood
 
     shows : (t : ℕ) → t < length xs → Pair i t (gives t .acknowledge) (gives t .ping) × (event i t ≡ gives t .event) × (answer i t ≡ gives t .answer)
@@ -186,11 +195,19 @@ module _ (h : Handler) (xs : List Input) (v : valid h ≡ true) where
 
     -- ── pings ──
 
-    level-turns : (t : ℕ) → suc t < length xs → ask i (suc t) ≡ true → pending i (suc t) ≡ false → ping i (suc t) ≡ not (ping i t)
-    level-turns t m a o = says .level t m ∙ rw (a, o)
+    level-turns : (t : ℕ) → suc t < length xs → ask i (suc t) ≡ true → ping i (suc t) ≡ not (ping i t)
+    level-turns t m a = says .level t m ∙ rw a
 
-    level-stays : (t : ℕ) → suc t < length xs → (ask i (suc t) ≡ false) ⊎ (pending i (suc t) ≡ true) → ping i (suc t) ≡ ping i t
-    level-stays t m w = says .level t m ∙ rw (not-both (ask i (suc t)) (pending i (suc t)) w)
+    level-stays : (t : ℕ) → suc t < length xs → ask i (suc t) ≡ false → ping i (suc t) ≡ ping i t
+    level-stays t m a = says .level t m ∙ rw a
+
+    opens-anew : (t : ℕ) → t < length xs → ask i t ≡ true → pending i t ≡ false
+    opens-anew = says .opened
+
+    locked-and-enabled : (t : ℕ) → t < length xs → ask i t ≡ true
+        → (getD (acted (state t) (input t .access) .alerts .regwen) i 0 ≡ 0) × (getD (acted (state t) (input t .access) .alerts .en) i 0 ≡ 1)
+    unfolding value
+    locked-and-enabled = says .pingable
 
     answers : (t : ℕ) → t < length xs → taken i t ≡ true → (ask i t ≡ true) ⊎ (pending i t ≡ true) → (answer i t ≡ true) × (event i t ≡ false)
     answers t m e w = says .answer t m e (either-one (ask i t) (pending i t) w)
@@ -198,12 +215,16 @@ module _ (h : Handler) (xs : List Input) (v : valid h ≡ true) where
     events : (t : ℕ) → t < length xs → taken i t ≡ true → ask i t ≡ false → pending i t ≡ false → (event i t ≡ true) × (answer i t ≡ false)
     events t m e a o = says .event t m e (ap₂ _||_ a o)
 
+    fails-open : (t : ℕ) → t < length xs → fail i t ≡ true → ((ask i t || pending i t) ≡ true) × (taken i t ≡ false)
+    fails-open = says .failed
+
     stays-open : (t u : ℕ) → u < length xs → (ask i t ≡ true) ⊎ (pending i t ≡ true) → t ≤ u → ((w : ℕ) → t ≤ w → w < u → taken i w ≡ false)
-        → (ask i u || pending i u) ≡ true
+        → ((w : ℕ) → t ≤ w → w < u → fail i w ≡ false) → (ask i u || pending i u) ≡ true
     stays-open t u m w = says .stays t u m (either-one (ask i t) (pending i t) w)
 
-    closes : (t u : ℕ) → u < length xs → taken i t ≡ true → t < u → ((w : ℕ) → suc t ≤ w → w < suc u → ask i w ≡ false) → pending i u ≡ false
-    closes t u m e b n = second-off (ask i u) (pending i u) (says .closed t u m e b n)
+    closes : (t u : ℕ) → u < length xs → (taken i t ≡ true) ⊎ (fail i t ≡ true) → t < u → ((w : ℕ) → suc t ≤ w → w < suc u → ask i w ≡ false)
+        → pending i u ≡ false
+    closes t u m e b n = second-off (ask i u) (pending i u) (says .closed t u m (either-one (taken i t) (fail i t) e) b n)
 
     -- ── equal wires ──
 

@@ -1,4 +1,4 @@
-// One access a tick with all wires at (0,1) and no ping asked for, and a register written and read back.
+// One access a tick with all wires at (0,1), word 0 and no answer, and a register written and read back.
 use handler::tick::tick;
 use policy::Installed;
 use policy::Progress;
@@ -27,7 +27,8 @@ fn rest(x: Access) -> Input
                     0xFFFF_FFFF_FFFF_FFFF,
                 ],
             },
-            asks: [0, 0, 0, 0],
+            word: 0,
+            answers: 0,
         },
     }
 }

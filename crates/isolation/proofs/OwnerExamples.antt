@@ -8,7 +8,7 @@ use mathlib.Core.List.{List, [], _∷_, _++_, map}
 use native.Mathlib.Omega.{arith}
 use lib.ListN.{getD, length, set, replicate, getD-replicate}
 use Rattle.bits.specs.Bits.{bit}
-use Rattle.bits.specs.Index.{anyTo, placeIn}
+use Rattle.bits.specs.Index.{anyTo}
 use Rattle.bits.proofs.IndexLaws.{none-at}
 use Rattle.class_rules.specs.Class.{drives}
 use Rattle.escalation.proofs.ListTicks
@@ -19,8 +19,8 @@ use Rattle.rules.specs.Access.{value, acted}
 use Rattle.rules.specs.Map.{numberOf}
 use Rattle.rules.specs.Run.{ticks}
 use Rattle.rules.specs.Samples.{positive, negative}
-use Rattle.rules.specs.Scenes.{ones, asking, wired, wire, rest, raise, bothHigh, none, write, configure}
-use Rattle.rules.specs.State.{alert, classAt, resetClass, withClasses, withLocals}
+use Rattle.rules.specs.Scenes.{ones, timing, wired, wire, rest, raise, bothHigh, none, write, configure}
+use Rattle.rules.specs.State.{alert, classAt, isOn, resetClass, withAlerts, withClasses, withLinks, withLocals, withTimer}
 use Rattle.rules.specs.declared.Access.{Access}
 use Rattle.rules.specs.declared.Field.{Field}
 use Rattle.rules.specs.declared.Handler.{Handler}
@@ -29,7 +29,7 @@ use Rattle.rules.specs.declared.Register.{Register}
 use Rattle.rules.specs.declared.Register.the-variants.{Only, Local, Alert, Block}
 use Rattle.rules.specs.declared.Setting.{Setting}
 use Rattle.rules.specs.declared.Setting.the-variants.{Ctrl, Clr, AccumThresh, EscCnt}
-use Rattle.rules.specs.declared.Single.the-variants.{IntrState, IntrEnable, IntrTest}
+use Rattle.rules.specs.declared.Single.the-variants.{IntrState, IntrEnable, IntrTest, PingRegwen}
 use Rattle.rules.specs.declared.Ticked.{Ticked}
 use Rattle.isolation.specs.Owner.{byTenant, reaches, alertReaches, Apart, ButTenant, OnlyTenant, startsIn, Undisturbed}
 use Rattle.isolation.proofs.Traces.{along, along-at}
@@ -56,27 +56,27 @@ home = house 1 0
 abbrev read : Register → Access
 read q = Access.Read (numberOf q)
 
--- a tenant who looks around: alert 0 starts class A in tick 1, the owner stages a threshold in tick 2 and clears his interrupt in tick 6
+-- a tenant who looks around and locks the ping timer, which is off: alert 0 starts class A in tick 1, the owner stages a threshold in tick 2 and clears his interrupt in tick 6
 abbrev quiet : List Input
 quiet =
     rest (Access.Read 3)
     ∷ raise 0 none
     ∷ rest (write (Block AccumThresh 0) 3)
-    ∷ rest (read (Block Ctrl 1))
+    ∷ rest (write (Only PingRegwen) 0)
     ∷ rest (write (Local Field.En 0) 0)
     ∷ rest Access.Malformed
     ∷ rest (write (Only IntrState) 1)
     ∷ rest (write (Only IntrTest) 2)
     ∷ []
 
--- a busy one: his alert starts class B and has equal wires, and a ping of it is asked for; he writes his block, differs in the second write, stages another
+-- a busy one: his alert starts class B and has equal wires, an entropy word comes and answers of lines; he writes his block, differs in the second write, stages another
 -- class for his alert, clears his class, enables his interrupt and clears it, with a 1 for class A's bit too, which is 0 by then
 abbrev busy : List Input
 busy =
     raise 1 (write (Block Ctrl 1) 0x3FFD)
     ∷ wired (wire 0 + wire 1) (ones - wire 0) (write (Alert Field.Class 1) 3)
     ∷ bothHigh 1 (write (Block AccumThresh 0) 3)
-    ∷ asking (wire 1) 0 ones (write (Block Ctrl 1) 0x3FFF)
+    ∷ timing 0x10005 15 0 ones (write (Block Ctrl 1) 0x3FFF)
     ∷ rest (write (Block Clr 1) 1)
     ∷ rest (write (Only IntrEnable) 2)
     ∷ rest (write (Only IntrState) 1)
@@ -91,6 +91,7 @@ record Seen : Type 0 where
   pub assigned : Bool
   pub two : Bool
   pub five : Bool
+  pub on : Bool
 
 abbrev seen : ℕ → (ℕ → Bool) → Handler → Input → Seen
 seen k his g x =
@@ -99,19 +100,23 @@ seen k his g x =
       assigned = anyTo (λ i. his i && alertReaches k (acted g (x .access)) i) (g .n);
       two = reaches k (acted g (x .access)) 2;
       five = reaches k (acted g (x .access)) 5;
+      on = isOn g;
     }
 
 -- the conditions hold; the access is, or is not, one that the tenant may do
 abbrev fine : Bool → Seen
-fine b = record { tenant = b; assigned = false; two = false; five = false }
+fine b = record { tenant = b; assigned = false; two = false; five = false; on = false }
 
 -- of one tick
 module _ (k : ℕ) (his : ℕ → Bool) (g : Handler) (x : Input) (b : Bool) (s : seen k his g x ≡ fine b) where
   is-tenant : byTenant k his g (x .access) ≡ b
   is-tenant = ap (λ (o : Seen). o .tenant) s
 
+  is-off : isOn g ≡ false
+  is-off = ap (λ (o : Seen). o .on) s
+
   apart : Apart k his g x
-  apart = record { alerts = one; local-2 = ap (λ (o : Seen). o .two) s; local-5 = ap (λ (o : Seen). o .five) s }
+  apart = record { alerts = one; local-2 = ap (λ (o : Seen). o .two) s; local-5 = ap (λ (o : Seen). o .five) s; failing = inl is-off }
     where
       one : (i : ℕ) → i < g .n → his i ≡ true → alertReaches k (acted g (x .access)) i ≡ false
       one i l e =
@@ -142,17 +147,19 @@ module _ (i : ℕ) (l : i < 8) (b : Bool) (e : getD course i (fine true) ≡ fin
   busy-at : seen 0 his (ListTicks.at home busy i) (input busy i) ≡ fine b
   busy-at = seen-at 0 his busy course busy-seen i l ∙ e
 
-  -- two ticks in which alert 0's wires and asking are the same
+  -- two ticks in which alert 0's wires are the same
   but : (input quiet i .access ≡ input busy i .access) ⊎ (b ≡ true) → positive (input quiet i .sample .alerts) 0 ≡ positive (input busy i .sample .alerts) 0
       → negative (input quiet i .sample .alerts) 0 ≡ negative (input busy i .sample .alerts) 0
-      → placeIn (input quiet i .sample .asks) 0 ≡ placeIn (input busy i .sample .asks) 0
       → ButTenant 0 his (ListTicks.at home quiet i) (input quiet i) (ListTicks.at home busy i) (input busy i)
-  but a p q r =
+  but a p q =
       record {
         access = way a;
         pos = pos;
         neg = neg;
-        asks = asks;
+        pings = inl (
+          is-off 0 his (ListTicks.at home quiet i) (input quiet i) b quiet-at,
+          is-off 0 his (ListTicks.at home busy i) (input busy i) b busy-at,
+        );
         apart = (apart 0 his (ListTicks.at home quiet i) (input quiet i) b quiet-at, apart 0 his (ListTicks.at home busy i) (input busy i) b busy-at);
       }
     where
@@ -173,20 +180,16 @@ module _ (i : ℕ) (l : i < 8) (b : Bool) (e : getD course i (fine true) ≡ fin
       neg zero l e = q
       neg (suc j) l e = absurd (true≢false e)
 
-      asks : (j : ℕ) → j < ListTicks.at home quiet i .n → his j ≡ false → placeIn (input quiet i .sample .asks) j ≡ placeIn (input busy i .sample .asks) j
-      asks zero l e = r
-      asks (suc j) l e = absurd (true≢false e)
-
 only-tenant : OnlyTenant 0 his 0 home quiet busy
 unfolding rules
-only-tenant zero m = but 0 (omega arith) true refl (inr refl) refl refl refl
-only-tenant (suc zero) m = but 1 (omega arith) true refl (inr refl) refl refl refl
-only-tenant (suc (suc zero)) m = but 2 (omega arith) false refl (inl refl) refl refl refl
-only-tenant (suc (suc (suc zero))) m = but 3 (omega arith) true refl (inr refl) refl refl refl
-only-tenant (suc (suc (suc (suc zero)))) m = but 4 (omega arith) true refl (inr refl) refl refl refl
-only-tenant (suc (suc (suc (suc (suc zero))))) m = but 5 (omega arith) true refl (inr refl) refl refl refl
-only-tenant (suc (suc (suc (suc (suc (suc zero)))))) m = but 6 (omega arith) false refl (inl refl) refl refl refl
-only-tenant (suc (suc (suc (suc (suc (suc (suc zero))))))) m = but 7 (omega arith) true refl (inr refl) refl refl refl
+only-tenant zero m = but 0 (omega arith) true refl (inr refl) refl refl
+only-tenant (suc zero) m = but 1 (omega arith) true refl (inr refl) refl refl
+only-tenant (suc (suc zero)) m = but 2 (omega arith) false refl (inl refl) refl refl
+only-tenant (suc (suc (suc zero))) m = but 3 (omega arith) true refl (inr refl) refl refl
+only-tenant (suc (suc (suc (suc zero)))) m = but 4 (omega arith) true refl (inr refl) refl refl
+only-tenant (suc (suc (suc (suc (suc zero))))) m = but 5 (omega arith) true refl (inr refl) refl refl
+only-tenant (suc (suc (suc (suc (suc (suc zero)))))) m = but 6 (omega arith) false refl (inl refl) refl refl
+only-tenant (suc (suc (suc (suc (suc (suc (suc zero))))))) m = but 7 (omega arith) true refl (inr refl) refl refl
 only-tenant (suc (suc (suc (suc (suc (suc (suc (suc i)))))))) m = absurd (omega (arith, m .to))
 
 -- ── so class A starts in the same tick and takes as long ──
@@ -231,7 +234,7 @@ only-tenant-3 t m =
       access = inr (is-tenant 3 all (ListTicks.at home quiet i) (input quiet i) true q, is-tenant 3 all (ListTicks.at home busy i) (input busy i) true b);
       pos = λ j n e. absurd (true≢false e);
       neg = λ j n e. absurd (true≢false e);
-      asks = λ j n e. absurd (true≢false e);
+      pings = inr (λ j n e. absurd (true≢false e));
       apart = (apart 3 all (ListTicks.at home quiet i) (input quiet i) true q, apart 3 all (ListTicks.at home busy i) (input busy i) true b);
     }
 
@@ -271,10 +274,27 @@ alerts-needed : (states 0 assigned (rest none ∷ []) ≡ 0 ∷ []) × (states 0
 unfolding rules
 alerts-needed = (refl, refl)
 
--- a ping asked for of the owner's alert: his event is an answer and does not start it
-asks-needed : (states 0 home (raise 0 none ∷ []) ≡ 4 ∷ []) × (states 0 home (asking (wire 0) (wire 0) (ones - wire 0) none ∷ []) ≡ 0 ∷ [])
+-- request (ix): the ping timer is on at this timeout, both alerts are locked and enabled, and it is the turn of the tenant's, whose ping is due
+abbrev pinged : ℕ → Handler
+pinged timeout =
+    withTimer (record { timeout = timeout; regwen = 1; enable = 1 })
+    (withLinks (record { receivers = home .links .receivers; turn = record { number = 0; alert = 1; count = 0 }; lines = 0 })
+    (withAlerts (record { regwen = replicate 248 0; en = home .alerts .en; class = home .alerts .class; cause = home .alerts .cause }) home))
+
+-- line 0's answer in tick 1 and a rise of the owner's alert in tick 2, after this tick of the tenant's
+abbrev shared : Input → List Input
+shared x = x ∷ timing 0 1 0 ones none ∷ raise 0 none ∷ []
+
+-- the timer is shared: the tenant's answer in tick 0 ends his turn and line 0's answer the next, so that the owner's alert is pinged in tick 2, where its
+-- rise is then an answer and does not start class A; without his answer it starts it
+pings-needed : (states 0 (pinged 0) (shared (rest none)) ≡ 0 ∷ 0 ∷ 4 ∷ []) × (states 0 (pinged 0) (shared (raise 1 none)) ≡ 0 ∷ 0 ∷ 0 ∷ [])
 unfolding rules
-asks-needed = (refl, refl)
+pings-needed = (refl, refl)
+
+-- local 0 in class A: the tenant's ping that fails starts it
+failing-needed : (states 0 (pinged 1) (raise 1 none ∷ rest none ∷ []) ≡ 0 ∷ 0 ∷ []) × (states 0 (pinged 1) (rest none ∷ rest none ∷ []) ≡ 0 ∷ 4 ∷ [])
+unfolding rules
+failing-needed = (refl, refl)
 
 -- class A's interrupt bit set by him: a timeout starts
 abbrev timed : Handler

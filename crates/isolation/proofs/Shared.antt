@@ -27,14 +27,19 @@ use Rattle.rules.specs.declared.Field.{Field}
 use Rattle.rules.specs.declared.Handler.{Handler}
 use Rattle.rules.specs.declared.Register.{Register}
 use Rattle.rules.specs.declared.Register.the-variants.{Only, Local, Alert, Block, Unassigned}
-use Rattle.rules.specs.declared.Single.the-variants.{IntrState, IntrEnable}
+use Rattle.rules.specs.declared.Single.the-variants.{IntrState, IntrEnable, IntrTest, PingRegwen, PingTimeout, PingEnable}
 use Rattle.rules.specs.declared.Verdict.{Verdict}
 
 -- ── what the owner's class depends on beside its block ──
 
--- the interrupt registers and the alerts that are not the tenant's
+-- the interrupt registers and the alerts that are not the tenant's; not the ping timer's registers
 abbrev pub mine : (ℕ → Bool) → Register → Bool
-mine his (Only o) = true
+mine his (Only IntrState) = true
+mine his (Only IntrEnable) = true
+mine his (Only IntrTest) = true
+mine his (Only PingRegwen) = false
+mine his (Only PingTimeout) = false
+mine his (Only PingEnable) = false
 mine his (Local f j) = false
 mine his (Alert f i) = not (his i)
 mine his (Block s j) = false
@@ -61,14 +66,17 @@ module _ (k : ℕ) (his : ℕ → Bool) (g f : Handler) (s : Shared k his g f) w
     same-stage : stage g q ≡ stage f q
     unfolding stageIn
     same-stage =
-        by-kind (λ q. inMap (g .n) q ≡ true → mine his q ≡ true → stage g q ≡ stage f q) (λ o a e. refl) (λ d j a. never)
+        by-kind (λ q. inMap (g .n) q ≡ true → mine his q ≡ true → stage g q ≡ stage f q)
+        (by-single (λ o. inMap (g .n) (Only o) ≡ true → mine his (Only o) ≡ true → stage g (Only o) ≡ stage f (Only o)) (λ a e. refl) (λ a e. refl) (λ a e. refl)
+        (λ a. never) (λ a. never) (λ a. never)) (λ d j a. never)
         (λ d i a e. s .stages d i (not-true (his i) e) (ltb-true i (g .n) a)) (λ t j a. never) (λ a. never) q a e
 
     same-locked : locked g q ≡ locked f q
     unfolding locked guard value
     same-locked =
         by-kind (λ q. inMap (g .n) q ≡ true → mine his q ≡ true → locked g q ≡ locked f q)
-        (λ o a e. by-single (λ o. locked g (Only o) ≡ locked f (Only o)) refl refl refl o) (λ d j a. never)
+        (by-single (λ o. inMap (g .n) (Only o) ≡ true → mine his (Only o) ≡ true → locked g (Only o) ≡ locked f (Only o)) (λ a e. refl) (λ a e. refl)
+        (λ a e. refl) (λ a. never) (λ a. never) (λ a. never)) (λ d j a. never)
         (λ d i a e. by-field (λ d. locked g (Alert d i) ≡ locked f (Alert d i)) (same i a e) (same i a e) (same i a e) refl d) (λ t j a. never) (λ a. never) q a e
       where
         same : (i : ℕ) → inMap (g .n) (Alert Field.Regwen i) ≡ true → not (his i) ≡ true → eqb (alert g Field.Regwen i) 0 ≡ eqb (alert f Field.Regwen i) 0
@@ -106,7 +114,7 @@ module _ (k : ℕ) (his : ℕ → Bool) (g f : Handler) (s : Shared k his g f) w
   -- it changes such a register in both or in none
   module _ (r v : ℕ) (p : Register) (a : inMap (g .n) p ≡ true) (e : mine his p ≡ true) where
     mine-target : (q : Register) → mine his (target q) ≡ mine his q
-    mine-target = by-kind (λ q. mine his (target q) ≡ mine his q) (λ o. refl) (λ d j. refl) (λ d i. refl) (λ t j. refl) refl
+    mine-target = by-kind (λ q. mine his (target q) ≡ mine his q) (by-single (λ o. mine his (target (Only o)) ≡ mine his (Only o)) refl refl refl refl refl refl) (λ d j. refl) (λ d i. refl) (λ t j. refl) refl
 
     same-commits : commits g (Write r v) p ≡ commits f (Write r v) p
     same-commits = go (commits g (Write r v) p) (commits f (Write r v) p) refl refl
@@ -161,8 +169,9 @@ module _ (k : ℕ) (his : ℕ → Bool) (g f : Handler) (s : Shared k his g f) w
   unfolding numberOf
   new-bit l q v =
       by-kind (λ q. target q ≡ Only IntrState → bit (newValue q (g .interrupts .state) v) k ≡ bit (newValue q (f .interrupts .state) v) k)
-      (λ o e. by-single (λ o. bit (singleStored o (g .interrupts .state) v) k ≡ bit (singleStored o (f .interrupts .state) v) k)
-      (at (λ b c. b && not c)) refl (at (λ b c. b || c)) o) (λ d j e. absurd (omega (arith, ap numberOf e)))
+      (by-single (λ o. Only (singleTarget o) ≡ Only IntrState → bit (singleStored o (g .interrupts .state) v) k ≡ bit (singleStored o (f .interrupts .state) v) k)
+      (λ e. at (λ b c. b && not c)) (λ e. absurd (omega (arith, ap numberOf e))) (λ e. at (λ b c. b || c)) (λ e. absurd (omega (arith, ap numberOf e)))
+      (λ e. absurd (omega (arith, ap numberOf e))) (λ e. absurd (omega (arith, ap numberOf e)))) (λ d j e. absurd (omega (arith, ap numberOf e)))
       (λ d i e. absurd (omega (arith, ap numberOf e))) (λ t j e. absurd (omega (arith, ap numberOf e))) (λ e. s .bit-k) q
     where
       at : (o : Bool → Bool → Bool) → bit (bitsOf 4 (λ j. o (bit (g .interrupts .state) j) (bit v j))) k ≡ bit (bitsOf 4 (λ j. o (bit (f .interrupts .state) j) (bit v j))) k
@@ -174,7 +183,8 @@ module _ (k : ℕ) (his : ℕ → Bool) (g f : Handler) (s : Shared k his g f) w
   new-enable q v =
       by-kind (λ q. target q ≡ Only IntrEnable → bit (newValue q (g .interrupts .enable) v) k ≡ bit (newValue q (f .interrupts .enable) v) k)
       (by-single (λ o. Only (singleTarget o) ≡ Only IntrEnable → bit (singleStored o (g .interrupts .enable) v) k ≡ bit (singleStored o (f .interrupts .enable) v) k)
-      (λ e. absurd (omega (arith, ap numberOf e))) (λ e. refl) (λ e. absurd (omega (arith, ap numberOf e)))) (λ d j e. absurd (omega (arith, ap numberOf e)))
+      (λ e. absurd (omega (arith, ap numberOf e))) (λ e. refl) (λ e. absurd (omega (arith, ap numberOf e))) (λ e. absurd (omega (arith, ap numberOf e)))
+      (λ e. absurd (omega (arith, ap numberOf e))) (λ e. absurd (omega (arith, ap numberOf e)))) (λ d j e. absurd (omega (arith, ap numberOf e)))
       (λ d i e. absurd (omega (arith, ap numberOf e))) (λ t j e. absurd (omega (arith, ap numberOf e))) (λ e. s .enable-k) q
 
   -- the stage of an alert that is not the tenant's

@@ -14,24 +14,27 @@ use Rattle.bits.specs.Index.{anyTo, placeIn}
 use Rattle.bits.proofs.IndexLaws.{any-ext}
 use Rattle.class_rules.specs.Step.{classEvent, starts}
 use Rattle.escalation.proofs.ListTicks
-use Rattle.escalation.proofs.ListTicks.{input, at-next}
+use Rattle.escalation.proofs.ListTicks.{input, at-valid, at-next}
 use Rattle.escalation.specs.List.{IsTick, before, inputAt}
 use Rattle.laws.proofs.Samples.Receivers.{happens-in, after-receiver}
 use Rattle.laws.proofs.Map.Cases.{by-kind}
 use Rattle.laws.proofs.Tick.Frame.{after-still, after-stage, after-n}
 use Rattle.laws.proofs.Tick.InterruptBits.{after-enable}
+use Rattle.laws.proofs.Tick.TimerOff.{none-asked, none-fails, none-failed}
 use Rattle.laws.proofs.Samples.Raises.{no-local}
 use Rattle.laws.proofs.Access.RegisterFile.{acted-n}
 use Rattle.laws.proofs.Valid.ValidLaws.{facts}
 use Rattle.laws.specs.Block.{ofBlock}
+use Rattle.laws.specs.Pinging.{meetsIn, asksIn, failsIn, givenIn, closedIf}
 use Rattle.link_rules.specs.Receiver.{received}
+use Rattle.link_rules.specs.Timer.{fails}
 use Rattle.link_rules.specs.declared.Received.{Received}
 use Rattle.link_rules.specs.declared.Receiver.{Receiver}
 use Rattle.rules.specs.Access.{value, named, acted}
 use Rattle.rules.specs.Map.{decode, fieldRow}
 use Rattle.rules.specs.Run.{run}
-use Rattle.rules.specs.Samples.{positive, negative, givenTo, alertEvent, assigned}
-use Rattle.rules.specs.State.{classCount, alert, receiver}
+use Rattle.rules.specs.Samples.{positive, negative, alertEvent, assigned}
+use Rattle.rules.specs.State.{classCount, alert, receiver, isOn}
 use Rattle.rules.specs.Tick.{event, hears, happensIn, after}
 use Rattle.rules.specs.Valid.{valid}
 use Rattle.rules.specs.declared.Access.{Access}
@@ -44,7 +47,7 @@ use Rattle.rules.specs.declared.Register.{Register}
 use Rattle.rules.specs.declared.Register.the-variants.{Alert}
 use Rattle.isolation.specs.Isolation.{SameTick, Alike, AlikeEnable}
 use Rattle.isolation.specs.OwnAccess.{own}
-use Rattle.isolation.specs.Owner.{mayName, byTenant, alertReaches, ButTenant, OnlyTenant, startsIn, Undisturbed}
+use Rattle.isolation.specs.Owner.{mayName, byTenant, reaches, alertReaches, Apart, ButTenant, OnlyTenant, startsIn, Undisturbed}
 use Rattle.isolation.proofs.Isolated.{isolation, by-index}
 use Rattle.isolation.proofs.Own.{both, same-acted}
 use Rattle.isolation.proofs.Shared.{Shared, f-small}
@@ -98,10 +101,25 @@ module _ (k : ℕ) (his : ℕ → Bool) (g f : Handler) (v w : Heard) (s : Share
           no-event k g v i (apart-g i l e) ∙ sym (no-event k f w i (apart-f i (omega (arith, s .n)) e))
       go false e = ap₂ (λ (t : Bool) (c : ℕ). t && eqb c k) (same-alert i e l) (s .fields Field.Class i e l refl)
 
+-- no ping fails, or what it raises is not in class k
+abbrev FailsNone : ℕ → Handler → Input → Type 0
+FailsNone k h x =
+    (fails (meetsIn h x) (acted h (x .access) .links .turn) ≡ false)
+    ⊎ ((reaches k (acted h (x .access)) 0 ≡ false) × (reaches k (acted h (x .access)) 1 ≡ false))
+
+fails-none : (k : ℕ) (his : ℕ → Bool) (h : Handler) (x : Input) → valid h ≡ true → Apart k his h x
+    → FailsNone k h x
+fails-none k his h x v a = go (a .failing)
+  where
+    go : (isOn h ≡ false) ⊎ ((reaches k (acted h (x .access)) 0 ≡ false) × (reaches k (acted h (x .access)) 1 ≡ false))
+        → FailsNone k h x
+    go (inl o) = inl (none-fails h x v o (acted h (x .access) .links .turn))
+    go (inr e) = inr e
+
 -- ── one tick of each run ──
 
 module _ (k : ℕ) (his : ℕ → Bool) (g : Handler) (x : Input) (f : Handler) (y : Input) (l : k < classCount) (s : Shared k his g f) (q : Equal k g f)
-    (t : ButTenant k his g x f y) where
+    (v : valid g ≡ true) (w : valid f ≡ true) (t : ButTenant k his g x f y) where
   abbrev g1 : Handler
   g1 = acted g (x .access)
 
@@ -118,12 +136,24 @@ module _ (k : ℕ) (his : ℕ → Bool) (g : Handler) (x : Input) (f : Handler) 
       go (inl e) = same-own k g f (x .access) (s .n) ∙ ap (λ (a : Access). own f a k) e
       go (inr e) = tenant-own k his g (x .access) (e .0) ∙ sym (tenant-own k his f (y .access) (e .1))
 
+  -- the ping of an alert that is not the tenant's opens in both or in neither, and fails so
+  pinged : (i : ℕ) → his i ≡ false → i < g .n → (asksIn g x i ≡ asksIn f y i) × (failsIn g x i ≡ failsIn f y i)
+  pinged i e j = go (t .pings)
+    where
+      go : ((isOn g ≡ false) × (isOn f ≡ false))
+          ⊎ ((i : ℕ) → i < g .n → his i ≡ false → (asksIn g x i ≡ asksIn f y i) × (failsIn g x i ≡ failsIn f y i))
+          → (asksIn g x i ≡ asksIn f y i) × (failsIn g x i ≡ failsIn f y i)
+      go (inl o) = (
+        none-asked g x v (o .0) i ∙ sym (none-asked f y w (o .1) i),
+        none-failed g x v (o .0) i ∙ sym (none-failed f y w (o .1) i),
+      )
+      go (inr p) = p i j e
+
   -- the receiver of an alert that is not the tenant's is given the same in both, and gives the same
-  same-received : (i : ℕ) → his i ≡ false → i < g .n
-      → received (givenTo (x .sample .asks) (x .sample .alerts) i) (receiver g i) ≡ received (givenTo (y .sample .asks) (y .sample .alerts) i) (receiver f i)
+  same-received : (i : ℕ) → his i ≡ false → i < g .n → received (givenIn g x i) (receiver g i) ≡ received (givenIn f y i) (receiver f i)
   same-received i e j =
-      ap₂ (λ (a p : Bool). received (record { asks = a; pos = p; neg = negative (x .sample .alerts) i }) (receiver g i)) (t .asks i j e) (t .pos i j e)
-      ∙ ap₂ (λ (m : Bool) (r : Receiver). received (record { asks = placeIn (y .sample .asks) i; pos = positive (y .sample .alerts) i; neg = m }) r)
+      ap₂ (λ (a p : Bool). received (record { asks = a; pos = p; neg = negative (x .sample .alerts) i }) (receiver g i)) (pinged i e j .0) (t .pos i j e)
+      ∙ ap₂ (λ (m : Bool) (r : Receiver). received (record { asks = asksIn f y i; pos = positive (y .sample .alerts) i; neg = m }) r)
       (t .neg i j e) (s .receivers i e j)
 
   events : (i : ℕ) → his i ≡ false → i < g1 .n → happensIn g x i ≡ happensIn f y i
@@ -139,8 +169,8 @@ module _ (k : ℕ) (his : ℕ → Bool) (g : Handler) (x : Input) (f : Handler) 
       (alerts-same k his g1 f1 (hears g x) (hears f y) read events
       (λ i m. t .apart .0 .alerts i (omega (arith, acted-n g (x .access)))) (λ i m. t .apart .1 .alerts i (omega (arith, acted-n f (y .access)))))
       ∙ ap (λ (n : ℕ). anyTo (λ i. alertEvent f1 (hears f y) i && eqb (alert f1 Field.Class i) k) n) (read .n))
-      (no-local g (x .access) g1 (x .sample) k (t .apart .0 .local-2) (t .apart .0 .local-5)
-      ∙ sym (no-local f (y .access) f1 (y .sample) k (t .apart .1 .local-2) (t .apart .1 .local-5)))
+      (no-local g (x .access) g1 (x .sample) k (fails-none k his g x v (t .apart .0)) (t .apart .0 .local-2) (t .apart .0 .local-5)
+      ∙ sym (no-local f (y .access) f1 (y .sample) k (fails-none k his f y w (t .apart .1)) (t .apart .1 .local-2) (t .apart .1 .local-5)))
 
   -- class k is treated alike
   pub tick-alike : SameTick k g x f y
@@ -177,7 +207,7 @@ module _ (k : ℕ) (his : ℕ → Bool) (g : Handler) (x : Input) (f : Handler) 
         stages = λ d i e m. let j : i < g .n = omega (arith, after-n g x) in
             after-stage g x (Alert d i) ∙ read .stages d i e (omega (arith, acted-n g (x .access))) ∙ sym (after-stage f y (Alert d i));
         receivers = λ i e m. let j : i < g .n = omega (arith, after-n g x) in
-            after-receiver g x i (s .small) j ∙ ap (λ (r : Received). r .receiver) (same-received i e j)
+            after-receiver g x i (s .small) j ∙ ap₂ (λ (b : Bool) (r : Received). closedIf b (r .receiver)) (pinged i e j .1) (same-received i e j)
             ∙ sym (after-receiver f y i (f-small k his g f s) (omega (arith, s .n)));
         bit-k = tick-equal .bit-k;
         enable-k = ap (λ (o : ℕ). bit o k) (after-enable g x) ∙ read .enable-k ∙ sym (ap (λ (o : ℕ). bit o k) (after-enable f y));
@@ -197,8 +227,8 @@ module _ (k : ℕ) (his : ℕ → Bool) (first : ℕ) (h : Handler) (xs ys : Lis
       → Shared k his (after (ListTicks.at h xs i) (input xs i)) (after (ListTicks.at h ys i) (input ys i))
       × Equal k (after (ListTicks.at h xs i) (input xs i)) (after (ListTicks.at h ys i) (input ys i))
   step i m p = (
-    shared-after k his (ListTicks.at h xs i) (input xs i) (ListTicks.at h ys i) (input ys i) l (p .0) (p .1) (but-at i m),
-    tick-equal k his (ListTicks.at h xs i) (input xs i) (ListTicks.at h ys i) (input ys i) l (p .0) (p .1) (but-at i m),
+    shared-after k his (ListTicks.at h xs i) (input xs i) (ListTicks.at h ys i) (input ys i) l (p .0) (p .1) (at-valid h xs v i) (at-valid h ys v i) (but-at i m),
+    tick-equal k his (ListTicks.at h xs i) (input xs i) (ListTicks.at h ys i) (input ys i) l (p .0) (p .1) (at-valid h xs v i) (at-valid h ys v i) (but-at i m),
   )
 
   both-at : (i : ℕ) → i ≤ length xs → Both i
@@ -216,7 +246,7 @@ module _ (k : ℕ) (his : ℕ → Bool) (first : ℕ) (h : Handler) (xs ys : Lis
         same-stages = refl;
         same-bit = refl;
         same-tick = λ j m. let i : ℕ = j - first in let p = both-at i (omega (arith, m .from, m .to)) in
-            tick-alike k his (ListTicks.at h xs i) (input xs i) (ListTicks.at h ys i) (input ys i) l (p .0) (p .1) (t j m);
+            tick-alike k his (ListTicks.at h xs i) (input xs i) (ListTicks.at h ys i) (input ys i) l (p .0) (p .1) (at-valid h xs v i) (at-valid h ys v i) (t j m);
       }
 
   alike-enable : AlikeEnable k first h xs h ys
@@ -224,13 +254,13 @@ module _ (k : ℕ) (his : ℕ → Bool) (first : ℕ) (h : Handler) (xs ys : Lis
       record {
         same-enable = refl;
         same-change = λ j m. let i : ℕ = j - first in let p = both-at i (omega (arith, m .from, m .to)) in
-            change-enable k his (ListTicks.at h xs i) (input xs i) (ListTicks.at h ys i) (input ys i) l (p .0) (p .1) (t j m);
+            change-enable k his (ListTicks.at h xs i) (input xs i) (ListTicks.at h ys i) (input ys i) l (p .0) (p .1) (at-valid h xs v i) (at-valid h ys v i) (t j m);
       }
 
   start : (j : ℕ) → IsTick first xs j → startsIn k (before first h xs j) (inputAt first xs j) ≡ startsIn k (before first h ys j) (inputAt first ys j)
   start j m =
       let i : ℕ = j - first in let p = both-at i (omega (arith, m .from, m .to)) in
-      tick-starts k his (ListTicks.at h xs i) (input xs i) (ListTicks.at h ys i) (input ys i) l (p .0) (p .1) (t j m)
+      tick-starts k his (ListTicks.at h xs i) (input xs i) (ListTicks.at h ys i) (input ys i) l (p .0) (p .1) (at-valid h xs v i) (at-valid h ys v i) (t j m)
 
 -- the claim of specs/Owner.antt, of every accepted state and every two lists of one length
 pub undisturbed : (k : ℕ) (his : ℕ → Bool) (first : ℕ) (h : Handler) (xs ys : List Input)

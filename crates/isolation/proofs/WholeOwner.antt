@@ -10,16 +10,16 @@ use borrow.Author.Tests.{eqb-true, ne-eqb}
 use lib.Dec.{eqb}
 use lib.ListN.{length}
 use Rattle.bits.specs.Bits.{bit}
-use Rattle.bits.specs.Index.{placeIn}
 use Rattle.class_rules.specs.Class.{drives}
 use Rattle.class_rules.specs.Step.{starts}
 use Rattle.escalation.specs.List.{IsTick, before, inputAt, givenAt, classRead}
 use Rattle.laws.proofs.Map.Cases.{by-kind, by-single}
 use Rattle.laws.specs.Block.{ofBlock}
+use Rattle.laws.specs.Pinging.{asksIn, failsIn}
 use Rattle.rules.specs.Access.{value, named, acted}
 use Rattle.rules.specs.Samples.{positive, negative}
 use Rattle.rules.specs.Stages.{stage}
-use Rattle.rules.specs.State.{local, alert, classAt}
+use Rattle.rules.specs.State.{local, alert, classAt, isOn}
 use Rattle.rules.specs.Tick.{signalsIn}
 use Rattle.rules.specs.Valid.{valid}
 use Rattle.rules.specs.declared.Access.{Access}
@@ -29,7 +29,7 @@ use Rattle.rules.specs.declared.Input.{Input}
 use Rattle.rules.specs.declared.Register.{Register}
 use Rattle.rules.specs.declared.Register.the-variants.{Only, Alert, Block}
 use Rattle.rules.specs.declared.Setting.{Setting}
-use Rattle.isolation.specs.Owner.{mayName, byTenant, Apart, ButTenant, OnlyTenant, Undisturbed}
+use Rattle.isolation.specs.Owner.{mayName, byTenant, reaches, Apart, ButTenant, OnlyTenant, Undisturbed}
 use Rattle.isolation.proofs.Undisturbed.{undisturbed}
 use Rattle.isolation.proofs.WholeIsolation.{shown, shown-same}
 
@@ -45,7 +45,7 @@ may : (k : ℕ) (his : ℕ → Bool) (q : Register) → ((s : Setting) → q ≡
     → mayName k his q ≡ true
 may k his q =
     by-kind (λ q. ((s : Setting) → q ≡ Block s k → ⊥) → ((d : Field) (i : ℕ) → q ≡ Alert d i → his i ≡ true) → mayName k his q ≡ true)
-    (λ o b a. by-single (λ o. mayName k his (Only o) ≡ true) refl refl refl o) (λ d j b a. refl) (λ d i b a. a d i refl)
+    (λ o b a. by-single (λ o. mayName k his (Only o) ≡ true) refl refl refl refl refl refl o) (λ d j b a. refl) (λ d i b a. a d i refl)
     (λ s j b a. ap not (ne-eqb k j (λ e. b s (ap (Block s) (sym e))))) (λ b a. refl) q
 
 pub same-bit : (p q : Bool) → p ≡ q → not (xor p q) ≡ true
@@ -65,6 +65,14 @@ record Station (k : ℕ) (his : ℕ → Bool) (g : Handler) (x : Input) : Type 0
   pub alerts : (i : ℕ) → i < g .n → his i ≡ true → alert (acted g (x .access)) Field.En i ≡ 1 → alert (acted g (x .access)) Field.Class i ≡ k → ⊥
   pub local-2 : local (acted g (x .access)) Field.En 2 ≡ 1 → local (acted g (x .access)) Field.Class 2 ≡ k → ⊥
   pub local-5 : local (acted g (x .access)) Field.En 5 ≡ 1 → local (acted g (x .access)) Field.Class 5 ≡ k → ⊥
+  -- register 6 is 0, or local 0 and local 1, where enabled, are not in it either
+  pub failing :
+      (g .timer .enable ≡ 0)
+      ⊎ ((local (acted g (x .access)) Field.En 0 ≡ 1 → local (acted g (x .access)) Field.Class 0 ≡ k → ⊥)
+      × (local (acted g (x .access)) Field.En 1 ≡ 1 → local (acted g (x .access)) Field.Class 1 ≡ k → ⊥))
+
+off : (g : Handler) → g .timer .enable ≡ 0 → isOn g ≡ false
+off g e = ap (λ (v : ℕ). eqb v 1) e
 
 neither : (en class k : ℕ) → (en ≡ 1 → class ≡ k → ⊥) → (eqb en 1 && eqb class k) ≡ false
 neither en class k e = go (eqb en 1) refl
@@ -79,7 +87,18 @@ apart k his g x s =
       alerts = λ i l e. neither (alert (acted g (x .access)) Field.En i) (alert (acted g (x .access)) Field.Class i) k (s .alerts i l e);
       local-2 = neither (local (acted g (x .access)) Field.En 2) (local (acted g (x .access)) Field.Class 2) k (s .local-2);
       local-5 = neither (local (acted g (x .access)) Field.En 5) (local (acted g (x .access)) Field.Class 5) k (s .local-5);
+      failing = go (s .failing);
     }
+  where
+    go : (g .timer .enable ≡ 0)
+        ⊎ ((local (acted g (x .access)) Field.En 0 ≡ 1 → local (acted g (x .access)) Field.Class 0 ≡ k → ⊥)
+        × (local (acted g (x .access)) Field.En 1 ≡ 1 → local (acted g (x .access)) Field.Class 1 ≡ k → ⊥))
+        → (isOn g ≡ false) ⊎ ((reaches k (acted g (x .access)) 0 ≡ false) × (reaches k (acted g (x .access)) 1 ≡ false))
+    go (inl o) = inl (off g o)
+    go (inr e) = inr (
+      neither (local (acted g (x .access)) Field.En 0) (local (acted g (x .access)) Field.Class 0) k (e .0),
+      neither (local (acted g (x .access)) Field.En 1) (local (acted g (x .access)) Field.Class 1) k (e .1),
+    )
 
 -- ── two ticks that are equal but for what the tenant does ──
 
@@ -87,7 +106,10 @@ record Differ (k : ℕ) (his : ℕ → Bool) (g : Handler) (x : Input) (f : Hand
   pub access : (x .access ≡ y .access) ⊎ (Tenant k his g (x .access) × Tenant k his f (y .access))
   pub pos : (i : ℕ) → i < g .n → his i ≡ false → positive (x .sample .alerts) i ≡ positive (y .sample .alerts) i
   pub neg : (i : ℕ) → i < g .n → his i ≡ false → negative (x .sample .alerts) i ≡ negative (y .sample .alerts) i
-  pub asks : (i : ℕ) → i < g .n → his i ≡ false → placeIn (x .sample .asks) i ≡ placeIn (y .sample .asks) i
+  -- register 6 is 0 before both, or the pings of the others' alerts open and fail in both or in neither
+  pub pings :
+      ((g .timer .enable ≡ 0) × (f .timer .enable ≡ 0))
+      ⊎ ((i : ℕ) → i < g .n → his i ≡ false → (asksIn g x i ≡ asksIn f y i) × (failsIn g x i ≡ failsIn f y i))
   pub stations : Station k his g x × Station k his f y
 
 but-tenant : (k : ℕ) (his : ℕ → Bool) (g : Handler) (x : Input) (f : Handler) (y : Input) → Differ k his g x f y → ButTenant k his g x f y
@@ -96,7 +118,7 @@ but-tenant k his g x f y d =
       access = go (d .access);
       pos = d .pos;
       neg = d .neg;
-      asks = d .asks;
+      pings = ping (d .pings);
       apart = (apart k his g x (d .stations .0), apart k his f y (d .stations .1));
     }
   where
@@ -104,6 +126,13 @@ but-tenant k his g x f y d =
         → (x .access ≡ y .access) ⊎ ((byTenant k his g (x .access) ≡ true) × (byTenant k his f (y .access) ≡ true))
     go (inl e) = inl e
     go (inr t) = inr (by-tenant k his g (x .access) (t .0), by-tenant k his f (y .access) (t .1))
+
+    ping : ((g .timer .enable ≡ 0) × (f .timer .enable ≡ 0))
+        ⊎ ((i : ℕ) → i < g .n → his i ≡ false → (asksIn g x i ≡ asksIn f y i) × (failsIn g x i ≡ failsIn f y i))
+        → ((isOn g ≡ false) × (isOn f ≡ false))
+        ⊎ ((i : ℕ) → i < g .n → his i ≡ false → (asksIn g x i ≡ asksIn f y i) × (failsIn g x i ≡ failsIn f y i))
+    ping (inl o) = inl (off g (o .0), off f (o .1))
+    ping (inr p) = inr p
 
 -- ── then the owner's class starts in the same ticks, and shows and answers the same in each ──
 

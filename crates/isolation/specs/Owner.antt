@@ -7,12 +7,12 @@ use mathlib.Core.Logic.{_⊎_}
 use mathlib.Core.Bool.{Bool, true, false, not, _&&_}
 use mathlib.Core.List.{List}
 use lib.Dec.{eqb}
-use Rattle.bits.specs.Index.{placeIn}
 use Rattle.class_rules.specs.Step.{starts}
 use Rattle.escalation.specs.List.{IsTick, before, inputAt, givenAt, classRead}
+use Rattle.laws.specs.Pinging.{asksIn, failsIn}
 use Rattle.rules.specs.Access.{acted, named}
 use Rattle.rules.specs.Samples.{positive, negative}
-use Rattle.rules.specs.State.{local, alert}
+use Rattle.rules.specs.State.{local, alert, isOn}
 use Rattle.rules.specs.Tick.{signalsIn}
 use Rattle.rules.specs.declared.Access.{Access}
 use Rattle.rules.specs.declared.Field.{Field}
@@ -20,17 +20,21 @@ use Rattle.rules.specs.declared.Handler.{Handler}
 use Rattle.rules.specs.declared.Input.{Input}
 use Rattle.rules.specs.declared.Register.{Register}
 use Rattle.rules.specs.declared.Register.the-variants.{Only, Local, Alert, Block, Unassigned}
-use Rattle.rules.specs.declared.Single.the-variants.{IntrState, IntrEnable, IntrTest}
+use Rattle.rules.specs.declared.Single.the-variants.{IntrState, IntrEnable, IntrTest, PingRegwen, PingTimeout, PingEnable}
 use Rattle.isolation.specs.Isolation.{SameClass, SameInterrupt}
 use Rattle.isolation.specs.OwnAccess.{isOwn, changesState, changesEnable}
 
 -- ── the tenant: `his i` says that alert i is his ──
 
--- what he may name: the interrupt registers, local alerts, his alerts, the blocks of other classes, and what is no register
+-- what he may name: the interrupt registers, the ping timer's (`pings` below speaks of what comes of it), local alerts, his alerts, the blocks of other
+-- classes, and what is no register
 abbrev pub mayName : ℕ → (ℕ → Bool) → Register → Bool
 mayName k his (Only IntrState) = true
 mayName k his (Only IntrEnable) = true
 mayName k his (Only IntrTest) = true
+mayName k his (Only PingRegwen) = true
+mayName k his (Only PingTimeout) = true
+mayName k his (Only PingEnable) = true
 mayName k his (Local f j) = true
 mayName k his (Alert f i) = his i
 mayName k his (Block s j) = not (eqb k j)
@@ -57,14 +61,19 @@ pub record Apart (k : ℕ) (his : ℕ → Bool) (g : Handler) (x : Input) : Type
   pub alerts : (i : ℕ) → i < g .n → his i ≡ true → alertReaches k (acted g (x .access)) i ≡ false
   pub local-2 : reaches k (acted g (x .access)) 2 ≡ false
   pub local-5 : reaches k (acted g (x .access)) 5 ≡ false
+  -- request (ix): register 6 is 0 before the tick, or local 0 and local 1, which a ping that fails raises, are disabled or assigned to another class too
+  pub failing : (isOn g ≡ false) ⊎ ((reaches k (acted g (x .access)) 0 ≡ false) × (reaches k (acted g (x .access)) 1 ≡ false))
 
--- two ticks that are equal but for his accesses, his alerts' wires and the pings that are asked for of his alerts: asking for a ping of another's alert
--- would turn that alert's event into an answer (request (viii))
+-- two ticks that are equal but for his accesses, his alerts' wires, the entropy word and the lines' answers. The ping timer is shared: his answer ends a
+-- turn, so that another's alert is pinged in another tick, and a rise of it is then an answer and no event (requests (viii) and (ix)). So register 6 is 0
+-- before both ticks, or the pings of alerts that are not his open in both or in neither, and fail so
 pub record ButTenant (k : ℕ) (his : ℕ → Bool) (g : Handler) (x : Input) (f : Handler) (y : Input) : Type 0 where
   pub access : (x .access ≡ y .access) ⊎ ((byTenant k his g (x .access) ≡ true) × (byTenant k his f (y .access) ≡ true))
   pub pos : (i : ℕ) → i < g .n → his i ≡ false → positive (x .sample .alerts) i ≡ positive (y .sample .alerts) i
   pub neg : (i : ℕ) → i < g .n → his i ≡ false → negative (x .sample .alerts) i ≡ negative (y .sample .alerts) i
-  pub asks : (i : ℕ) → i < g .n → his i ≡ false → placeIn (x .sample .asks) i ≡ placeIn (y .sample .asks) i
+  pub pings :
+      ((isOn g ≡ false) × (isOn f ≡ false))
+      ⊎ ((i : ℕ) → i < g .n → his i ≡ false → (asksIn g x i ≡ asksIn f y i) × (failsIn g x i ≡ failsIn f y i))
   pub apart : Apart k his g x × Apart k his f y
 
 -- so are all ticks of the runs with inputs xs and ys from the state h

@@ -2,3 +2,5 @@ pub mod Heard
 pub mod Receivers
 pub mod AtRest
 pub mod Raises
+pub mod Off
+pub mod OpenPings

@@ -5,4 +5,6 @@ pub mod InterruptBits
 pub mod AlertStarts
 pub mod Quiet
 pub mod Pairs
+pub mod Turns
+pub mod TimerOff
 pub mod Runs

@@ -1,5 +1,6 @@
 pub mod ValidLaws
 pub mod StageFits
+pub mod PingFits
 pub mod KeepsAccess
 pub mod KeepsClass
 pub mod KeepsValid

@@ -10,3 +10,4 @@ pub mod Block
 pub mod Unchecked
 pub mod Columns
 pub mod Quiet
+pub mod Pinging

@@ -13,14 +13,15 @@ use Rattle.rules.specs.declared.Register.{Register}
 use Rattle.rules.specs.declared.Register.the-variants.{Only, Local, Alert, Block, Unassigned}
 use Rattle.rules.specs.declared.Setting.{Setting}
 use Rattle.rules.specs.declared.Single.{Single}
-use Rattle.rules.specs.declared.Single.the-variants.{IntrState, IntrEnable, IntrTest}
+use Rattle.rules.specs.declared.Single.the-variants.{IntrState, IntrEnable, IntrTest, PingRegwen, PingTimeout, PingEnable}
 use Rattle.rules.specs.declared.Way.{Way}
-use Rattle.rules.specs.declared.Way.the-variants.{Both, OneClears, ReadOnly, WriteOnly}
+use Rattle.rules.specs.declared.Way.the-variants.{Both, OneClears, OneSets, ReadOnly, WriteOnly}
 
 -- it takes what is written as it is
 abbrev pub asWritten : Way → Bool
 asWritten Both = true
 asWritten OneClears = false
+asWritten OneSets = false
 asWritten ReadOnly = false
 asWritten WriteOnly = false
 
@@ -32,6 +33,9 @@ abbrev pub singleTarget : Single → Single
 singleTarget IntrState = IntrState
 singleTarget IntrEnable = IntrEnable
 singleTarget IntrTest = IntrState
+singleTarget PingRegwen = PingRegwen
+singleTarget PingTimeout = PingTimeout
+singleTarget PingEnable = PingEnable
 
 -- the register that a write at q changes: INTR_TEST writes INTR_STATE, every other one itself
 abbrev pub target : Register → Register
@@ -41,11 +45,14 @@ target (Alert f i) = Alert f i
 target (Block s k) = Block s k
 target Unassigned = Unassigned
 
--- in INTR_STATE a 1 clears, in INTR_TEST a 1 sets
+-- in INTR_STATE a 1 clears, in INTR_TEST a 1 sets; request (ix): in the ping timer's enable "a written 0 does nothing"
 abbrev pub singleStored : Single → ℕ → ℕ → ℕ
 singleStored IntrState old v = bitsOf 4 (λ k. bit old k && not (bit v k))
 singleStored IntrEnable old v = v
 singleStored IntrTest old v = bitsOf 4 (λ k. bit old k || bit v k)
+singleStored PingRegwen old v = v
+singleStored PingTimeout old v = v
+singleStored PingEnable old v = cond (eqb v 0) old v
 
 -- what it holds once v is written at q
 abbrev pub newValue : Register → ℕ → ℕ → ℕ
@@ -84,6 +91,6 @@ committed h (Read r) old = old
 committed h (Write r v) old = newValue (decode (h .n) r) old v
 committed h Malformed old = old
 
--- a register that reads as what is written: not write only, not read only, and no 1 clears in it
+-- a register that reads as what is written: not write only, not read only, no 1 clears in it, and a 0 does not leave it
 abbrev pub plain : Register → Bool
 plain q = isRegister q && asWritten (row q .way)

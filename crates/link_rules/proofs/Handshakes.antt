@@ -114,6 +114,14 @@ no-rise s false false e = and-false (isReady s)
 no-rise s true false e = absurd (false≢true e)
 no-rise s false true e = absurd (false≢true e)
 
+-- they move no receiver
+still : (s : Handshake) (p m : Bool) → equal p m ≡ true → standsAfter s p m ≡ s
+unfolding standsAfter
+still s true true e = refl
+still s false false e = refl
+still s true false e = absurd (false≢true e)
+still s false true e = absurd (false≢true e)
+
 module _ (r : Receiver) (xs : ℕ → Given) where
   abbrev stood : ℕ → Handshake
   stood t = receiverAt r xs t .stands
@@ -186,10 +194,9 @@ module _ (r : Receiver) (xs : ℕ → Given) where
   -- ── equal wires ──
 
   holds : (t : ℕ) → equalAt xs t ≡ true → (takenAt r xs t ≡ false) × (receiverAt r xs (suc t) .stands ≡ receiverAt r xs t .stands)
-  unfolding standsAfter
   holds t e = (
     received-taken (xs t) (receiverAt r xs t) ∙ no-rise (stood t) (xs t .pos) (xs t .neg) e,
-    stood-next t ∙ rw e,
+    stood-next t ∙ still (stood t) (xs t .pos) (xs t .neg) e,
   )
 
   -- ── pings ──

@@ -4,3 +4,7 @@ pub mod Resting
 pub mod Steps
 pub mod Handshakes
 pub mod Waves
+pub mod Times
+pub mod Owned
+pub mod Pending
+pub mod TimerWaves

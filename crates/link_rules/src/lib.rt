@@ -37,3 +37,31 @@ pub struct Received {
     pub event: bool,
     pub answer: bool,
 }
+
+// The ping timer's turn, request (ix). Every value of each field means something.
+#[repr(C)]
+pub struct Turn {
+    // even: an alert's turn; odd: that of line number / 2 % 4
+    pub number: u8,
+    // the alert drawn
+    pub alert: u8,
+    // while the turn's ping is not open: the ticks to it, less one; while it is: the ticks since it opened, staying at 65,535
+    pub count: u16,
+}
+
+// What the timer meets in a tick.
+pub struct Meets {
+    // register 6 was 1 before the tick; it becomes 1 in this tick
+    pub runs: bool,
+    pub begins: bool,
+    // register 5 after step 1
+    pub timeout: u32,
+    // the entropy word
+    pub word: u32,
+    // the drawn alert is below N, locked and enabled after step 1
+    pub pingable: bool,
+    // the turn's ping was open before the tick
+    pub pending: bool,
+    // it is answered in this tick
+    pub answered: bool,
+}

@@ -4,6 +4,7 @@ use rules::Field;
 use rules::Guard;
 use rules::Register;
 use rules::Setting;
+use rules::Single;
 use rules::Way;
 ghost use mathlib.Core.Path.{_≡_};
 ghost use Prim.Native.Nat.{_^_};
@@ -23,6 +24,7 @@ fn only_written(w: Way) -> bool
     match w {
         Way::Both => false,
         Way::OneClears => false,
+        Way::OneSets => false,
         Way::ReadOnly => false,
         Way::WriteOnly => true,
     }
@@ -42,6 +44,7 @@ fn only_read(w: Way) -> bool
     match w {
         Way::Both => false,
         Way::OneClears => false,
+        Way::OneSets => false,
         Way::ReadOnly => true,
         Way::WriteOnly => false,
     }
@@ -80,12 +83,12 @@ pub fn is_shadowed(q: Register) -> bool
     row.shadowed
 }
 
-// The lock of the alert or local alert that q belongs to, and lock s of its class.
+// The lock of the alert or local alert that q belongs to, lock s of its class, and of the single registers the ping timer's.
 fn lock_of(s: Setting, q: Register) -> Register
     ensures { λ r. ⌜ r ≡ lockOf s q ⌝ }
 {
     match q {
-        Register::Only(_) => Register::Unassigned,
+        Register::Only(_) => Register::Only(Single::PingRegwen),
         Register::Local(_, j) => Register::Local(Field::Regwen, j),
         Register::Alert(_, i) => Register::Alert(Field::Regwen, i),
         Register::Block(_, k) => Register::Block(s, k),

@@ -31,6 +31,9 @@ fn single_row(o: Single) -> Row
         Single::IntrState => line(4, Way::OneClears, Guard::Free, false, true, false),
         Single::IntrEnable => line(4, Way::Both, Guard::Free, false, false, false),
         Single::IntrTest => line(4, Way::WriteOnly, Guard::Free, false, false, false),
+        Single::PingRegwen => line(1, Way::Both, Guard::ByRegwen, true, false, false),
+        Single::PingTimeout => line(16, Way::Both, Guard::ByRegwen, false, false, true),
+        Single::PingEnable => line(1, Way::OneSets, Guard::ByRegwen, false, false, false),
     }
 }
 

@@ -1,7 +1,7 @@
 // The places of a word of 64, the highest bit first: those of alerts that are there, and a walk over those that are set.
 ghost use Prim.Native.Nat.{ℕ, _+_, _<_};
 ghost use mathlib.Core.Path.{_≡_};
-ghost use lib.Dec.{ltb};
+ghost use lib.Dec.{eqb, ltb};
 ghost use Rattle.bits.specs.Bits.{place};
 ghost use Rattle.masks.specs.Places.{First, Rest};
 
@@ -34,4 +34,12 @@ pub fn live(n: usize, b: usize) -> u64
     } else {
         ones
     }
+}
+
+// The place of alert i among those from b on, if it is there.
+pub fn only(i: u8, b: usize) -> u64
+    ensures { λ r. ⌜ ((j : ℕ) → j < 64 → place r j ≡ eqb (b + j) i) ⌝ }
+{
+    let at = i as usize;
+    live(at + 1, b) ^ live(at, b)
 }

@@ -56,8 +56,14 @@ staged regwen code =
       classes = newHandler 58 .stages .classes;
       alerts = record { en = replicate 248 0; class = set (replicate 248 0) 0 code };
       locals = newHandler 58 .stages .locals;
+      timeout = 0;
     })
-    (withLinks (record { receivers = record { pausing = replicate 4 0; busy = replicate 4 (2 ^ 64 - 1); level = replicate 4 0; pending = replicate 4 0 } })
+    (withLinks
+    (record {
+      receivers = record { pausing = replicate 4 0; busy = replicate 4 (2 ^ 64 - 1); level = replicate 4 0; pending = replicate 4 0 };
+      turn = newHandler 58 .links .turn;
+      lines = 0;
+    })
     (withLocals (record { regwen = replicate 7 1; en = set (replicate 7 0) 5 1; class = replicate 7 0; cause = replicate 7 0 })
     (withAlerts (record { regwen = set (replicate 248 1) 0 regwen; en = replicate 248 0; class = replicate 248 0; cause = replicate 248 0 }) (newHandler 58))))
 

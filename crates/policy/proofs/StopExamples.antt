@@ -57,7 +57,7 @@ alert-locked = ((refl, refl), (refl, refl))
 -- a stage open at CLASS of alert 0 with this value
 abbrev pub staged : ℕ → Handler
 staged v =
-    withStages (record { classes = noStages .classes; alerts = record { en = replicate 248 0; class = set (replicate 248 0) 0 (v + 1) }; locals = noStages .locals }) (newHandler 58)
+    withStages (record { classes = noStages .classes; alerts = record { en = replicate 248 0; class = set (replicate 248 0) 0 (v + 1) }; locals = noStages .locals; timeout = 0 }) (newHandler 58)
 
 -- alert 0 is marked C in PROD, so that 2 is written: -12 where it is 1
 other-stage : Stops Prod (staged 1) 768 (negsuc 11)

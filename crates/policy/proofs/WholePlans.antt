@@ -139,13 +139,14 @@ ticksOf : (length (asks (planOf Lifecycle.Prod)) ≡ 474) × (length (asks (plan
 unfolding plans
 ticksOf = (refl, refl)
 
--- "with all wires at (0,1)", those of alerts at N and above too, and, by request (viii), with no ping asked for
+-- "with all wires at (0,1)", those of alerts at N and above too, and, by request (ix), "the installer 0 and no answer"
 wires : (x : Access)
     → (rest x .access ≡ x)
     × (rest x .sample .alerts .pos ≡ 0 ∷ 0 ∷ 0 ∷ 0 ∷ [])
     × (rest x .sample .alerts .neg ≡ 18446744073709551615 ∷ 18446744073709551615 ∷ 18446744073709551615 ∷ 18446744073709551615 ∷ [])
-    × (rest x .sample .asks ≡ 0 ∷ 0 ∷ 0 ∷ 0 ∷ [])
-wires x = (refl, refl, refl, refl)
+    × (rest x .sample .word ≡ 0)
+    × (rest x .sample .answers ≡ 0)
+wires x = (refl, refl, refl, refl, refl)
 
 -- ── lifecycles by number ──
 

@@ -18,7 +18,7 @@ use Rattle.rules.specs.declared.Register.{Register}
 use Rattle.rules.specs.declared.Ticked.{Ticked}
 use Rattle.policy.specs.declared.Progress.{Progress}
 
--- all wires at (0,1), and no ping is asked for (request (viii))
+-- all wires at (0,1), entropy word 0 and no escalation ping answered (request (ix))
 abbrev pub rest : Access → Input
 rest x = record { access = x; sample = atRest }
 

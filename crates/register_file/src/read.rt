@@ -3,7 +3,6 @@ use class_rules::Class;
 use rules::Alerts;
 use rules::Field;
 use rules::Handler;
-use rules::Interrupts;
 use rules::Locals;
 use rules::Register;
 use rules::Setting;
@@ -110,13 +109,16 @@ fn block_value(classes: [Class; 4], s: Setting, k: usize) -> u32
 }
 
 // A register that there is one of.
-fn single_value(o: Single, i: Interrupts) -> u32
-    ensures { λ r. ⌜ r ≡ singleValue o i ⌝ }
+fn single_value(o: Single, h: Handler) -> u32
+    ensures { λ r. ⌜ r ≡ singleValue o h ⌝ }
 {
     match o {
-        Single::IntrState => i.state as u32,
-        Single::IntrEnable => i.enable as u32,
+        Single::IntrState => h.interrupts.state as u32,
+        Single::IntrEnable => h.interrupts.enable as u32,
         Single::IntrTest => 0,
+        Single::PingRegwen => h.timer.regwen as u32,
+        Single::PingTimeout => h.timer.timeout,
+        Single::PingEnable => h.timer.enable as u32,
     }
 }
 
@@ -125,7 +127,7 @@ pub fn value_of(h: Handler, q: Register) -> u32
     ensures { λ r. ⌜ r ≡ value h q ⌝ }
 {
     match q {
-        Register::Only(o) => single_value(o, h.interrupts),
+        Register::Only(o) => single_value(o, h),
         Register::Local(f, j) => local_value(h.locals, f, j) as u32,
         Register::Alert(f, i) => alert_value(h.alerts, f, i) as u32,
         Register::Block(s, k) => {

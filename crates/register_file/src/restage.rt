@@ -8,13 +8,17 @@ use rules::Handler;
 use rules::LocalStages;
 use rules::Register;
 use rules::Setting;
+use rules::Single;
 use rules::Stages;
 ghost use mathlib.Core.Path.{_≡_};
+ghost use mathlib.Core.Bool.{cond};
 ghost use Prim.Native.Nat.{_^_, _≤_, _<_};
+ghost use lib.Dec.{eqb};
 ghost use lib.ListN.{getD};
-ghost use Rattle.rules.specs.Map.{settingBits, bits};
+ghost use Rattle.rules.specs.Map.{singleNumber, settingBits, bits};
 ghost use Rattle.rules.specs.Stages.{localStages, alertStages, noClassStages, withLocalStages, withAlertStages, withSettingStage, withStage, staged, dropped};
 ghost use Rattle.rules.specs.State.{most, localCount, classCount, withStages, put};
+ghost use Rattle.rules.specs.declared.Single.the-variants.{PingTimeout};
 
 // A column of the local alerts' with the code c for local alert j.
 fn set_code(codes: [u32; 7], j: usize, c: u32) -> [u32; 7]
@@ -132,6 +136,20 @@ fn set_block(classes: [ClassStages; 4], s: Setting, k: usize, v: u64) -> [ClassS
     out
 }
 
+// The stage of the ping timer's timeout with the code c at one register: of those that there is one of, it alone is shadowed.
+fn set_single(timeout: u64, o: Single, c: u64) -> u64
+    ensures { λ r. ⌜ r ≡ cond (eqb (singleNumber o) (singleNumber PingTimeout)) c timeout ⌝ }
+{
+    match o {
+        Single::IntrState => timeout,
+        Single::IntrEnable => timeout,
+        Single::IntrTest => timeout,
+        Single::PingRegwen => timeout,
+        Single::PingTimeout => c,
+        Single::PingEnable => timeout,
+    }
+}
+
 // The stages with the code c at one register.
 fn with_stage(s: Stages, q: Register, c: u64) -> Stages
     requires { ⌜ c ≤ 2 ^ bits q ⌝ }
@@ -139,7 +157,11 @@ fn with_stage(s: Stages, q: Register, c: u64) -> Stages
 {
     let mut out = s;
     match q {
-        Register::Only(_) => s,
+        Register::Only(o) => {
+            let timeout = set_single(s.timeout, o, c);
+            out.timeout = timeout;
+            out
+        }
         Register::Local(f, j) => {
             let locals = set_local(s.locals, f, j, c as u32);
             out.locals = locals;

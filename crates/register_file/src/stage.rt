@@ -7,9 +7,11 @@ use rules::Handler;
 use rules::LocalStages;
 use rules::Register;
 use rules::Setting;
+use rules::Single;
+use rules::Stages;
 ghost use mathlib.Core.Path.{_≡_};
 ghost use lib.ListN.{getD};
-ghost use Rattle.rules.specs.Stages.{localStages, alertStages, settingStage, noClassStages, stage};
+ghost use Rattle.rules.specs.Stages.{localStages, alertStages, settingStage, noClassStages, singleStage, stage};
 
 // Of local alert j in a column, and 0 past the seven.
 fn local_code(codes: [u32; 7], j: usize) -> u32
@@ -94,12 +96,26 @@ fn block_stage(classes: [ClassStages; 4], s: Setting, k: usize) -> u64
     }
 }
 
+// Of a register that there is one of: the ping timer's timeout alone is shadowed.
+fn single_stage(o: Single, s: Stages) -> u64
+    ensures { λ r. ⌜ r ≡ singleStage o s ⌝ }
+{
+    match o {
+        Single::IntrState => 0,
+        Single::IntrEnable => 0,
+        Single::IntrTest => 0,
+        Single::PingRegwen => 0,
+        Single::PingTimeout => s.timeout,
+        Single::PingEnable => 0,
+    }
+}
+
 // A register's stage; what is not shadowed has none.
 pub fn stage_of(h: Handler, q: Register) -> u64
     ensures { λ r. ⌜ r ≡ stage h q ⌝ }
 {
     match q {
-        Register::Only(_) => 0,
+        Register::Only(o) => single_stage(o, h.stages),
         Register::Local(f, j) => local_stage(h.stages.locals, f, j) as u64,
         Register::Alert(f, i) => alert_stage(h.stages.alerts, f, i) as u64,
         Register::Block(s, k) => {

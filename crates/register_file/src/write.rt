@@ -10,15 +10,17 @@ use rules::Locals;
 use rules::Register;
 use rules::Setting;
 use rules::Single;
+use rules::Timer;
 ghost use mathlib.Core.Path.{_≡_};
-ghost use mathlib.Core.Bool.{not, _&&_, _||_};
+ghost use mathlib.Core.Bool.{cond, not, _&&_, _||_};
 ghost use Prim.Native.Nat.{_^_, _<_};
+ghost use lib.Dec.{eqb};
 ghost use lib.ListN.{getD, set};
 ghost use Rattle.bits.specs.Bits.{bit, bitsOf};
 ghost use Rattle.class_rules.specs.Class.{noClass};
 ghost use Rattle.rules.specs.Map.{singleBits, settingBits, bits};
 ghost use Rattle.rules.specs.State.{most, localCount, classCount, localColumn, alertColumn, withLocalColumn, withAlertColumn, put};
-ghost use Rattle.rules.specs.Access.{fieldStored, withSingle, withSetting, store};
+ghost use Rattle.rules.specs.Access.{fieldStored, withSetting, withInterrupt, withPing, store};
 
 // INTR_STATE: a 1 clears.
 fn cleared(state: u16, v: u16) -> u16
@@ -34,6 +36,13 @@ fn raised(state: u16, v: u16) -> u16
     ensures { λ r. ⌜ r ≡ bitsOf 4 (λ k. bit state k || bit v k) ⌝ }
 {
     (state % 16) | v
+}
+
+// The ping timer's enable: a 0 does nothing.
+fn enabled(old: u16, v: u16) -> u16
+    ensures { λ r. ⌜ r ≡ cond (eqb v 0) old v ⌝ }
+{
+    if v == 0 { old } else { v }
 }
 
 // In CAUSE a written 1 clears.
@@ -189,9 +198,9 @@ fn set_block(classes: [Class; 4], s: Setting, k: usize, v: u32) -> [Class; 4]
 }
 
 // The interrupt registers with v written at one of them.
-fn set_single(o: Single, v: u32, i: Interrupts) -> Interrupts
+fn set_interrupt(o: Single, v: u32, i: Interrupts) -> Interrupts
     requires { ⌜ v < 2 ^ singleBits o ⌝ }
-    ensures { λ r. ⌜ r ≡ withSingle o v i ⌝ }
+    ensures { λ r. ⌜ r ≡ withInterrupt o v i ⌝ }
 {
     match o {
         Single::IntrState => Interrupts {
@@ -209,6 +218,34 @@ fn set_single(o: Single, v: u32, i: Interrupts) -> Interrupts
             state: raised(i.state, v as u16),
             enable: i.enable,
         },
+        Single::PingRegwen => i,
+        Single::PingTimeout => i,
+        Single::PingEnable => i,
+    }
+}
+
+// The ping timer's registers with v written at one of them; a 0 to the enable does nothing.
+fn set_ping(o: Single, v: u32, t: Timer) -> Timer
+    requires { ⌜ v < 2 ^ singleBits o ⌝ }
+    ensures { λ r. ⌜ r ≡ withPing o v t ⌝ }
+{
+    let mut out = t;
+    match o {
+        Single::IntrState => t,
+        Single::IntrEnable => t,
+        Single::IntrTest => t,
+        Single::PingRegwen => {
+            out.regwen = v as u16;
+            out
+        }
+        Single::PingTimeout => {
+            out.timeout = v;
+            out
+        }
+        Single::PingEnable => {
+            out.enable = enabled(t.enable, v as u16);
+            out
+        }
     }
 }
 
@@ -220,8 +257,10 @@ pub fn stored(h: Handler, q: Register, v: u32) -> Handler
     let mut out = h;
     match q {
         Register::Only(o) => {
-            let interrupts = set_single(o, v, h.interrupts);
+            let interrupts = set_interrupt(o, v, h.interrupts);
+            let timer = set_ping(o, v, h.timer);
             out.interrupts = interrupts;
+            out.timer = timer;
             out
         }
         Register::Local(f, j) => {

@@ -29,7 +29,7 @@ module _ (h : Handler) where
 
   pub nothing-unmoved : unmoved h Answer.Done ≡ accessed h Nothing
   unfolding accessed verdict firstOf
-  nothing-unmoved = ap₂ (λ (g : Handler) (c : ℕ). record { handler = g; answer = Answer.Done; effects = record { clears = c; raises = 0 } }) (refl {a = h}) no-bits
+  nothing-unmoved = ap₂ (λ (g : Handler) (c : ℕ). record { handler = g; answer = Answer.Done; effects = record { clears = c; raises = 0; begins = false } }) (refl {a = h}) no-bits
 
   pub unmoved-as : (q : Register) (n : ℕ) (a : Answer) → n ≡ stage h q → a ≡ readAnswer h q
       → _≡_ {A = Unmoved} (record { holds = eqb n 0; answer = a }) (record { holds = eqb (stage h q) 0; answer = readAnswer h q })
@@ -44,5 +44,5 @@ module _ (h : Handler) where
       go true b = refl
       go false true = refl
       go false false =
-          ap₂ (λ (g : Handler) (c : ℕ). record { handler = g; answer = Answer.Value (value h (decode (h .n) r)); effects = record { clears = c; raises = 0 } })
+          ap₂ (λ (g : Handler) (c : ℕ). record { handler = g; answer = Answer.Value (value h (decode (h .n) r)); effects = record { clears = c; raises = 0; begins = false } })
           (none-dropped h (decode (h .n) r) e) no-bits

@@ -19,6 +19,6 @@ readVerdict q = firstOf (inOrder false (not (isRegister q)) (writeOnly q) false 
 abbrev pub readAnswer : Handler → Register → Answer
 readAnswer h q = answerBy (readVerdict q) (Answer.Value (value h q))
 
--- step 1 with this answer, the state unchanged, no clear and nothing raised
+-- step 1 with this answer, the state unchanged, no clear, nothing raised, and the ping timer does not begin
 abbrev pub unmoved : Handler → Answer → Accessed
-unmoved h a = record { handler = h; answer = a; effects = record { clears = 0; raises = 0 } }
+unmoved h a = record { handler = h; answer = a; effects = record { clears = 0; raises = 0; begins = false } }

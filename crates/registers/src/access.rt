@@ -23,8 +23,9 @@ ghost use mathlib.Core.Bool.{false, _&&_};
 ghost use lib.Dec.{eqb};
 ghost use Prim.Native.Nat.{_^_, _<_};
 ghost use Rattle.bits.specs.Bits.{bitsOf};
-ghost use Rattle.rules.specs.Map.{bits};
-ghost use Rattle.rules.specs.Access.{settingIsClr, isClrOf, tooWide, isFirst, written, left, given, writesClr, named, drops, kept, raisedBy, accessed};
+ghost use Rattle.rules.specs.Map.{singleNumber, bits};
+ghost use Rattle.rules.specs.Access.{settingIsClr, isClrOf, tooWide, isFirst, written, left, given, writesClr, writesEnable, named, drops, kept, raisedBy, accessed};
+ghost use Rattle.rules.specs.declared.Single.the-variants.{PingEnable};
 
 fn is_clr(s: Setting) -> bool
     ensures { λ r. ⌜ r ≡ settingIsClr s ⌝ }
@@ -56,11 +57,22 @@ fn clears_of(q: Register, v: u32) -> u8
     }
 }
 
-// The effects of an accepted access: its clears.
-fn clear(clears: u8) -> Effects
-    ensures { λ r. ⌜ r ≡ record { clears = clears; raises = 0 } ⌝ }
+// Request (ix), "When 6 becomes 1": a write of v to register r is one of 1 to the ping timer's enable while that is 0.
+fn begins_of(r: u16, v: u32, enable: u16) -> bool
+    ensures { λ b. ⌜ b ≡ (eqb r (singleNumber PingEnable) && (eqb v 1 && eqb enable 0)) ⌝ }
 {
-    Effects { clears, raises: 0 }
+    (r == 6) & ((v == 1) & (enable == 0))
+}
+
+// The effects of an accepted access: its clears, and whether the ping timer begins.
+fn effects_of(clears: u8, begins: bool) -> Effects
+    ensures { λ r. ⌜ r ≡ record { clears = clears; raises = 0; begins = begins } ⌝ }
+{
+    Effects {
+        clears,
+        raises: 0,
+        begins,
+    }
 }
 
 // A first write to a shadowed register, while it has no stage.
@@ -85,28 +97,28 @@ fn write(h: Handler, q: Register, v: u32) -> Handler
 // What an accepted access does to the register q that it names: a read gives the value and drops the stage, anything else gives 0.
 fn act(h: Handler, x: Access, q: Register) -> Accessed
     requires { ⌜ (q ≡ named h x) × (tooWide h x ≡ false) ⌝ }
-    ensures { λ r. ⌜ r ≡ (record { handler = left h x; answer = given h x; effects = record { clears = bitsOf 4 (writesClr h x); raises = 0 } }) ⌝ }
+    ensures { λ r. ⌜ r ≡ (record { handler = left h x; answer = given h x; effects = record { clears = bitsOf 4 (writesClr h x); raises = 0; begins = writesEnable h x } }) ⌝ }
 {
     match x {
         Access::Nothing => Accessed {
             handler: h,
             answer: Answer::Done,
-            effects: clear(0),
+            effects: effects_of(0, false),
         },
         Access::Read(_) => Accessed {
             handler: drop_stage(h, q),
             answer: Answer::Value(value_of(h, q)),
-            effects: clear(0),
+            effects: effects_of(0, false),
         },
-        Access::Write(_, v) => Accessed {
+        Access::Write(r, v) => Accessed {
             handler: write(h, q, v),
             answer: Answer::Done,
-            effects: clear(clears_of(q, v)),
+            effects: effects_of(clears_of(q, v), begins_of(r, v, h.timer.enable)),
         },
         Access::Malformed => Accessed {
             handler: h,
             answer: Answer::Done,
-            effects: clear(0),
+            effects: effects_of(0, false),
         },
     }
 }
@@ -158,6 +170,7 @@ pub fn access(h: Handler, x: Access) -> Accessed
             effects: Effects {
                 clears: 0,
                 raises: raises_of(m),
+                begins: false,
             },
         },
     }

@@ -23,7 +23,7 @@ use Rattle.replay.proofs.RestLaws.{inputs-behind, rest-behind}
 
 -- the state stays one that refusal 7 would not meet
 pub turned-admits : (e : Edition) (h : Handler) (kept : List ℕ) (g : Handler) (n : ℕ) (buffer : List ℕ) → admits e h ≡ true → Turned e h kept g n buffer → admits e g ≡ true
-turned-admits e h kept g n buffer v t = ap (admits e) (t .ran .state) ∙ run-admits e h (inputsOf e (kept ++ t .came)) v
+turned-admits e h kept g n buffer v t = ap (admits e) (t .ran .state) ∙ run-admits e h (kept ++ t .came) v
 
 -- ── no bytes came ──
 

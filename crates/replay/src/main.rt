@@ -17,13 +17,14 @@ use rules::Made;
 use state::new::new;
 use trace::edition::ALERTS_64_BYTES;
 use trace::edition::ALERTS_248_BYTES;
+use trace::edition::PINGS_BYTES;
 use trace_rules::Edition;
 ghost use mathlib.Core.Path.{_≡_};
 ghost use mathlib.Core.Bool.{true};
 ghost use Prim.Native.Nat.{_*_, _≤_, _<_};
 ghost use lib.ListN.{length, take};
 ghost use Rattle.trace_rules.specs.Batch.{admits};
-ghost use Rattle.trace_rules.specs.Edition.{recordBytes};
+ghost use Rattle.trace_rules.specs.Edition.{recordBytes, editionBy};
 ghost use Rattle.rules.specs.State.{made};
 ghost use Rattle.replay.specs.Rest.{Ran, Turned};
 
@@ -127,6 +128,14 @@ fn run_248(h: Handler)
     take_turns(Edition::Alerts248, h, &mut bytes);
 }
 
+// The newest records, of 75 bytes, with the ping timer's word and answers.
+fn run_pings(h: Handler)
+    requires { ⌜ admits Edition.Pings h ≡ true ⌝ }
+{
+    let mut bytes = [0u8; TURN * PINGS_BYTES];
+    take_turns(Edition::Pings, h, &mut bytes);
+}
+
 // A handler for N.
 fn make(n: u8) -> Made
     ensures { λ r. ⌜ r ≡ made n ⌝ }
@@ -153,13 +162,23 @@ fn start_64(n: u8) {
     }
 }
 
-// The newest records, of 70 bytes.
+// Records of 70 bytes.
 fn start_248(n: u8) {
     let made = make(n);
     if made.answer < 0 {
         refuse();
     } else {
         run_248(made.handler);
+    }
+}
+
+// The newest records, of 75 bytes.
+fn start_pings(n: u8) {
+    let made = make(n);
+    if made.answer < 0 {
+        refuse();
+    } else {
+        run_pings(made.handler);
     }
 }
 
@@ -175,19 +194,33 @@ fn read_byte() -> Byte {
     Byte::Read(byte[0])
 }
 
-// The first byte is N, or 255: then N comes next, and the records are the newest.
+// The edition of the input, by its first byte.
+fn choose(first: u8) -> Edition
+    ensures { λ r. ⌜ r ≡ editionBy first ⌝ }
+{
+    if first == 255 {
+        Edition::Alerts248
+    } else if first == 254 {
+        Edition::Pings
+    } else {
+        Edition::Alerts64
+    }
+}
+
+// N comes behind a first byte that names an edition; any other first byte is N itself.
 fn main() {
     match read_byte() {
         Byte::Missing => {}
-        Byte::Read(first) => {
-            if first == 255 {
-                match read_byte() {
-                    Byte::Missing => {}
-                    Byte::Read(n) => start_248(n),
-                }
-            } else {
-                start_64(first);
-            }
-        }
+        Byte::Read(first) => match choose(first) {
+            Edition::Alerts64 => start_64(first),
+            Edition::Alerts248 => match read_byte() {
+                Byte::Missing => {}
+                Byte::Read(n) => start_248(n),
+            },
+            Edition::Pings => match read_byte() {
+                Byte::Missing => {}
+                Byte::Read(n) => start_pings(n),
+            },
+        },
     }
 }

@@ -8,14 +8,15 @@ use lib.Dec.{eqb}
 use lib.ListN.{replicate}
 use Rattle.rules.specs.Access.{value}
 use Rattle.rules.specs.Run.{run}
-use Rattle.rules.specs.State.{newHandler, withLinks}
+use Rattle.rules.specs.State.{newHandler, withAlerts, withLinks, withTimer}
 use Rattle.rules.specs.Tick.{after}
 use Rattle.rules.specs.declared.Field.{Field}
 use Rattle.rules.specs.declared.Handler.{Handler}
 use Rattle.rules.specs.declared.Input.{Input}
+use Rattle.rules.specs.declared.Receivers.{Receivers}
 use Rattle.rules.specs.declared.Register.the-variants.{Alert, Block}
 use Rattle.rules.specs.declared.Setting.the-variants.{AccumCnt}
-use Rattle.rules.specs.Scenes.{ones, asking, wired, wire, rest, raise, pause, bothHigh, bothLow, none}
+use Rattle.rules.specs.Scenes.{ones, timing, wired, rest, raise, pause, bothHigh, bothLow, none}
 use Rattle.rules.proofs.Scenes.{rules, zeros, ready}
 
 -- ── events ──
@@ -50,24 +51,24 @@ held : (map counts ((2 ∷ []) ∷ (3 ∷ []) ∷ (2 ∷ 1 ∷ []) ∷ (3 ∷ 1 
 unfolding rules
 held = (refl, refl, refl, refl)
 
--- ── pings ──
+-- ── pings, as the timer of request (ix) opens them ──
 
--- the pings of these alerts are asked for, all wires at (0,1); in a tick with a rise of alert 0
-abbrev asks : ℕ → Input
-asks a = asking a 0 ones none
+-- the timer is on and alert i is drawn, its ping due after c more ticks; every alert is locked and enabled, and no ping fails
+abbrev pub pinging : ℕ → ℕ → Handler → Handler
+pinging i c h =
+    withTimer (record { timeout = 0; regwen = 1; enable = 1 })
+    (withLinks (record { receivers = h .links .receivers; turn = record { number = 0; alert = i; count = c }; lines = 0 })
+    (withAlerts (record { regwen = replicate 248 0; en = replicate 248 1; class = h .alerts .class; cause = h .alerts .cause }) h))
 
-abbrev asksRaised : ℕ → Input
-asksRaised a = asking a (wire 0) (ones - wire 0) none
+abbrev cause : ℕ → ℕ → List Input → ℕ
+cause i c xs = value (run (pinging i c (ready 9)) xs) (Alert Field.Cause 0)
 
-abbrev cause : List Input → ℕ
-cause xs = value (run (ready 9) xs) (Alert Field.Cause 0)
-
--- "A rise taken while a ping is open answers and closes it and is no event", in the tick of the asking too; "any other is one event"
-answers : (cause (asks (wire 0) ∷ raise 0 none ∷ []) ≡ 0)
-    × (cause (asksRaised (wire 0) ∷ []) ≡ 0)
-    × (cause (asks (wire 0) ∷ raise 0 none ∷ pause ++ raise 0 none ∷ []) ≡ 1)
-    × (cause (asksRaised (wire 1) ∷ []) ≡ 1)
-    × (cause (raise 0 none ∷ asks (wire 0) ∷ []) ≡ 1)
+-- "A rise taken while a ping is open answers and closes it and is no event", in the tick that opens it too; "any other is one event"
+answers : (cause 0 0 (rest none ∷ raise 0 none ∷ []) ≡ 0)
+    × (cause 0 0 (raise 0 none ∷ []) ≡ 0)
+    × (cause 0 0 (rest none ∷ raise 0 none ∷ pause ++ raise 0 none ∷ []) ≡ 1)
+    × (cause 1 0 (raise 0 none ∷ []) ≡ 1)
+    × (cause 0 1 (raise 0 none ∷ rest none ∷ []) ≡ 1)
 unfolding rules
 answers = (refl, refl, refl, refl, refl)
 
@@ -79,23 +80,27 @@ pings h xs = let r = run h xs .links .receivers in r .level ∷ r .pending ∷ [
 abbrev first : ℕ → List ℕ
 first x = x ∷ 0 ∷ 0 ∷ 0 ∷ []
 
--- "Asking changes the ping pair's level and opens a ping"; "while one is open .. it does nothing"; after the answer the next changes it back
-asked : (pings (ready 9) (asks (wire 0) ∷ []) ≡ first (2 ^ 63) ∷ first (2 ^ 63) ∷ [])
-    × (pings (ready 9) (asks (wire 0) ∷ asks (wire 0) ∷ []) ≡ first (2 ^ 63) ∷ first (2 ^ 63) ∷ [])
-    × (pings (ready 9) (asks (wire 0) ∷ bothHigh 0 none ∷ []) ≡ first (2 ^ 63) ∷ first (2 ^ 63) ∷ [])
-    × (pings (ready 9) (asks (wire 0) ∷ raise 0 none ∷ []) ≡ first (2 ^ 63) ∷ first 0 ∷ [])
-    × (pings (ready 9) (asks (wire 0) ∷ raise 0 none ∷ asks (wire 0) ∷ []) ≡ first 0 ∷ first (2 ^ 63) ∷ [])
-    × (pings (ready 9) (raise 0 none ∷ asksRaised (wire 0) ∷ []) ≡ first (2 ^ 63) ∷ first (2 ^ 63) ∷ [])
-unfolding rules
-asked = (refl, refl, refl, refl, refl, refl)
+-- line 0's ping, which comes between two of alerts, is answered in the tick that opens it
+abbrev answered : Input
+answered = timing 0 1 0 ones none
 
--- several in one tick, each alert's its own; "or at N and above, it does nothing"; a disabled alert's too
-several : (pings (ready 9) (asks (wire 0 + wire 1) ∷ []) ≡ first (2 ^ 63 + 2 ^ 62) ∷ first (2 ^ 63 + 2 ^ 62) ∷ [])
-    × (pings (ready 9) (asks (wire 0 + wire 1) ∷ raise 0 none ∷ []) ≡ first (2 ^ 63 + 2 ^ 62) ∷ first (2 ^ 62) ∷ [])
-    × (pings (ready 9) (asks (wire 2 + wire 64 + wire 247 + wire 255) ∷ []) ≡ first 0 ∷ first 0 ∷ [])
-    × (pings (newHandler 1) (asks (wire 0) ∷ raise 0 none ∷ []) ≡ first (2 ^ 63) ∷ first 0 ∷ [])
+-- "A ping opens as an asked one did": "Asking changes the ping pair's level and opens a ping"; it stays open; after the answer the next changes it back
+asked : (pings (pinging 0 1 (ready 9)) (rest none ∷ []) ≡ first 0 ∷ first 0 ∷ [])
+    × (pings (pinging 0 0 (ready 9)) (rest none ∷ []) ≡ first (2 ^ 63) ∷ first (2 ^ 63) ∷ [])
+    × (pings (pinging 0 0 (ready 9)) (rest none ∷ rest none ∷ []) ≡ first (2 ^ 63) ∷ first (2 ^ 63) ∷ [])
+    × (pings (pinging 0 0 (ready 9)) (rest none ∷ bothHigh 0 none ∷ []) ≡ first (2 ^ 63) ∷ first (2 ^ 63) ∷ [])
+    × (pings (pinging 0 0 (ready 9)) (rest none ∷ raise 0 none ∷ []) ≡ first (2 ^ 63) ∷ first 0 ∷ [])
+    × (pings (pinging 0 0 (ready 9)) (rest none ∷ raise 0 none ∷ answered ∷ rest none ∷ []) ≡ first 0 ∷ first (2 ^ 63) ∷ [])
+    × (pings (pinging 0 1 (ready 9)) (raise 0 none ∷ raise 0 none ∷ []) ≡ first (2 ^ 63) ∷ first (2 ^ 63) ∷ [])
 unfolding rules
-several = (refl, refl, refl, refl)
+asked = (refl, refl, refl, refl, refl, refl, refl)
+
+-- each alert's its own; at N and above none opens
+several : (pings (pinging 1 0 (ready 9)) (rest none ∷ []) ≡ first (2 ^ 62) ∷ first (2 ^ 62) ∷ [])
+    × (pings (pinging 1 0 (ready 9)) (rest none ∷ raise 0 none ∷ []) ≡ first (2 ^ 62) ∷ first (2 ^ 62) ∷ [])
+    × (map (λ i. pings (pinging i 0 (ready 9)) (rest none ∷ [])) (2 ∷ 64 ∷ 247 ∷ 255 ∷ []) ≡ replicate 4 (first 0 ∷ first 0 ∷ []))
+unfolding rules
+several = (refl, refl, refl)
 
 -- ── each alert at its own place of its own word, in each of the four; steps 1 to 4 alone, since refusal 7's look at 248 entries is no matter here ──
 
@@ -116,14 +121,17 @@ theirWords =
     ∷ (0 ∷ 0 ∷ 0 ∷ 2 ^ 8 ∷ [])
     ∷ []
 
+abbrev withReceivers : Receivers → Handler → Handler
+withReceivers r h = withLinks (record { receivers = r; turn = h .links .turn; lines = h .links .lines }) h
+
 -- a handler of 248 alerts with these words for where the receivers stand
 abbrev standing : List ℕ → List ℕ → Handler
-standing p b = withLinks (record { receivers = record { pausing = p; busy = b; level = zeros; pending = zeros } }) (newHandler 248)
+standing p b = withReceivers (record { pausing = p; busy = b; level = zeros; pending = zeros }) (newHandler 248)
 
--- a rise, a drop, an asking; levels are in PairExamples
+-- a rise, a drop, a ping; levels are in PairExamples
 places : (map (λ i. after (newHandler 248) (raise i none) .links .receivers .busy) alerts ≡ theirWords)
     × (map (λ w. after (standing zeros w) (rest none) .links .receivers .pausing) theirWords ≡ theirWords)
-    × (map (λ i. after (newHandler 248) (asks (wire i)) .links .receivers .pending) alerts ≡ theirWords)
+    × (map (λ i. after (pinging i 0 (newHandler 248)) (rest none) .links .receivers .pending) alerts ≡ theirWords)
 unfolding rules
 places = (refl, refl, refl)
 
@@ -134,26 +142,27 @@ together :
 unfolding rules
 together = refl
 
--- ── at reset every bit is 0; what is at N and above stays: N is 2, and all bits of all words are 1 ──
+-- ── at reset every bit is 0; what is at N and above stays: N is 2, and all bits of all words are 1, but that no ping below N is open ──
 
 abbrev all : List ℕ
 all = replicate 4 (2 ^ 64 - 1)
 
-abbrev stuffed : Handler
-stuffed = withLinks (record { receivers = record { pausing = all; busy = all; level = all; pending = all } }) (newHandler 2)
-
--- the words with alerts 0 and 1 at 0, and at 1
+-- the words with alerts 0 and 1 at 0
 abbrev butTwo : List ℕ
 butTwo = (2 ^ 62 - 1) ∷ (2 ^ 64 - 1) ∷ (2 ^ 64 - 1) ∷ (2 ^ 64 - 1) ∷ []
 
+abbrev stuffed : Handler
+stuffed = withReceivers (record { pausing = all; busy = all; level = all; pending = butTwo }) (newHandler 2)
+
+-- and at 1
 abbrev onlyTwo : List ℕ
 onlyTwo = first (2 ^ 64 - 2 ^ 62)
 
 above : (rows (newHandler 0) ≡ replicate 4 zeros)
     × (rows (newHandler 248) ≡ replicate 4 zeros)
-    × (rows (run stuffed (rest none ∷ [])) ≡ all ∷ butTwo ∷ all ∷ all ∷ [])
-    × (rows (run stuffed (asking ones ones 0 none ∷ [])) ≡ all ∷ butTwo ∷ all ∷ all ∷ [])
+    × (rows (run stuffed (rest none ∷ [])) ≡ all ∷ butTwo ∷ all ∷ butTwo ∷ [])
+    × (rows (run (pinging 2 0 stuffed) (wired ones 0 none ∷ [])) ≡ all ∷ butTwo ∷ all ∷ butTwo ∷ [])
     × (rows (run stuffed (rest none ∷ rest none ∷ wired ones 0 none ∷ [])) ≡ butTwo ∷ all ∷ all ∷ butTwo ∷ [])
-    × (rows (run (newHandler 2) (asking ones ones 0 none ∷ [])) ≡ zeros ∷ onlyTwo ∷ onlyTwo ∷ zeros ∷ [])
+    × (rows (run (pinging 0 0 (newHandler 2)) (wired ones 0 none ∷ [])) ≡ zeros ∷ onlyTwo ∷ first (2 ^ 63) ∷ zeros ∷ [])
 unfolding rules
 above = (refl, refl, refl, refl, refl, refl)

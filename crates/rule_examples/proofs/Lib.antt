@@ -1,6 +1,10 @@
 pub mod SampleExamples
 pub mod HandshakeExamples
 pub mod PairExamples
+pub mod PingScenes
+pub mod PingTurnExamples
+pub mod PingFailExamples
+pub mod PingStateExamples
 pub mod PhaseExamples
 pub mod StageExamples
 pub mod ShadowRegisterExamples

@@ -11,16 +11,20 @@ use Rattle.rules.specs.declared.Handler.{Handler}
 use Rattle.rules.specs.declared.Input.{Input}
 use Rattle.rules.specs.declared.Ticked.{Ticked}
 use Rattle.rules.specs.declared.Wires.{Wires}
-use Rattle.rules.specs.Scenes.{ones, asking, wire, rest, raise, bothHigh, bothLow, none}
+use Rattle.rules.specs.Scenes.{ones, timing, rest, raise, bothHigh, bothLow, none}
 use Rattle.rules.proofs.Scenes.{rules, zeros, ready}
+use Rattle.rule_examples.proofs.HandshakeExamples.{pinging}
 
 -- ── in time: 1 where alert 0's pair is (1,0), tick by tick ──
 
-abbrev acknowledged : List Input → List ℕ
-acknowledged xs = map (λ (t : Ticked). getD (t .output .acknowledge .pos) 0 0 / 2 ^ 63) (ticks (ready 9) xs)
+abbrev acknowledgedFrom : Handler → List Input → List ℕ
+acknowledgedFrom h xs = map (λ (t : Ticked). getD (t .output .acknowledge .pos) 0 0 / 2 ^ 63) (ticks h xs)
 
-abbrev pinged : List Input → List ℕ
-pinged xs = map (λ (t : Ticked). getD (t .output .ping .pos) 0 0 / 2 ^ 63) (ticks (ready 9) xs)
+abbrev pingedFrom : Handler → List Input → List ℕ
+pingedFrom h xs = map (λ (t : Ticked). getD (t .output .ping .pos) 0 0 / 2 ^ 63) (ticks h xs)
+
+abbrev acknowledged : List Input → List ℕ
+acknowledged xs = acknowledgedFrom (ready 9) xs
 
 -- "alert raised, acknowledged in the next tick, alert dropped, acknowledgement dropped in the next"
 acknowledges : (acknowledged (raise 0 none ∷ raise 0 none ∷ rest none ∷ rest none ∷ rest none ∷ []) ≡ 0 ∷ 1 ∷ 1 ∷ 0 ∷ 0 ∷ [])
@@ -34,12 +38,10 @@ due : (acknowledged (raise 0 none ∷ bothHigh 0 none ∷ raise 0 none ∷ []) �
 unfolding rules
 due = (refl, refl)
 
--- "Asking changes the ping pair's level", in its own tick; a second asking does nothing until the first is answered; an answer is acknowledged too
-abbrev asks : Input
-asks = asking (wire 0) 0 ones none
-
-levels : (pinged (rest none ∷ asks ∷ asks ∷ raise 0 none ∷ asks ∷ rest none ∷ []) ≡ 0 ∷ 1 ∷ 1 ∷ 1 ∷ 0 ∷ 0 ∷ [])
-    × (acknowledged (asks ∷ raise 0 none ∷ rest none ∷ rest none ∷ []) ≡ 0 ∷ 0 ∷ 1 ∷ 0 ∷ [])
+-- request (ix), "A ping opens as an asked one did": "Asking changes the ping pair's level", in its own tick, and the alert's next ping, after line 0's,
+-- changes it back; an answer is acknowledged too
+levels : (pingedFrom (pinging 0 1 (ready 9)) (rest none ∷ rest none ∷ rest none ∷ raise 0 none ∷ timing 0 1 0 ones none ∷ rest none ∷ []) ≡ 0 ∷ 1 ∷ 1 ∷ 1 ∷ 1 ∷ 0 ∷ [])
+    × (acknowledgedFrom (pinging 0 0 (ready 9)) (rest none ∷ raise 0 none ∷ rest none ∷ rest none ∷ []) ≡ 0 ∷ 0 ∷ 1 ∷ 0 ∷ [])
 unfolding rules
 levels = (refl, refl)
 
@@ -69,7 +71,7 @@ theirPairs =
     ∷ [])
 
 places : (map (λ i. acknowledgePairs (after (newHandler 248) (raise i none))) alerts ≡ theirPairs)
-    × (map (λ i. pingPairs (after (newHandler 248) (asking (wire i) 0 ones none))) alerts ≡ theirPairs)
+    × (map (λ i. pingPairs (after (pinging i 0 (newHandler 248)) (rest none))) alerts ≡ theirPairs)
 unfolding rules
 places = (refl, refl)
 
@@ -84,7 +86,8 @@ at-reset = (refl, refl, refl)
 abbrev stuffed : ℕ → Handler
 stuffed n =
     let all = replicate 4 (2 ^ 64 - 1) in
-    withLinks (record { receivers = record { pausing = zeros; busy = all; level = all; pending = zeros } }) (newHandler n)
+    let h = newHandler n in
+    withLinks (record { receivers = record { pausing = zeros; busy = all; level = all; pending = zeros }; turn = h .links .turn; lines = h .links .lines }) h
 
 above : (acknowledgePairs (stuffed 2) ≡ pairOf ((2 ^ 63 + 2 ^ 62) ∷ 0 ∷ 0 ∷ 0 ∷ []))
     × (pingPairs (stuffed 2) ≡ pairOf ((2 ^ 63 + 2 ^ 62) ∷ 0 ∷ 0 ∷ 0 ∷ []))

@@ -30,6 +30,7 @@ every =
       classes = classCodes 3000 ∷ classCodes 3100 ∷ classCodes 3200 ∷ classCodes 3300 ∷ [];
       alerts = record { en = each 248 (λ i. 1000 + i); class = each 248 (λ i. 2000 + i) };
       locals = record { en = each 7 (λ i. 100 + i); class = each 7 (λ i. 200 + i) };
+      timeout = 300;
     }
 
 -- by document 01's numbers, as request (iii) moved them
@@ -38,9 +39,10 @@ stands : (map (λ r. stageIn every (decode 248 r)) (24 ∷ 30 ∷ 32 ∷ 38 ∷ 
     × (map (λ r. stageIn every (decode 248 r)) (1281 ∷ 1285 ∷ 1286 ∷ 1287 ∷ 1288 ∷ 1289 ∷ 1290 ∷ []) ≡ each 7 (λ i. 3001 + i))
     × (map (λ r. stageIn every (decode 248 r)) (1329 ∷ 1333 ∷ 1334 ∷ 1335 ∷ 1336 ∷ 1337 ∷ 1338 ∷ []) ≡ each 7 (λ i. 3301 + i))
     × (map (stageIn every) (Only IntrState ∷ Only IntrEnable ∷ Only IntrTest ∷ Unassigned ∷ []) ≡ replicate 4 0)
+    × (map (λ r. stageIn every (decode 248 r)) (4 ∷ 5 ∷ 6 ∷ []) ≡ 0 ∷ 300 ∷ 0 ∷ [])
     × (map (λ r. stageIn every (decode 248 r)) (16 ∷ 40 ∷ 256 ∷ 1024 ∷ 1280 ∷ 1282 ∷ 1283 ∷ 1284 ∷ 1291 ∷ 1292 ∷ []) ≡ replicate 10 0)
 unfolding rules
-stands = (refl, refl, refl, refl, refl, refl)
+stands = (refl, refl, refl, refl, refl, refl, refl)
 
 -- ── a code put at one register, in raw fields ──
 
@@ -68,11 +70,13 @@ classes-put : (puts 1281 9 .classes ≡ set (replicate 4 none) 0 (record { lengt
     × (puts 1338 9 .classes ≡ set (replicate 4 none) 3 (record { lengths = 0 ∷ 0 ∷ 0 ∷ 9 ∷ []; timeout = 0; ctrl = 0; thresh = 0 }))
     × (puts 1338 9 .alerts ≡ noStages .alerts)
     × (puts 1338 9 .locals ≡ noStages .locals)
+    × (map (λ r. puts r 9 .timeout) (5 ∷ 512 ∷ 24 ∷ 1338 ∷ []) ≡ 9 ∷ 0 ∷ 0 ∷ 0 ∷ [])
+    × (puts 5 9 .classes ≡ noStages .classes)
 unfolding rules
-classes-put = (refl, refl, refl, refl, refl, refl, refl)
+classes-put = (refl, refl, refl, refl, refl, refl, refl, refl, refl)
 
 -- a register that is not shadowed has no place for one
-not-shadowed : map (λ r. puts r 9) (0 ∷ 1 ∷ 2 ∷ 3 ∷ 16 ∷ 40 ∷ 256 ∷ 1024 ∷ 1280 ∷ 1282 ∷ 1283 ∷ 1284 ∷ 1291 ∷ 1292 ∷ []) ≡ replicate 14 noStages
+not-shadowed : map (λ r. puts r 9) (0 ∷ 1 ∷ 2 ∷ 3 ∷ 4 ∷ 6 ∷ 16 ∷ 40 ∷ 256 ∷ 1024 ∷ 1280 ∷ 1282 ∷ 1283 ∷ 1284 ∷ 1291 ∷ 1292 ∷ []) ≡ replicate 16 noStages
 unfolding rules
 not-shadowed = refl
 
@@ -109,8 +113,8 @@ covers : (map (λ r. valid (holding r 2)) (24 ∷ 30 ∷ 512 ∷ 516 ∷ []) ≡
     × (map (λ r. valid (holding r 5)) (32 ∷ 38 ∷ 768 ∷ 772 ∷ []) ≡ replicate 4 false)
     × (map (λ k. valid (holding (1281 + k) (2 ^ 14))) (0 ∷ 16 ∷ 32 ∷ 48 ∷ []) ≡ replicate 4 true)
     × (map (λ k. valid (holding (1281 + k) (2 ^ 14 + 1))) (0 ∷ 16 ∷ 32 ∷ 48 ∷ []) ≡ replicate 4 false)
-    × (valid (holding 1285 (2 ^ 16)) ≡ true)
-    × (valid (holding 1333 (2 ^ 16 + 1)) ≡ false)
+    × (map (λ r. valid (holding r (2 ^ 16))) (5 ∷ 1285 ∷ []) ≡ replicate 2 true)
+    × (map (λ r. valid (holding r (2 ^ 16 + 1))) (5 ∷ 1333 ∷ []) ≡ replicate 2 false)
     × (map (λ o. valid (holding (1328 + o) (2 ^ 32))) (6 ∷ 7 ∷ 8 ∷ 9 ∷ 10 ∷ []) ≡ replicate 5 true)
     × (map (λ o. valid (holding (1328 + o) (2 ^ 32 + 1))) (6 ∷ 7 ∷ 8 ∷ 9 ∷ 10 ∷ []) ≡ replicate 5 false)
     × (map (λ k. map (λ o. valid (holding (1285 + k + o) (2 ^ 32 + 1))) (0 ∷ 1 ∷ 2 ∷ 3 ∷ 4 ∷ 5 ∷ [])) (0 ∷ 16 ∷ 32 ∷ []) ≡ replicate 3 (replicate 6 false))
@@ -137,7 +141,7 @@ fullClass regwen =
       state = 7;
     }
 
--- request (viii): any bits are receivers
+-- request (viii): any bits are receivers; request (ix): of the open pings below N only that of the turn's alert, 4
 abbrev ones64 : List ℕ
 ones64 = replicate 4 (2 ^ 64 - 1)
 
@@ -145,16 +149,23 @@ abbrev full : ℕ → Handler
 full regwen =
     record {
       n = 5;
-      links = record { receivers = record { pausing = ones64; busy = ones64; level = ones64; pending = ones64 } };
+      links =
+          record {
+            receivers = record { pausing = ones64; busy = ones64; level = ones64; pending = set ones64 0 (2 ^ 60 - 1) };
+            turn = record { number = 254; alert = 4; count = 65535 };
+            lines = 2 ^ 32 - 16;
+          };
       classes = replicate 4 (fullClass regwen);
       alerts = record { regwen = replicate 248 regwen; en = replicate 248 1; class = replicate 248 3; cause = replicate 248 1 };
       locals = record { regwen = replicate 7 regwen; en = replicate 7 1; class = replicate 7 3; cause = replicate 7 1 };
       interrupts = record { state = 15; enable = 15 };
+      timer = record { timeout = 65535; regwen = regwen; enable = 1 };
       stages =
           record {
             classes = replicate 4 (record { lengths = replicate 4 (2 ^ 32); timeout = 2 ^ 32; ctrl = 2 ^ 14; thresh = 2 ^ 16 });
             alerts = record { en = replicate 248 2; class = replicate 248 4 };
             locals = record { en = replicate 7 2; class = replicate 7 4 };
+            timeout = 2 ^ 16;
           };
     }
 

@@ -80,7 +80,7 @@ intr = (refl, refl, refl, refl, refl)
 
 -- "In CAUSE a written 1 clears": a 0 leaves it
 abbrev caused : Handler
-caused = sampled (ready 9) (heard (ready 9) (raise 0 Access.Nothing .sample) (record { clears = 0; raises = 0 }))
+caused = sampled (ready 9) (heard (ready 9) (raise 0 Access.Nothing .sample) (record { clears = 0; raises = 0; begins = false }))
 
 cause : (reads caused 1024 ≡ pos 1) × (reads (acted caused (Access.Write 1024 0)) 1024 ≡ pos 1) × (reads (acted caused (Access.Write 1024 1)) 1024 ≡ pos 0)
 unfolding rules

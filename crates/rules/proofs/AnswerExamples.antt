@@ -54,7 +54,7 @@ no-alerts = refl
 new : newHandler 1
     ≡ record {
       n = 1;
-      links = record { receivers = record { pausing = replicate 4 0; busy = replicate 4 0; level = replicate 4 0; pending = replicate 4 0 } };
+      links = record { receivers = record { pausing = replicate 4 0; busy = replicate 4 0; level = replicate 4 0; pending = replicate 4 0 }; turn = record { number = 0; alert = 0; count = 0 }; lines = 0 };
       classes =
           replicate 4
           (record {
@@ -71,11 +71,13 @@ new : newHandler 1
       alerts = record { regwen = replicate 248 1; en = replicate 248 0; class = replicate 248 0; cause = replicate 248 0 };
       locals = record { regwen = replicate 7 1; en = replicate 7 0; class = replicate 7 0; cause = replicate 7 0 };
       interrupts = record { state = 0; enable = 0 };
+      timer = record { timeout = 0; regwen = 1; enable = 0 };
       stages =
           record {
             classes = replicate 4 (record { lengths = replicate 4 0; timeout = 0; ctrl = 0; thresh = 0 });
             alerts = record { en = replicate 248 0; class = replicate 248 0 };
             locals = record { en = replicate 7 0; class = replicate 7 0 };
+            timeout = 0;
           };
     }
 unfolding rules

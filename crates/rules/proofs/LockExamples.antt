@@ -2,6 +2,7 @@
 -- Assumes nothing.
 use Prim.Native.Nat.{ℕ, _+_, _*_}
 use mathlib.Core.Path.{_≡_, refl}
+use mathlib.Core.Bool.{false}
 use mathlib.Core.List.{List, [], _∷_, map}
 use lib.IntN.{pos}
 use lib.ListN.{set, replicate}
@@ -56,6 +57,7 @@ busy ctrl thresh state =
       classes = replicate 4 (record { lengths = replicate 4 10; timeout = 10; ctrl = 10; thresh = 10 });
       alerts = noStages .alerts;
       locals = noStages .locals;
+      timeout = 10;
     })
     (station 1 (replicate 248 0) (replicate 248 0) 3
     (record { lengths = replicate 4 9; timeout = 9; count = 5; ctrl = ctrl; accum = 65535; thresh = thresh; regwen = 1; clrwen = 0; state = state }))
@@ -67,7 +69,7 @@ each-state : (map (λ s. answers (busy 0x393D 65535 s) (Write 1328 0)) states �
     × (map (λ s. answers (busy 0x393D 65534 s) (Write 1328 0)) states ≡ replicate 7 (pos 0))
     × (map (λ s. answers (busy 0x393C 65535 s) (Write 1328 0)) states ≡ replicate 7 (pos 0))
     × (acted (busy 0x393D 65535 4) (Write 1328 0) ≡ busy 0x393D 65535 4)
-    × (effects (busy 0x393D 65535 4) (Write 1328 0) ≡ record { clears = 0; raises = 0 })
+    × (effects (busy 0x393D 65535 4) (Write 1328 0) ≡ record { clears = 0; raises = 0; begins = false })
 unfolding rules
 each-state = (refl, refl, refl, refl, refl)
 

@@ -11,19 +11,20 @@ use Rattle.rules.specs.declared.Register.{Register}
 use Rattle.rules.specs.declared.Register.the-variants.{Only, Local, Alert, Block, Unassigned}
 use Rattle.rules.specs.declared.Setting.{Setting}
 use Rattle.rules.specs.declared.Setting.the-variants.{Ctrl, ClrRegwen, Clr, AccumCnt, AccumThresh, TimeoutCyc, PhaseCyc, EscCnt}
-use Rattle.rules.specs.declared.Single.the-variants.{IntrState, IntrEnable, IntrTest}
-use Rattle.rules.specs.declared.Way.the-variants.{Both, OneClears, ReadOnly, WriteOnly}
+use Rattle.rules.specs.declared.Single.the-variants.{IntrState, IntrEnable, IntrTest, PingRegwen, PingTimeout, PingEnable}
+use Rattle.rules.specs.declared.Way.the-variants.{Both, OneClears, OneSets, ReadOnly, WriteOnly}
 use Rattle.rules.proofs.Scenes.{rules}
 
 -- the table's first column, at the ends of each range
 fixed : (map (decode 248) (0 ∷ 1 ∷ 2 ∷ []) ≡ Only IntrState ∷ Only IntrEnable ∷ Only IntrTest ∷ [])
+    × (map (decode 0) (4 ∷ 5 ∷ 6 ∷ []) ≡ Only PingRegwen ∷ Only PingTimeout ∷ Only PingEnable ∷ [])
     × (map (decode 248) (16 ∷ 22 ∷ 24 ∷ 30 ∷ []) ≡ Local Field.Regwen 0 ∷ Local Field.Regwen 6 ∷ Local Field.En 0 ∷ Local Field.En 6 ∷ [])
     × (map (decode 248) (32 ∷ 38 ∷ 40 ∷ 46 ∷ []) ≡ Local Field.Class 0 ∷ Local Field.Class 6 ∷ Local Field.Cause 0 ∷ Local Field.Cause 6 ∷ [])
     × (map (decode 248) (256 ∷ 503 ∷ 512 ∷ 759 ∷ []) ≡ Alert Field.Regwen 0 ∷ Alert Field.Regwen 247 ∷ Alert Field.En 0 ∷ Alert Field.En 247 ∷ [])
     × (map (decode 248) (768 ∷ 1015 ∷ 1024 ∷ 1271 ∷ [])
     ≡ Alert Field.Class 0 ∷ Alert Field.Class 247 ∷ Alert Field.Cause 0 ∷ Alert Field.Cause 247 ∷ [])
 unfolding rules
-fixed = (refl, refl, refl, refl, refl)
+fixed = (refl, refl, refl, refl, refl, refl)
 
 abbrev block : ℕ → List Register
 block k = map (λ o. decode 1 (1280 + 16 * k + o)) (0 ∷ 1 ∷ 2 ∷ 3 ∷ 4 ∷ 5 ∷ 6 ∷ 7 ∷ 8 ∷ 9 ∷ 10 ∷ 11 ∷ 12 ∷ 13 ∷ 15 ∷ [])
@@ -53,8 +54,8 @@ unfolding rules
 blocks = (refl, refl, refl, refl)
 
 -- "all other numbers are unassigned. Alert i exists for i below N"
-unassigned : (map (λ r. isRegister (decode 248 r)) (3 ∷ 15 ∷ 23 ∷ 31 ∷ 39 ∷ 47 ∷ 63 ∷ 64 ∷ 255 ∷ 504 ∷ 760 ∷ 1016 ∷ 1272 ∷ 1344 ∷ 2047 ∷ [])
-    ≡ replicate 15 false)
+unassigned : (map (λ r. isRegister (decode 248 r)) (3 ∷ 7 ∷ 15 ∷ 23 ∷ 31 ∷ 39 ∷ 47 ∷ 63 ∷ 64 ∷ 255 ∷ 504 ∷ 760 ∷ 1016 ∷ 1272 ∷ 1344 ∷ 2047 ∷ [])
+    ≡ replicate 16 false)
     × (map (λ r. isRegister (decode 5 r)) (260 ∷ 261 ∷ 516 ∷ 517 ∷ 772 ∷ 773 ∷ 1028 ∷ 1029 ∷ [])
     ≡ true ∷ false ∷ true ∷ false ∷ true ∷ false ∷ true ∷ false ∷ [])
     × (map (λ r. isRegister (decode 0 r)) (256 ∷ 512 ∷ 768 ∷ 1024 ∷ []) ≡ false ∷ false ∷ false ∷ false ∷ [])
@@ -65,18 +66,19 @@ unassigned : (map (λ r. isRegister (decode 248 r)) (3 ∷ 15 ∷ 23 ∷ 31 ∷ 
 unfolding rules
 unassigned = (refl, refl, refl, refl, refl)
 
+-- the single registers, request (ix)'s three last
+abbrev singles : {A : Type 0} → (Register → A) → List A
+singles f = map f (Only IntrState ∷ Only IntrEnable ∷ Only IntrTest ∷ Only PingRegwen ∷ Only PingTimeout ∷ Only PingEnable ∷ [])
+
 -- a register's number in the table's own form
-numbered : (map numberOf (Only IntrState ∷ Only IntrEnable ∷ Only IntrTest ∷ []) ≡ 0 ∷ 1 ∷ 2 ∷ [])
+numbered : (singles numberOf ≡ 0 ∷ 1 ∷ 2 ∷ 4 ∷ 5 ∷ 6 ∷ [])
     × (map (λ f. numberOf (Local f 5)) (Field.Regwen ∷ Field.En ∷ Field.Class ∷ Field.Cause ∷ []) ≡ 21 ∷ 29 ∷ 37 ∷ 45 ∷ [])
     × (map (λ f. numberOf (Alert f 5)) (Field.Regwen ∷ Field.En ∷ Field.Class ∷ Field.Cause ∷ []) ≡ 261 ∷ 517 ∷ 773 ∷ 1029 ∷ [])
     × (map numberOf (blockOf 2) ≡ 1312 ∷ 1313 ∷ 1314 ∷ 1315 ∷ 1316 ∷ 1317 ∷ 1318 ∷ 1319 ∷ 1320 ∷ 1321 ∷ 1322 ∷ 1323 ∷ 1324 ∷ 3 ∷ 3 ∷ [])
 unfolding rules
 numbered = (refl, refl, refl, refl)
 
--- ── the columns, of the three single registers, at both ends of each range of local alerts and alerts, and in the block of every class ──
-
-abbrev singles : {A : Type 0} → (Register → A) → List A
-singles f = map f (Only IntrState ∷ Only IntrEnable ∷ Only IntrTest ∷ [])
+-- ── the columns, of the single registers, at both ends of each range of local alerts and alerts, and in the block of every class ──
 
 abbrev ends : {A : Type 0} → (Register → A) → List A
 ends f =
@@ -91,15 +93,15 @@ abbrev inBlocks : {A : Type 0} → (Register → A) → List (List A)
 inBlocks f = map (λ (k : ℕ). map f (blockOf k)) (0 ∷ 1 ∷ 2 ∷ 3 ∷ [])
 
 -- the table's last column
-widths : (singles bits ≡ 4 ∷ 4 ∷ 4 ∷ [])
+widths : (singles bits ≡ 4 ∷ 4 ∷ 4 ∷ 1 ∷ 16 ∷ 1 ∷ [])
     × (ends bits ≡ byField 1 1 2 1)
     × (inBlocks bits ≡ replicate 4 (1 ∷ 14 ∷ 1 ∷ 1 ∷ 16 ∷ 16 ∷ 32 ∷ 32 ∷ 32 ∷ 32 ∷ 32 ∷ 32 ∷ 3 ∷ 0 ∷ 0 ∷ []))
 unfolding rules
 widths = (refl, refl, refl)
 
 -- "write only": INTR_TEST, CLR; "read only": ACCUM_CNT, ESC_CNT, STATE
-ways : (singles writeOnly ≡ false ∷ false ∷ true ∷ [])
-    × (singles readOnly ≡ replicate 3 false)
+ways : (singles writeOnly ≡ false ∷ false ∷ true ∷ false ∷ false ∷ false ∷ [])
+    × (singles readOnly ≡ replicate 6 false)
     × (ends writeOnly ≡ replicate 16 false)
     × (ends readOnly ≡ replicate 16 false)
     × (inBlocks writeOnly
@@ -111,8 +113,8 @@ ways : (singles writeOnly ≡ false ∷ false ∷ true ∷ [])
 unfolding rules
 ways = (refl, refl, refl, refl, refl, refl)
 
--- "a 1 clears": INTR_STATE, CAUSE
-way-column : (singles (λ q. row q .way) ≡ OneClears ∷ Both ∷ WriteOnly ∷ [])
+-- "a 1 clears": INTR_STATE, CAUSE; "a written 0 does nothing": the ping timer's enable
+way-column : (singles (λ q. row q .way) ≡ OneClears ∷ Both ∷ WriteOnly ∷ Both ∷ Both ∷ OneSets ∷ [])
     × (ends (λ q. row q .way) ≡ byField Both Both Both OneClears)
     × (inBlocks (λ q. row q .way)
     ≡ replicate 4
@@ -121,7 +123,7 @@ unfolding rules
 way-column = (refl, refl, refl)
 
 -- steps 2 to 4 set causes and interrupt bits, count, move states and lock CLR
-moved : (singles (λ q. row q .moves) ≡ true ∷ false ∷ false ∷ [])
+moved : (singles (λ q. row q .moves) ≡ true ∷ false ∷ false ∷ false ∷ false ∷ false ∷ [])
     × (ends (λ q. row q .moves) ≡ byField false false false true)
     × (inBlocks (λ q. row q .moves)
     ≡ replicate 4
@@ -130,18 +132,18 @@ unfolding rules
 moved = (refl, refl, refl)
 
 -- "Alert and local REGWEN guard their EN and CLASS; class REGWEN guards CTRL, ACCUM_THRESH, TIMEOUT_CYC and the phase lengths; CLR_REGWEN
--- guards CLR", by number: 3 where nothing guards; a is the number of the class's REGWEN and b of its CLR_REGWEN
+-- guards CLR", and request (ix)'s 4 locks 5 and 6, by number: 3 where nothing guards; a is the number of the class's REGWEN and b of its CLR_REGWEN
 abbrev guardsBy : ℕ → ℕ → List ℕ
 guardsBy a b = a ∷ a ∷ b ∷ b ∷ 3 ∷ a ∷ a ∷ a ∷ a ∷ a ∷ a ∷ 3 ∷ 3 ∷ 3 ∷ 3 ∷ []
 
-guards : (singles (λ q. numberOf (guard q)) ≡ replicate 3 3)
+guards : (singles (λ q. numberOf (guard q)) ≡ 3 ∷ 3 ∷ 3 ∷ 4 ∷ 4 ∷ 4 ∷ [])
     × (ends (λ q. numberOf (guard q)) ≡ 16 ∷ 22 ∷ 16 ∷ 22 ∷ 16 ∷ 22 ∷ 3 ∷ 3 ∷ 256 ∷ 503 ∷ 256 ∷ 503 ∷ 256 ∷ 503 ∷ 3 ∷ 3 ∷ [])
     × (inBlocks (λ q. numberOf (guard q)) ≡ guardsBy 1280 1282 ∷ guardsBy 1296 1298 ∷ guardsBy 1312 1314 ∷ guardsBy 1328 1330 ∷ [])
 unfolding rules
 guards = (refl, refl, refl)
 
--- request (v): "EN and CLASS of alerts and local alerts, and CTRL, ACCUM_THRESH, TIMEOUT_CYC and the phase lengths"
-shadowed : (singles isShadowed ≡ replicate 3 false)
+-- request (v): "EN and CLASS of alerts and local alerts, and CTRL, ACCUM_THRESH, TIMEOUT_CYC and the phase lengths"; request (ix): "5 is shadowed"
+shadowed : (singles isShadowed ≡ false ∷ false ∷ false ∷ false ∷ true ∷ false ∷ [])
     × (isShadowed Unassigned ≡ false)
     × (ends isShadowed ≡ byField false true true false)
     × (inBlocks isShadowed
@@ -151,7 +153,7 @@ unfolding rules
 shadowed = (refl, refl, refl, refl)
 
 -- the REGWEN and CLR_REGWEN
-lock-registers : (singles isLock ≡ replicate 3 false)
+lock-registers : (singles isLock ≡ false ∷ false ∷ false ∷ true ∷ false ∷ false ∷ [])
     × (ends isLock ≡ byField true false false false)
     × (inBlocks isLock
     ≡ replicate 4

@@ -3,6 +3,7 @@
 -- Assumes nothing.
 use Prim.Native.Nat.{ℕ}
 use mathlib.Core.Path.{_≡_, refl}
+use mathlib.Core.Bool.{false}
 use mathlib.Core.List.{List, [], _∷_, map}
 use lib.IntN.{ℤ, pos}
 use Rattle.rules.specs.Access.{value, acted, accessed}
@@ -116,7 +117,7 @@ local-5 : (holds (watched 1) (Write 1285 7 ∷ Write 1285 8 ∷ []) (Local Field
     × (holds (watched 1) (Write 1285 7 ∷ Write 1285 8 ∷ []) (Block Setting.State 1) ≡ 4)
     × (holds (watched 1) (Write 1285 7 ∷ Write 1285 8 ∷ none ∷ none ∷ []) (Block AccumCnt 1) ≡ 1)
     × (run (watched 1) (map rest (Write 1285 7 ∷ Write 1285 8 ∷ [])) .locals .cause ≡ 0 ∷ 0 ∷ 0 ∷ 0 ∷ 0 ∷ 1 ∷ 0 ∷ [])
-    × (accessed (acts (watched 1) (Write 1285 7 ∷ [])) (Write 1285 8) .effects ≡ record { clears = 0; raises = 32 })
+    × (accessed (acts (watched 1) (Write 1285 7 ∷ [])) (Write 1285 8) .effects ≡ record { clears = 0; raises = 32; begins = false })
 unfolding rules
 local-5 = (refl, refl, refl, refl, refl, refl, refl)
 

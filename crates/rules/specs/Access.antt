@@ -9,9 +9,9 @@ use Rattle.bits.specs.Index.{each}
 use Rattle.class_rules.specs.Class.{noClass, en, phaseCyc}
 use Rattle.class_rules.specs.declared.Class.{Class}
 use Rattle.rules.specs.Answer.{Case, firstOf, refusalNumber}
-use Rattle.rules.specs.Map.{offset, decode, isRegister, bits, writeOnly, readOnly, guard, isLock, isShadowed}
+use Rattle.rules.specs.Map.{offset, singleNumber, decode, isRegister, bits, writeOnly, readOnly, guard, isLock, isShadowed}
 use Rattle.rules.specs.Stages.{stage, isOpen, staged, dropped}
-use Rattle.rules.specs.State.{most, localCount, classCount, local, alert, classAt, localColumn, alertColumn, withInterrupts, withLocals, withAlerts, withClasses, withStages, withLocalColumn, withAlertColumn, put}
+use Rattle.rules.specs.State.{most, localCount, classCount, local, alert, classAt, localColumn, alertColumn, withInterrupts, withLocals, withAlerts, withClasses, withStages, withTimer, withLocalColumn, withAlertColumn, put}
 use Rattle.rules.specs.declared.Access.{Access}
 use Rattle.rules.specs.declared.Access.the-variants.{Nothing, Read, Write, Malformed}
 use Rattle.rules.specs.declared.Accessed.{Accessed}
@@ -27,7 +27,8 @@ use Rattle.rules.specs.declared.Register.the-variants.{Only, Local, Aler
 use Rattle.rules.specs.declared.Setting.{Setting}
 use Rattle.rules.specs.declared.Setting.the-variants.{Ctrl, ClrRegwen, Clr, AccumCnt, AccumThresh, TimeoutCyc, PhaseCyc, EscCnt}
 use Rattle.rules.specs.declared.Single.{Single}
-use Rattle.rules.specs.declared.Single.the-variants.{IntrState, IntrEnable, IntrTest}
+use Rattle.rules.specs.declared.Single.the-variants.{IntrState, IntrEnable, IntrTest, PingRegwen, PingTimeout, PingEnable}
+use Rattle.rules.specs.declared.Timer.{Timer}
 use Rattle.rules.specs.declared.Verdict.{Verdict}
 
 -- ── what a register holds ──
@@ -44,14 +45,17 @@ settingValue (PhaseCyc p) c = phaseCyc c p
 settingValue EscCnt c = c .count
 settingValue Setting.State c = c .state
 
-abbrev pub singleValue : Single → Interrupts → ℕ
-singleValue IntrState i = i .state
-singleValue IntrEnable i = i .enable
-singleValue IntrTest i = 0
+abbrev pub singleValue : Single → Handler → ℕ
+singleValue IntrState h = h .interrupts .state
+singleValue IntrEnable h = h .interrupts .enable
+singleValue IntrTest h = 0
+singleValue PingRegwen h = h .timer .regwen
+singleValue PingTimeout h = h .timer .timeout
+singleValue PingEnable h = h .timer .enable
 
 -- INTR_TEST, CLR and what is no register hold no value
 unfoldable pub value : Handler → Register → ℕ
-value h (Only o) = singleValue o (h .interrupts)
+value h (Only o) = singleValue o h
 value h (Local f j) = local h f j
 value h (Alert f i) = alert h f i
 value h (Block s k) = settingValue s (classAt h k)
@@ -171,13 +175,25 @@ withSetting s v c =
     }
 
 -- INTR_STATE: a 1 clears; INTR_TEST: a 1 sets INTR_STATE
-abbrev pub withSingle : Single → ℕ → Interrupts → Interrupts
-withSingle IntrState v i = record { state = bitsOf 4 (λ k. bit (i .state) k && not (bit v k)); enable = i .enable }
-withSingle IntrEnable v i = record { state = i .state; enable = v }
-withSingle IntrTest v i = record { state = bitsOf 4 (λ k. bit (i .state) k || bit v k); enable = i .enable }
+abbrev pub withInterrupt : Single → ℕ → Interrupts → Interrupts
+withInterrupt IntrState v i = record { state = bitsOf 4 (λ k. bit (i .state) k && not (bit v k)); enable = i .enable }
+withInterrupt IntrEnable v i = record { state = i .state; enable = v }
+withInterrupt IntrTest v i = record { state = bitsOf 4 (λ k. bit (i .state) k || bit v k); enable = i .enable }
+withInterrupt PingRegwen v i = i
+withInterrupt PingTimeout v i = i
+withInterrupt PingEnable v i = i
+
+-- the ping timer's registers with v written at one of them; "6 (enable, 1 bit; a written 0 does nothing)"
+abbrev pub withPing : Single → ℕ → Timer → Timer
+withPing IntrState v t = t
+withPing IntrEnable v t = t
+withPing IntrTest v t = t
+withPing PingRegwen v t = record { timeout = t .timeout; regwen = v; enable = t .enable }
+withPing PingTimeout v t = record { timeout = v; regwen = t .regwen; enable = t .enable }
+withPing PingEnable v t = record { timeout = t .timeout; regwen = t .regwen; enable = cond (eqb v 0) (t .enable) v }
 
 unfoldable pub store : Handler → Register → ℕ → Handler
-store h (Only o) v = withInterrupts (withSingle o v (h .interrupts)) h
+store h (Only o) v = withTimer (withPing o v (h .timer)) (withInterrupts (withInterrupt o v (h .interrupts)) h)
 store h (Local f j) v =
     withLocals (withLocalColumn f (put localCount (localColumn f (h .locals)) 0 j (fieldStored f (local h f j) v)) (h .locals)) h
 store h (Alert f i) v =
@@ -236,6 +252,13 @@ writesClr h (Read r) k = false
 writesClr h (Write r v) k = isClrOf k (decode (h .n) r) && eqb v 1
 writesClr h Malformed k = false
 
+-- request (ix): "When 6 becomes 1": a write of 1 to it while it is 0
+abbrev pub writesEnable : Handler → Access → Bool
+writesEnable h Nothing = false
+writesEnable h (Read r) = false
+writesEnable h (Write r v) = eqb r (singleNumber PingEnable) && (eqb v 1 && eqb (h .timer .enable) 0)
+writesEnable h Malformed = false
+
 -- ── a refused access ──
 
 -- the register that an access names
@@ -259,9 +282,9 @@ raisedBy m = cond (eqb (refusalNumber m) 12) (2 ^ 5) 0
 -- what an access leaves, answers and hands to the later steps goes by its verdict
 abbrev pub accessedBy : Verdict → Handler → Access → Accessed
 accessedBy Verdict.Accepted h x =
-    record { handler = left h x; answer = given h x; effects = record { clears = bitsOf 4 (writesClr h x); raises = 0 } }
+    record { handler = left h x; answer = given h x; effects = record { clears = bitsOf 4 (writesClr h x); raises = 0; begins = writesEnable h x } }
 accessedBy (Verdict.Refused m) h x =
-    record { handler = kept m h (named h x); answer = Answer.Refused m; effects = record { clears = 0; raises = raisedBy m } }
+    record { handler = kept m h (named h x); answer = Answer.Refused m; effects = record { clears = 0; raises = raisedBy m; begins = false } }
 
 unfoldable pub accessed : Handler → Access → Accessed
 accessed h x = accessedBy (verdict h x) h x

@@ -13,9 +13,9 @@ use Rattle.rules.specs.declared.Row.{Row}
 use Rattle.rules.specs.declared.Setting.{Setting}
 use Rattle.rules.specs.declared.Setting.the-variants.{Ctrl, ClrRegwen, Clr, AccumCnt, AccumThresh, TimeoutCyc, PhaseCyc, EscCnt}
 use Rattle.rules.specs.declared.Single.{Single}
-use Rattle.rules.specs.declared.Single.the-variants.{IntrState, IntrEnable, IntrTest}
+use Rattle.rules.specs.declared.Single.the-variants.{IntrState, IntrEnable, IntrTest, PingRegwen, PingTimeout, PingEnable}
 use Rattle.rules.specs.declared.Way.{Way}
-use Rattle.rules.specs.declared.Way.the-variants.{Both, OneClears, ReadOnly, WriteOnly}
+use Rattle.rules.specs.declared.Way.the-variants.{Both, OneClears, OneSets, ReadOnly, WriteOnly}
 
 -- ── numbers ──
 
@@ -53,6 +53,9 @@ decode n r =
     cond (eqb r 0) (Only IntrState)
     (cond (eqb r 1) (Only IntrEnable)
     (cond (eqb r 2) (Only IntrTest)
+    (cond (eqb r 4) (Only PingRegwen)
+    (cond (eqb r 5) (Only PingTimeout)
+    (cond (eqb r 6) (Only PingEnable)
     (cond (within 16 7 r) (Local Field.Regwen (r - 16))
     (cond (within 24 7 r) (Local Field.En (r - 24))
     (cond (within 32 7 r) (Local Field.Class (r - 32))
@@ -61,7 +64,7 @@ decode n r =
     (cond (within (2 * stride) stride r) (alertAt n Field.En (r - 2 * stride))
     (cond (within (3 * stride) stride r) (alertAt n Field.Class (r - 3 * stride))
     (cond (within (4 * stride) stride r) (alertAt n Field.Cause (r - 4 * stride))
-    (cond (within classBase (16 * 4) r) (blockAt ((r - classBase) / 16) ((r - classBase) % 16)) Unassigned)))))))))))
+    (cond (within classBase (16 * 4) r) (blockAt ((r - classBase) / 16) ((r - classBase) % 16)) Unassigned))))))))))))))
 
 abbrev pub offset : Setting → ℕ
 offset Setting.Regwen = 0
@@ -79,6 +82,9 @@ abbrev pub singleNumber : Single → ℕ
 singleNumber IntrState = 0
 singleNumber IntrEnable = 1
 singleNumber IntrTest = 2
+singleNumber PingRegwen = 4
+singleNumber PingTimeout = 5
+singleNumber PingEnable = 6
 
 -- a register's number; 3 stands for those that are unassigned
 unfoldable pub numberOf : Register → ℕ
@@ -98,7 +104,7 @@ isRegister Unassigned = false
 -- ── what is known of each register: the map's table, a row for each ──
 
 -- a row: bits, way, guard, whether it is a lock, whether steps 2 to 4 of a tick move it, whether it is shadowed: EN and CLASS of alerts and
--- local alerts, and CTRL, ACCUM_THRESH, TIMEOUT_CYC and the phase lengths
+-- local alerts, CTRL, ACCUM_THRESH, TIMEOUT_CYC and the phase lengths, and the ping timer's timeout
 abbrev line : ℕ → Way → Guard → Bool → Bool → Bool → Row
 line b w g l m s = record { bits = b; way = w; guard = g; lock = l; moves = m; shadowed = s }
 
@@ -107,6 +113,10 @@ abbrev pub singleRow : Single → Row
 singleRow IntrState = line 4 OneClears Free false true false
 singleRow IntrEnable = line 4 Both Free false false false
 singleRow IntrTest = line 4 WriteOnly Free false false false
+-- request (ix): "registers 4 (REGWEN), 5 (timeout, 16 bits) and 6 (enable, 1 bit ..). The first locks 5 and 6; 5 is shadowed"
+singleRow PingRegwen = line 1 Both ByRegwen true false false
+singleRow PingTimeout = line 16 Both ByRegwen false false true
+singleRow PingEnable = line 1 OneSets ByRegwen false false false
 
 -- of an alert or a local alert
 abbrev pub fieldRow : Field → Row
@@ -152,6 +162,7 @@ bits q = row q .bits
 abbrev pub onlyWritten : Way → Bool
 onlyWritten Both = false
 onlyWritten OneClears = false
+onlyWritten OneSets = false
 onlyWritten ReadOnly = false
 onlyWritten WriteOnly = true
 
@@ -161,6 +172,7 @@ writeOnly q = onlyWritten (row q .way)
 abbrev pub onlyRead : Way → Bool
 onlyRead Both = false
 onlyRead OneClears = false
+onlyRead OneSets = false
 onlyRead ReadOnly = true
 onlyRead WriteOnly = false
 
@@ -175,9 +187,9 @@ isLock q = row q .lock
 unfoldable pub isShadowed : Register → Bool
 isShadowed q = row q .shadowed
 
--- the lock of the alert or local alert that q belongs to, and lock s of its class
+-- the lock of the alert or local alert that q belongs to, lock s of its class, and of the single registers the ping timer's
 abbrev pub lockOf : Setting → Register → Register
-lockOf s (Only o) = Unassigned
+lockOf s (Only o) = Only PingRegwen
 lockOf s (Local f j) = Local Field.Regwen j
 lockOf s (Alert f i) = Alert Field.Regwen i
 lockOf s (Block t k) = Block s k

@@ -1,18 +1,21 @@
 -- "One tick", step 2, as request (viii) writes it anew: the samples, of the handler g after step 1, the wires w and the effects e of step 1.
 -- Assumes nothing.
 use Prim.Native.Nat.{ℕ, _-_, _^_}
-use mathlib.Core.Bool.{Bool, cond, _&&_, _||_}
+use mathlib.Core.Bool.{Bool, false, cond, not, _&&_, _||_}
 use mathlib.Core.List.{List}
 use lib.Dec.{eqb, ltb}
 use lib.ListN.{replicate}
 use Rattle.bits.specs.Bits.{bit, bitsOf}
 use Rattle.bits.specs.Index.{each, anyTo, placeIn, wordsBy}
 use Rattle.link_rules.specs.Pair.{equal}
+use Rattle.link_rules.specs.Pings.{pending, asks, lineAfter}
 use Rattle.link_rules.specs.Receiver.{received}
+use Rattle.link_rules.specs.Timer.{isLine, lineOf, openNow, failsAlert, failsLine, turned}
 use Rattle.link_rules.specs.declared.Given.{Given}
+use Rattle.link_rules.specs.declared.Meets.{Meets}
 use Rattle.link_rules.specs.declared.Received.{Received}
 use Rattle.link_rules.specs.declared.Receiver.{Receiver}
-use Rattle.rules.specs.State.{most, words, localCount, local, alert, receiver, receiversBy, withLocals, withAlerts, withLocalColumn, withAlertColumn}
+use Rattle.rules.specs.State.{most, words, localCount, local, alert, receiver, receiversBy, isOn, withLocals, withAlerts, withLocalColumn, withAlertColumn}
 use Rattle.rules.specs.declared.Effects.{Effects}
 use Rattle.rules.specs.declared.Field.{Field}
 use Rattle.rules.specs.declared.Handler.{Handler}
@@ -20,10 +23,10 @@ use Rattle.rules.specs.declared.Heard.{Heard}
 use Rattle.rules.specs.declared.Sample.{Sample}
 use Rattle.rules.specs.declared.Wires.{Wires}
 
--- ── a sample at rest: all wires at (0,1), and no ping is asked for ──
+-- ── a sample at rest: all wires at (0,1), entropy word 0, and no escalation ping answered ──
 
 abbrev pub atRest : Sample
-atRest = record { alerts = record { pos = replicate words 0; neg = replicate words (2 ^ 64 - 1) }; asks = replicate words 0 }
+atRest = record { alerts = record { pos = replicate words 0; neg = replicate words (2 ^ 64 - 1) }; word = 0; answers = 0 }
 
 -- ── alert i of handler g, by the pings that are asked for and the wires w; samples at N and above count for nothing ──
 
@@ -51,7 +54,7 @@ happened g asks w i = ltb i (g .n) && receivedBy g asks w i .event
 unfoldable pub answered : Handler → List ℕ → Wires → ℕ → Bool
 answered g asks w i = ltb i (g .n) && receivedBy g asks w i .answer
 
--- its receiver after the tick
+-- its receiver after the tick's wires
 unfoldable pub receiverAfter : Handler → List ℕ → Wires → ℕ → Receiver
 receiverAfter g asks w i = cond (ltb i (g .n)) (receivedBy g asks w i .receiver) (receiver g i)
 
@@ -59,21 +62,81 @@ receiverAfter g asks w i = cond (ltb i (g .n)) (receivedBy g asks w i .receiver)
 unfoldable pub alertBroken : Handler → Wires → ℕ → Bool
 alertBroken g w i = ltb i (g .n) && (equal (positive w i) (negative w i) && alertEnabled g i)
 
+-- ── the ping timer, request (ix), of the handler g after step 1, the sample s and the effects e of step 1 ──
+
+-- the alert drawn is "locked and enabled": below N, REGWEN 0 and EN 1
+abbrev pub pingable : Handler → Bool
+pingable g =
+    let i = g .links .turn .alert in
+    ltb i (g .n) && (eqb (alert g Field.Regwen i) 0 && alertEnabled g i)
+
+-- the turn's ping is open before the tick
+abbrev pub turnPending : Handler → Bool
+turnPending g = pending (g .n) (g .links .turn) (λ i. receiver g i .pending) (bit (g .links .lines))
+
+-- what the timer meets, where its turn's ping is answered or not
+abbrev pub meets : Handler → Sample → Effects → Bool → Meets
+meets g s e answer =
+    record {
+      runs = isOn g && not (e .begins);
+      begins = e .begins;
+      timeout = g .timer .timeout;
+      word = s .word;
+      pingable = pingable g;
+      pending = turnPending g;
+      answered = answer;
+    }
+
+-- due is judged before the wires: the alert whose ping it asks for, and no answer yet
+abbrev pub before : Handler → Sample → Effects → Meets
+before g s e = meets g s e false
+
+abbrev pub asksFor : Handler → Sample → Effects → List ℕ
+asksFor g s e = wordsBy words (asks (before g s e) (g .links .turn))
+
+-- an alert's ping is answered by a rise that is taken, a line's by the sample
+abbrev pub turnAnswered : Handler → Sample → Effects → Bool
+turnAnswered g s e =
+    let t = g .links .turn in
+    cond (isLine t) (openNow (before g s e) t && bit (s .answers) (lineOf t)) (answered g (asksFor g s e) (s .alerts) (t .alert))
+
+abbrev pub timed : Handler → Sample → Effects → Meets
+timed g s e = meets g s e (turnAnswered g s e)
+
+-- a ping that fails closes
+unfoldable pub receiverTimed : Handler → Sample → Effects → ℕ → Receiver
+receiverTimed g s e i =
+    let r = receiverAfter g (asksFor g s e) (s .alerts) i in
+    record {
+      stands = r .stands;
+      level = r .level;
+      pending = r .pending && not (ltb i (g .n) && (failsAlert (timed g s e) (g .links .turn) && eqb i (g .links .turn .alert)));
+    }
+
+-- the lines whose ping is open after the tick; the bits from 4 up are no line's
+unfoldable pub linesTimed : Handler → Sample → Effects → ℕ
+linesTimed g s e =
+    let was = bit (g .links .lines) in
+    bitsOf 32 (λ l. cond (ltb l 4) (lineAfter (timed g s e) (g .links .turn) (was l) l) (was l))
+
 -- ── local alert j ──
 
--- local 2 is raised if any enabled alert has equal wires, the others by step 1: local 5 by a write that differs from its stage
-unfoldable pub raised : Handler → Wires → Effects → ℕ → Bool
-raised g w e j = (eqb j 2 && anyTo (alertBroken g w) (g .n)) || bit (e .raises) j
+-- local 0 is raised if an alert's ping fails, local 1 if a line's does, local 2 if any enabled alert has equal wires, the others by step 1: local 5 by
+-- a write that differs from its stage
+unfoldable pub raised : Handler → Sample → Effects → ℕ → Bool
+raised g s e j =
+    (eqb j 0 && failsAlert (timed g s e) (g .links .turn))
+    || ((eqb j 1 && failsLine (timed g s e) (g .links .turn)) || ((eqb j 2 && anyTo (alertBroken g (s .alerts)) (g .n)) || bit (e .raises) j))
 
--- ── what step 2 hears: nothing below reads a wire or a receiver ──
+-- ── what step 2 hears: nothing below reads a wire, a receiver or the timer ──
 
 unfoldable pub heard : Handler → Sample → Effects → Heard
 heard g s e =
     record {
-      receivers = receiversBy (receiverAfter g (s .asks) (s .alerts));
-      events = wordsBy words (happened g (s .asks) (s .alerts));
-      answers = wordsBy words (answered g (s .asks) (s .alerts));
-      raises = bitsOf localCount (raised g (s .alerts) e);
+      links = record { receivers = receiversBy (receiverTimed g s e); turn = turned (timed g s e) (g .links .turn); lines = linesTimed g s e };
+      events = wordsBy words (happened g (asksFor g s e) (s .alerts));
+      answers = wordsBy words (answered g (asksFor g s e) (s .alerts));
+      raises = bitsOf localCount (raised g s e);
     }
 
 -- an enabled alert's event

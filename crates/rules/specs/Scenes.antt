@@ -20,14 +20,14 @@ use Rattle.rules.specs.declared.Register.{Register}
 abbrev pub ones : ℕ
 ones = 2 ^ 256 - 1
 
--- an access with these positive and negative wires and these pings asked for, each set as one number, alert 0 highest
-abbrev pub asking : ℕ → ℕ → ℕ → Access → Input
-asking a p m x =
+-- an access with this entropy word, these answered escalation pings and these positive and negative wires, each set as one number, alert 0 highest
+abbrev pub timing : ℕ → ℕ → ℕ → ℕ → Access → Input
+timing u a p m x =
     let cut = unpack (replicate words 64) in
-    record { access = x; sample = record { alerts = record { pos = cut p; neg = cut m }; asks = cut a } }
+    record { access = x; sample = record { alerts = record { pos = cut p; neg = cut m }; word = u; answers = a } }
 
 abbrev pub wired : ℕ → ℕ → Access → Input
-wired p m x = asking 0 p m x
+wired p m x = timing 0 0 p m x
 
 -- alert i's place in a set of wires
 abbrev pub wire : ℕ → ℕ

@@ -6,7 +6,7 @@ use mathlib.Core.List.{List, []}
 use lib.Dec.{eqb}
 use lib.ListN.{getD}
 use Rattle.bits.specs.Index.{each}
-use Rattle.rules.specs.Map.{offset}
+use Rattle.rules.specs.Map.{offset, singleNumber}
 use Rattle.rules.specs.State.{most, localCount, classCount, fieldIndex, put}
 use Rattle.rules.specs.declared.AlertStages.{AlertStages}
 use Rattle.rules.specs.declared.ClassStages.{ClassStages}
@@ -17,6 +17,8 @@ use Rattle.rules.specs.declared.Register.{Register}
 use Rattle.rules.specs.declared.Register.the-variants.{Only, Local, Alert, Block, Unassigned}
 use Rattle.rules.specs.declared.Setting.{Setting}
 use Rattle.rules.specs.declared.Setting.the-variants.{Ctrl, ClrRegwen, Clr, AccumCnt, AccumThresh, TimeoutCyc, PhaseCyc, EscCnt}
+use Rattle.rules.specs.declared.Single.{Single}
+use Rattle.rules.specs.declared.Single.the-variants.{IntrState, IntrEnable, IntrTest, PingRegwen, PingTimeout, PingEnable}
 use Rattle.rules.specs.declared.Stages.{Stages}
 
 -- ── a stage's code: 0 for none, the staged value plus 1; a register that is not shadowed has none ──
@@ -52,8 +54,17 @@ noClassStages = record { lengths = []; timeout = 0; ctrl = 0; thresh = 0 }
 abbrev pub classStages : Stages → ℕ → ClassStages
 classStages s k = getD (s .classes) k noClassStages
 
+-- of the registers that there is one of, the ping timer's timeout alone is shadowed
+abbrev pub singleStage : Single → Stages → ℕ
+singleStage IntrState s = 0
+singleStage IntrEnable s = 0
+singleStage IntrTest s = 0
+singleStage PingRegwen s = 0
+singleStage PingTimeout s = s .timeout
+singleStage PingEnable s = 0
+
 unfoldable pub stageIn : Stages → Register → ℕ
-stageIn s (Only o) = 0
+stageIn s (Only o) = singleStage o s
 stageIn s (Local f j) = getD (localStages f (s .locals)) j 0
 stageIn s (Alert f i) = getD (alertStages f (s .alerts)) i 0
 stageIn s (Block t k) = settingStage t (classStages s k)
@@ -83,24 +94,33 @@ withSettingStage s v c =
     }
 
 unfoldable pub withStage : Register → ℕ → Stages → Stages
-withStage (Only o) c s = s
+withStage (Only o) c s =
+    record {
+      classes = s .classes;
+      alerts = s .alerts;
+      locals = s .locals;
+      timeout = cond (eqb (singleNumber o) (singleNumber PingTimeout)) c (s .timeout);
+    }
 withStage (Local f j) c s =
     record {
       classes = s .classes;
       alerts = s .alerts;
       locals = withLocalStages f (put localCount (localStages f (s .locals)) 0 j c) (s .locals);
+      timeout = s .timeout;
     }
 withStage (Alert f i) c s =
     record {
       classes = s .classes;
       alerts = withAlertStages f (put most (alertStages f (s .alerts)) 0 i c) (s .alerts);
       locals = s .locals;
+      timeout = s .timeout;
     }
 withStage (Block t k) c s =
     record {
       classes = put classCount (s .classes) noClassStages k (withSettingStage t c (classStages s k));
       alerts = s .alerts;
       locals = s .locals;
+      timeout = s .timeout;
     }
 withStage Unassigned c s = s
 

@@ -23,6 +23,7 @@ use Rattle.rules.specs.declared.Links.{Links}
 use Rattle.rules.specs.declared.Receivers.{Receivers}
 use Rattle.rules.specs.declared.Refusal.the-variants.{BadCount}
 use Rattle.rules.specs.declared.Stages.{Stages}
+use Rattle.rules.specs.declared.Timer.{Timer}
 
 -- ── sizes ──
 
@@ -83,6 +84,10 @@ receiverIn r i =
 abbrev pub receiver : Handler → ℕ → Receiver
 receiver h i = receiverIn (h .links .receivers) i
 
+-- request (ix): the ping timer is on
+abbrev pub isOn : Handler → Bool
+isOn h = eqb (h .timer .enable) 1
+
 -- the receivers of which that of alert i is f i
 abbrev pub receiversBy : (ℕ → Receiver) → Receivers
 receiversBy f =
@@ -97,27 +102,40 @@ receiversBy f =
 
 abbrev pub withInterrupts : Interrupts → Handler → Handler
 withInterrupts x h =
-    record { n = h .n; links = h .links; classes = h .classes; alerts = h .alerts; locals = h .locals; interrupts = x; stages = h .stages }
+    record { n = h .n; links = h .links; classes = h .classes; alerts = h .alerts; locals = h .locals; interrupts = x; timer = h .timer; stages = h .stages }
 
 abbrev pub withLocals : Locals → Handler → Handler
 withLocals x h =
-    record { n = h .n; links = h .links; classes = h .classes; alerts = h .alerts; locals = x; interrupts = h .interrupts; stages = h .stages }
+    record { n = h .n; links = h .links; classes = h .classes; alerts = h .alerts; locals = x; interrupts = h .interrupts; timer = h .timer; stages = h .stages }
 
 abbrev pub withAlerts : Alerts → Handler → Handler
 withAlerts x h =
-    record { n = h .n; links = h .links; classes = h .classes; alerts = x; locals = h .locals; interrupts = h .interrupts; stages = h .stages }
+    record { n = h .n; links = h .links; classes = h .classes; alerts = x; locals = h .locals; interrupts = h .interrupts; timer = h .timer; stages = h .stages }
 
 abbrev pub withLinks : Links → Handler → Handler
 withLinks x h =
-    record { n = h .n; links = x; classes = h .classes; alerts = h .alerts; locals = h .locals; interrupts = h .interrupts; stages = h .stages }
+    record { n = h .n; links = x; classes = h .classes; alerts = h .alerts; locals = h .locals; interrupts = h .interrupts; timer = h .timer; stages = h .stages }
 
 abbrev pub withClasses : List Class → Handler → Handler
 withClasses x h =
-    record { n = h .n; links = h .links; classes = x; alerts = h .alerts; locals = h .locals; interrupts = h .interrupts; stages = h .stages }
+    record { n = h .n; links = h .links; classes = x; alerts = h .alerts; locals = h .locals; interrupts = h .interrupts; timer = h .timer; stages = h .stages }
 
 abbrev pub withStages : Stages → Handler → Handler
 withStages x h =
-    record { n = h .n; links = h .links; classes = h .classes; alerts = h .alerts; locals = h .locals; interrupts = h .interrupts; stages = x }
+    record { n = h .n; links = h .links; classes = h .classes; alerts = h .alerts; locals = h .locals; interrupts = h .interrupts; timer = h .timer; stages = x }
+
+abbrev pub withTimer : Timer → Handler → Handler
+withTimer x h =
+    record {
+      n = h .n;
+      links = h .links;
+      classes = h .classes;
+      alerts = h .alerts;
+      locals = h .locals;
+      interrupts = h .interrupts;
+      timer = x;
+      stages = h .stages;
+    }
 
 abbrev pub withLocalColumn : Field → List ℕ → Locals → Locals
 withLocalColumn f x l =
@@ -165,13 +183,14 @@ noStages =
       classes = replicate classCount (record { lengths = replicate 4 0; timeout = 0; ctrl = 0; thresh = 0 });
       alerts = record { en = replicate most 0; class = replicate most 0 };
       locals = record { en = replicate localCount 0; class = replicate localCount 0 };
+      timeout = 0;
     }
 
 unfoldable pub newHandler : ℕ → Handler
 newHandler n =
     record {
       n = n;
-      links = record { receivers = receiversBy (λ i. newReceiver) };
+      links = record { receivers = receiversBy (λ i. newReceiver); turn = record { number = 0; alert = 0; count = 0 }; lines = 0 };
       classes = replicate classCount resetClass;
       alerts = record { regwen = replicate most 1; en = replicate most 0; class = replicate most 0; cause = replicate most 0 };
       locals =
@@ -182,6 +201,7 @@ newHandler n =
             cause = replicate localCount 0;
           };
       interrupts = record { state = 0; enable = 0 };
+      timer = record { timeout = 0; regwen = 1; enable = 0 };
       stages = noStages;
     }
 

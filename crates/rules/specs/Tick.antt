@@ -46,7 +46,7 @@ stepped g v e =
 
 -- the links after the tick
 abbrev pub linksAfter : Heard → Links
-linksAfter v = record { receivers = v .receivers }
+linksAfter v = v .links
 
 -- ── step 5: outputs from the state now reached ──
 

@@ -1,21 +1,24 @@
 -- "Numbers that come back": the rule of refusal 7.
 -- Assumes nothing.
 use Prim.Native.Nat.{ℕ, _^_}
-use mathlib.Core.Bool.{Bool, _&&_}
+use mathlib.Core.Bool.{Bool, not, _&&_, _||_}
 use mathlib.Core.List.{List}
 use lib.Dec.{leb}
 use lib.ListN.{getD}
-use Rattle.bits.specs.Bits.{fits}
+use Rattle.bits.specs.Bits.{bit, fits}
 use Rattle.bits.specs.Index.{allTo}
 use Rattle.class_rules.specs.Class.{classFits}
-use Rattle.rules.specs.Map.{fieldBits, settingBits}
+use Rattle.link_rules.specs.Timer.{ownsAlert, ownsLine}
+use Rattle.rules.specs.Map.{singleBits, fieldBits, settingBits}
 use Rattle.rules.specs.Stages.{localStages, alertStages, classStages}
-use Rattle.rules.specs.State.{most, localCount, classCount, localColumn, alertColumn, classAt}
+use Rattle.rules.specs.State.{most, localCount, classCount, localColumn, alertColumn, classAt, receiver, isOn}
 use Rattle.rules.specs.declared.Field.{Field}
 use Rattle.rules.specs.declared.Handler.{Handler}
 use Rattle.rules.specs.declared.ClassStages.{ClassStages}
 use Rattle.rules.specs.declared.Setting.the-variants.{Ctrl, AccumThresh, TimeoutCyc, PhaseCyc}
+use Rattle.rules.specs.declared.Single.the-variants.{PingRegwen, PingTimeout, PingEnable}
 use Rattle.rules.specs.declared.Stages.{Stages}
+use Rattle.rules.specs.declared.Timer.{Timer}
 
 -- the first n registers of a column hold no more than b bits each
 abbrev pub columnFits : ℕ → List ℕ → ℕ → Bool
@@ -50,7 +53,19 @@ classStagesFit c =
 unfoldable pub stagesFit : ℕ → Stages → Bool
 stagesFit n s =
     fieldStagesFit (λ f. localStages f (s .locals)) localCount
-    && (fieldStagesFit (λ f. alertStages f (s .alerts)) n && allTo (λ k. classStagesFit (classStages s k)) classCount)
+    && (fieldStagesFit (λ f. alertStages f (s .alerts)) n
+    && (allTo (λ k. classStagesFit (classStages s k)) classCount && codeFits (singleBits PingTimeout) (s .timeout)))
+
+-- request (ix): REGWEN, timeout and enable of the ping timer
+abbrev pub timerFits : Timer → Bool
+timerFits t =
+    fits (singleBits PingRegwen) (t .regwen) && (fits (singleBits PingTimeout) (t .timeout) && fits (singleBits PingEnable) (t .enable))
+
+-- "7 covers an open ping that isn't the turn's": of every alert below N, and of the four lines
+unfoldable pub pingsFit : Handler → Bool
+pingsFit h =
+    allTo (λ i. not (receiver h i .pending) || ownsAlert (isOn h) (h .links .turn) i) (h .n)
+    && allTo (λ e. not (bit (h .links .lines) e) || ownsLine (isOn h) (h .links .turn) e) 4
 
 -- Refusal 7 means: N over 248 (request (iii); 64 in document 01), any register holding more than its field's bits, a STATE of 2, or a class count that is not 0
 -- in Idle or Terminal or is 0 in Timeout or a phase. This is its opposite. It does not look at entries at N and above.
@@ -61,4 +76,5 @@ valid h =
     && (fits 4 (h .interrupts .enable)
     && (columnsFit (λ f. localColumn f (h .locals)) localCount
     && (columnsFit (λ f. alertColumn f (h .alerts)) (h .n)
-    && (allTo (λ k. classFits (classAt h k)) classCount && stagesFit (h .n) (h .stages))))))
+    && (allTo (λ k. classFits (classAt h k)) classCount
+    && (timerFits (h .timer) && (pingsFit h && stagesFit (h .n) (h .stages))))))))

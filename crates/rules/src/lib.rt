@@ -1,5 +1,6 @@
 // The types of the handler. Its rules, document 01 section by section, are the definitions in specs/.
 use class_rules::Class;
+use link_rules::Turn;
 
 // The most alerts that a handler is made for, and the words of 64 that hold a bit of each.
 pub const MOST: usize = 248;
@@ -47,6 +48,17 @@ pub struct Receivers {
 #[repr(C)]
 pub struct Links {
     pub receivers: Receivers,
+    // request (ix): the ping timer's turn, and the lines whose ping is open, line 0 at the lowest bit; bits from 4 up are never looked at
+    pub turn: Turn,
+    pub lines: u32,
+}
+
+// The ping timer's registers, request (ix): REGWEN, timeout and enable.
+#[repr(C)]
+pub struct Timer {
+    pub timeout: u32,
+    pub regwen: u16,
+    pub enable: u16,
 }
 
 // Stages, request (v): what the first of two equal writes left at a shadowed register. A stage's code is 0 for none, and the staged
@@ -76,6 +88,8 @@ pub struct Stages {
     pub classes: [ClassStages; 4],
     pub alerts: AlertStages,
     pub locals: LocalStages,
+    // of the ping timer's timeout
+    pub timeout: u64,
 }
 
 #[repr(C)]
@@ -86,6 +100,7 @@ pub struct Handler {
     pub alerts: Alerts,
     pub locals: Locals,
     pub interrupts: Interrupts,
+    pub timer: Timer,
     pub stages: Stages,
 }
 
@@ -96,6 +111,9 @@ pub enum Single {
     IntrState,
     IntrEnable,
     IntrTest,
+    PingRegwen,
+    PingTimeout,
+    PingEnable,
 }
 
 // The registers of an alert or a local alert.
@@ -128,10 +146,12 @@ pub enum Register {
     Unassigned,
 }
 
-// What can be done with a register: read and written, the same where a written 1 clears, only read, only written.
+// What can be done with a register: read and written, the same where a written 1 clears, the same where a written 1 sets and a 0 does
+// nothing, only read, only written.
 pub enum Way {
     Both,
     OneClears,
+    OneSets,
     ReadOnly,
     WriteOnly,
 }
@@ -173,11 +193,13 @@ pub struct Wires {
     pub neg: [u64; WORDS],
 }
 
-// What comes in on the wires, and the alerts whose ping the caller asks for: alert i at bit 63 - i % 64 of word i / 64.
+// What comes in on the wires; request (ix): the entropy word, and the lines whose ping is answered, line 0 at the lowest bit. Bits from 4 up
+// count for nothing.
 #[repr(C)]
 pub struct Sample {
     pub alerts: Wires,
-    pub asks: [u64; WORDS],
+    pub word: u32,
+    pub answers: u32,
 }
 
 pub struct Input {
@@ -237,12 +259,14 @@ pub struct Effects {
     pub clears: u8,
     // the local alerts that it raises, local 0 at the lowest bit
     pub raises: u8,
+    // the ping timer's enable becomes 1
+    pub begins: bool,
 }
 
-// What step 2 hears in a tick: the receivers after it, the alerts with an event and those whose open ping is answered, alert i at bit
+// What step 2 hears in a tick: the links after it, the alerts with an event and those whose open ping is answered, alert i at bit
 // 63 - i % 64 of word i / 64, and the local alerts that are raised, local 0 at the lowest bit. Which of them are enabled is not looked at.
 pub struct Heard {
-    pub receivers: Receivers,
+    pub links: Links,
     pub events: [u64; WORDS],
     pub answers: [u64; WORDS],
     pub raises: u8,

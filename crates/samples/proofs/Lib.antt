@@ -1,7 +1,12 @@
 pub mod ReceiverWords
 pub mod StillWords
 pub mod ReceivedWords
+pub mod OneAlert
+pub mod LineMasks
+pub mod ClosedPings
+pub mod Pacing
+pub mod QuietLinks
 pub mod Hearing
 pub mod SampleSteps
-pub mod QuietSamples
 pub mod LocalMasks
+pub mod QuietSamples

@@ -10,7 +10,15 @@ use Rattle.bits.specs.Bits.{bit, bitsOf, num}
 use Rattle.bits.proofs.BitLaws.{bit-mod, is-bitsOf}
 use Rattle.rules.specs.State.{localCount}
 
--- the bit of local 2
+-- the bits of local 0, 1 and 2
+pub bit-0 : (b : Bool) (n : ℕ) → n ≡ num b → n ≡ bitsOf localCount (λ j. eqb j 0 && b)
+unfolding bitsOf
+bit-0 b n e = omega arith
+
+pub bit-1 : (b : Bool) (n : ℕ) → n ≡ num b → 2 * n ≡ bitsOf localCount (λ j. eqb j 1 && b)
+unfolding bitsOf
+bit-1 b n e = omega arith
+
 pub bit-2 : (b : Bool) (n : ℕ) → n ≡ num b → 4 * n ≡ bitsOf localCount (λ j. eqb j 2 && b)
 unfolding bitsOf
 bit-2 b n e = omega arith

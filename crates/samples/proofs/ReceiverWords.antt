@@ -2,7 +2,7 @@
 -- wires, l whether it counts.
 -- Assumes nothing.
 use Prim.Native.Nat.{ℕ, _-_, _^_, _<_}
-use mathlib.Core.Path.{_≡_, refl, sym, ap, ap₂, _∙_}
+use mathlib.Core.Path.{_≡_, refl, ap, ap₂, _∙_}
 use mathlib.Core.Bool.{Bool, true, false, not, cond, xor, _&&_, _||_}
 use native.Mathlib.Omega.{arith}
 use lib.Bits.{bitAnd, bitOr, bitXor, and-le-r, or-lt, xor-lt}
@@ -13,7 +13,6 @@ use Rattle.link_rules.specs.Codes.{handshakeOf, pausingBit, busyBit}
 use Rattle.link_rules.specs.Pair.{equal}
 use Rattle.link_rules.specs.Receiver.{takes, askedFor, standsAfter, received}
 use Rattle.link_rules.specs.declared.Given.{Given}
-use Rattle.link_rules.specs.declared.Handshake.{Handshake}
 use Rattle.link_rules.specs.declared.Receiver.{Receiver}
 use Rattle.link_rules.proofs.CodeLaws.{code-back}
 use Rattle.link_rules.proofs.ReceiverLaws.{same-receiver}

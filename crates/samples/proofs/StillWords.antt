@@ -2,7 +2,7 @@
 -- Assumes nothing.
 use Prim.Native.Nat.{ℕ, _-_, _^_, _<_}
 use mathlib.Core.Path.{_≡_, refl, sym, ap, _∙_}
-use mathlib.Core.Bool.{Bool, true, false, false≢true, true≢false, not, cond, _&&_, _||_}
+use mathlib.Core.Bool.{Bool, true, false, true≢false, not, cond, _&&_, _||_}
 use native.Mathlib.Omega.{arith}
 use lib.Bits.{bitAnd, bitOr}
 use Rattle.bits.specs.Bits.{bit, place}
@@ -10,10 +10,8 @@ use Rattle.bits.proofs.BitLaws.{bit-and, bit-or, bit-none, not64}
 use Rattle.link_rules.specs.Codes.{handshakeOf}
 use Rattle.link_rules.specs.Pair.{equal}
 use Rattle.link_rules.specs.Receiver.{askedFor, standsAfter, received}
-use Rattle.link_rules.specs.declared.Given.{Given}
 use Rattle.link_rules.specs.declared.Received.{Received}
-use Rattle.link_rules.specs.declared.Receiver.{Receiver}
-use Rattle.samples.specs.Received.{receiverOf, givenOf, ReceivedWord}
+use Rattle.samples.specs.Received.{ReceivedWord}
 use Rattle.samples.specs.declared.receive.Word.{Word}
 
 -- one alert, by its bits, and what it gives

@@ -1,4 +1,5 @@
 pub mod Received
+pub mod Paced
 pub mod Linked
 pub mod Occurred
 pub mod Sampled

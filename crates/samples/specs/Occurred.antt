@@ -9,9 +9,9 @@ use Rattle.rules.specs.State.{localCount}
 use Rattle.events.specs.Noted.{Noted, enabledIn}
 use Rattle.samples.specs.declared.locals.Occurred.{Occurred}
 
--- local alert j is raised: local 2, if an enabled alert has equal wires, and those that the mask of step 1 names
-abbrev pub raisedBy : Bool → ℕ → ℕ → Bool
-raisedBy broken raises j = (eqb j 2 && broken) || bit raises j
+-- local alert j is raised: 0 and 1 if an alert's or a line's ping fails, 2 if an enabled alert has equal wires, and those that the mask of step 1 names
+abbrev pub raisedBy : Bool → Bool → Bool → ℕ → ℕ → Bool
+raisedBy broken alert line raises j = (eqb j 0 && alert) || ((eqb j 1 && line) || ((eqb j 2 && broken) || bit raises j))
 
 -- the enabled local alerts among those that the mask names
 abbrev pub amongBits : ℕ → List ℕ → ℕ → Bool

@@ -5,7 +5,6 @@ use mathlib.Core.Path.{_≡_}
 use mathlib.Core.Bool.{Bool, cond, _&&_}
 use mathlib.Core.List.{List}
 use lib.Dec.{ltb}
-use lib.ListN.{getD}
 use Rattle.bits.specs.Bits.{place, wordOf}
 use Rattle.bits.specs.Index.{wordsBy}
 use Rattle.link_rules.specs.Codes.{handshakeOf, pausingBit, busyBit}
@@ -17,7 +16,7 @@ use Rattle.link_rules.specs.declared.Receiver.{Receiver}
 use Rattle.rules.specs.State.{words, receiverIn, receiversBy}
 use Rattle.rules.specs.Samples.{positive, negative, givenTo}
 use Rattle.rules.specs.declared.Receivers.{Receivers}
-use Rattle.rules.specs.declared.Sample.{Sample}
+use Rattle.rules.specs.declared.Wires.{Wires}
 use Rattle.samples.specs.declared.receive.Word.{Word}
 use Rattle.samples.specs.declared.receive.Told.{Told}
 use Rattle.samples.specs.declared.receive.Received as all
@@ -40,9 +39,9 @@ pub record ReceivedWord (w : Word) (asks p q live : ℕ) (r : Told) : Type 0 whe
 
 -- ── alert i of n, by lists of words; at n and above nothing counts ──
 
-module _ (n : ℕ) (r : Receivers) (s : Sample) where
+module _ (n : ℕ) (r : Receivers) (asks : List ℕ) (w : Wires) where
   abbrev pub receives : ℕ → Received
-  receives i = received (givenTo (s .asks) (s .alerts) i) (receiverIn r i)
+  receives i = received (givenTo asks w i) (receiverIn r i)
 
   -- its receiver after it, whether it has an event, whether its open ping is answered, whether its wires are equal
   abbrev pub receiverAt : ℕ → Receiver
@@ -55,7 +54,7 @@ module _ (n : ℕ) (r : Receivers) (s : Sample) where
   answersAt i = ltb i n && receives i .answer
 
   abbrev pub equalAt : ℕ → Bool
-  equalAt i = ltb i n && equal (positive (s .alerts) i) (negative (s .alerts) i)
+  equalAt i = ltb i n && equal (positive w i) (negative w i)
 
   -- word v of them
   pub record ToldWord (v : ℕ) (t : Told) : Type 0 where

@@ -1,5 +1,6 @@
 // Step 2 of a tick: the samples. First what is heard, then what it does.
 mod receive; // receive.rt: the receivers, 64 alerts at a time
+mod pace; // pace.rt: the ping timer among the receivers and the lines
 pub mod hear; // hear.rt: what is heard: receivers, events, local alerts raised
 pub mod links; // links.rt: the links alone
 pub mod locals; // locals.rt: the local alerts

@@ -1,8 +1,8 @@
 // Step 2, the receivers meet their pings and wire pairs, 64 alerts at a time. Nothing here knows of EN or CLASS.
 use masks::places::live;
 use rules::Receivers;
-use rules::Sample;
 use rules::WORDS;
+use rules::Wires;
 ghost use Prim.Native.Nat.{_<_};
 ghost use Rattle.rules.specs.State.{words};
 ghost use Rattle.samples.specs.Received.{ReceivedWord, ToldWord, ReceivedAll};
@@ -68,29 +68,28 @@ pub struct Received {
     pub equal: [u64; WORDS],
 }
 
-// Word v of the receivers of n alerts meets word v of the sample.
-fn receive_word(n: usize, r: Receivers, s: Sample, v: usize) -> Told
+// Word v of the receivers of n alerts meets word v of what is asked for and of the wires w.
+fn receive_word(n: usize, r: Receivers, asks: [u64; WORDS], w: Wires, v: usize) -> Told
     requires { ⌜ v < words ⌝ }
-    ensures { λ t. ⌜ ToldWord n r s v t ⌝ }
+    ensures { λ t. ⌜ ToldWord n r asks w v t ⌝ }
 {
-    let w = Word {
+    let word = Word {
         pausing: r.pausing[v],
         busy: r.busy[v],
         level: r.level[v],
         pending: r.pending[v],
     };
-    let wires = s.alerts;
-    receive(w, s.asks[v], wires.pos[v], wires.neg[v], live(n, v * 64))
+    receive(word, asks[v], w.pos[v], w.neg[v], live(n, v * 64))
 }
 
-// The n alerts meet the sample s, word by word.
-pub fn receive_all(n: usize, r: Receivers, s: Sample) -> Received
-    ensures { λ t. ⌜ ReceivedAll n r s t ⌝ }
+// The n alerts meet what is asked for and the wires w, word by word.
+pub fn receive_all(n: usize, r: Receivers, asks: [u64; WORDS], w: Wires) -> Received
+    ensures { λ t. ⌜ ReceivedAll n r asks w t ⌝ }
 {
-    let a = receive_word(n, r, s, 0);
-    let b = receive_word(n, r, s, 1);
-    let c = receive_word(n, r, s, 2);
-    let d = receive_word(n, r, s, 3);
+    let a = receive_word(n, r, asks, w, 0);
+    let b = receive_word(n, r, asks, w, 1);
+    let c = receive_word(n, r, asks, w, 2);
+    let d = receive_word(n, r, asks, w, 3);
     Received {
         receivers: Receivers {
             pausing: [

@@ -99,7 +99,15 @@ record Codes (t : Stages) : Type 0 where
 module _ (t : Stages) (c : ℕ) (s : Codes t) where
   put-codes : (q : Register) → Codes (withStage q c t)
   unfolding withStage
-  put-codes (Only o) = s
+  put-codes (Only o) =
+      record {
+        alert-en = s .alert-en;
+        alert-class = s .alert-class;
+        local-en = s .local-en;
+        local-class = s .local-class;
+        classes = s .classes;
+        lengths = s .lengths;
+      }
   put-codes (Local f j) =
       record {
         alert-en = s .alert-en;

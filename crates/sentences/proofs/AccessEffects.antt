@@ -13,15 +13,16 @@ use Rattle.bits.specs.Bits.{bit}
 use Rattle.laws.proofs.Map.Cases.{never}
 use Rattle.laws.proofs.Access.Clears.{is-clr}
 use Rattle.laws.proofs.Access.Step1.{clears-if, cleared-lt}
-use Rattle.rules.specs.Access.{verdict, accepted, isClrOf, writesClr, accessedBy, accessed, effects, clears}
+use Rattle.rules.specs.Access.{verdict, accepts, accepted, isClrOf, writesClr, writesEnable, accessedBy, accessed, effects, clears}
 use Rattle.rules.specs.Answer.{refusalNumber}
-use Rattle.rules.specs.Map.{decode, isRegister, bits}
+use Rattle.rules.specs.Map.{decode, numberOf, isRegister, bits}
 use Rattle.rules.specs.declared.Access.{Access}
 use Rattle.rules.specs.declared.Access.the-variants.{Nothing, Read, Write}
 use Rattle.rules.specs.declared.Handler.{Handler}
 use Rattle.rules.specs.declared.Register.{Register}
-use Rattle.rules.specs.declared.Register.the-variants.{Block}
+use Rattle.rules.specs.declared.Register.the-variants.{Only, Block}
 use Rattle.rules.specs.declared.Setting.the-variants.{Clr}
+use Rattle.rules.specs.declared.Single.the-variants.{PingEnable}
 use Rattle.rules.specs.declared.Verdict.{Verdict}
 use Rattle.sentences.specs.Access.{Handed}
 use Rattle.sentences.specs.AccessMap.{Row}
@@ -73,6 +74,42 @@ module _ (h : Handler) (x : Access) (m : h .n ≤ 248) where
       go Verdict.Accepted = bitsOf-lt 4 (writesClr h x)
       go (Verdict.Refused r) = omega arith
 
+  -- ── register 6 becomes 1 ──
+
+  writes-enable : (writesEnable h x ≡ true) ↔ (Writes h x (Only PingEnable) 1 × (h .timer .enable ≡ 0))
+  unfolding numberOf
+  writes-enable = (to x, λ p. from (p .0) (p .1))
+    where
+      to : (y : Access) → writesEnable h y ≡ true → Writes h y (Only PingEnable) 1 × (h .timer .enable ≡ 0)
+      to Nothing = never
+      to (Read r) = never
+      to (Write r v) = λ e.
+          let a = and-true (eqb r 6) (eqb v 1 && eqb (h .timer .enable) 0) e in
+          let b = and-true (eqb v 1) (eqb (h .timer .enable) 0) (a .1) in
+          let t : Row (h .n) r (Only PingEnable) 1 = subst (λ (s : ℕ). Row (h .n) s (Only PingEnable) 1) (sym (eqb-true r 6 (a .0))) Row.ping-enable in
+          (record { number = r; access = ap (Write r) (eqb-true v 1 (b .0)); names = (1, t) }, eqb-true (h .timer .enable) 0 (b .1))
+      to Access.Malformed = never
+
+      from : Writes h x (Only PingEnable) 1 → h .timer .enable ≡ 0 → writesEnable h x ≡ true
+      from w e =
+          let r : 6 ≡ w .number = found (h .n) (w .number) (Only PingEnable) (w .names .0) (w .names .1) .number in
+          ap (writesEnable h) (w .access) ∙ true-and (eq-eqb (w .number) 6 (sym r)) (true-and refl (eq-eqb (h .timer .enable) 0 e))
+
+  begins-if : effects h x .begins ≡ (accepted h x && writesEnable h x)
+  unfolding effects accessed
+  begins-if = go (verdict h x)
+    where
+      go : (t : Verdict) → accessedBy t h x .effects .begins ≡ (accepts t && writesEnable h x)
+      go Verdict.Accepted = refl
+      go (Verdict.Refused r) = refl
+
+  begins-is : (effects h x .begins ≡ true) ↔ (Accepted h x × Writes h x (Only PingEnable) 1 × (h .timer .enable ≡ 0))
+  begins-is =
+      let f = and-is (accepted h x) (writesEnable h x) (accepted-is h x m) writes-enable in (
+        λ e. let d = f .0 (sym begins-if ∙ e) in (d .0, d .1 .0, d .1 .1),
+        λ p. begins-if ∙ f .1 (p .0, (p .1, p .2)),
+      )
+
   -- ── the local alert that is raised ──
 
   bit-5 : (j : ℕ) → j < 7 → (bit (2 ^ 5) j ≡ true) ↔ (j ≡ 5)
@@ -118,4 +155,5 @@ module _ (h : Handler) (x : Access) (m : h .n ≤ 248) where
         raises = λ j l. let f = raised j (omega arith) in
             (λ e. (f .0 e .0, is-12 h x m .0 (f .0 e .1)), λ s. f .1 (s .0, is-12 h x m .1 (s .1)));
         locals = raises-width;
+        begins = begins-is;
       }

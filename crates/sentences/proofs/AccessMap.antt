@@ -18,7 +18,7 @@ use Rattle.rules.specs.declared.Register.{Register}
 use Rattle.rules.specs.declared.Register.the-variants.{Only, Local, Alert, Block, Unassigned}
 use Rattle.rules.specs.declared.Setting.{Setting}
 use Rattle.rules.specs.declared.Setting.the-variants.{Ctrl, ClrRegwen, Clr, AccumCnt, AccumThresh, TimeoutCyc, PhaseCyc, EscCnt}
-use Rattle.rules.specs.declared.Single.the-variants.{IntrState, IntrEnable, IntrTest}
+use Rattle.rules.specs.declared.Single.the-variants.{IntrState, IntrEnable, IntrTest, PingRegwen, PingTimeout, PingEnable}
 use Rattle.sentences.specs.AccessMap.{Row}
 use Rattle.sentences.specs.Raw.{held, code}
 
@@ -33,6 +33,9 @@ unfolding numberOf bits
 found n r q b Row.intr-state = record { number = refl; exists = refl; width = refl }
 found n r q b Row.intr-enable = record { number = refl; exists = refl; width = refl }
 found n r q b Row.intr-test = record { number = refl; exists = refl; width = refl }
+found n r q b Row.ping-regwen = record { number = refl; exists = refl; width = refl }
+found n r q b Row.ping-timeout = record { number = refl; exists = refl; width = refl }
+found n r q b Row.ping-enable = record { number = refl; exists = refl; width = refl }
 found n r q b (Row.local-regwen j l) = record { number = refl; exists = lt-ltb j 7 l; width = refl }
 found n r q b (Row.local-en j l) = record { number = refl; exists = lt-ltb j 7 l; width = refl }
 found n r q b (Row.local-class j l) = record { number = refl; exists = lt-ltb j 7 l; width = refl }
@@ -86,6 +89,9 @@ unfolding numberOf bits
 row n (Only IntrState) e = Row.intr-state
 row n (Only IntrEnable) e = Row.intr-enable
 row n (Only IntrTest) e = Row.intr-test
+row n (Only PingRegwen) e = Row.ping-regwen
+row n (Only PingTimeout) e = Row.ping-timeout
+row n (Only PingEnable) e = Row.ping-enable
 row n (Local f j) e = local-row n f j (ltb-true j 7 e)
 row n (Alert f i) e = alert-row n f i (ltb-true i n e)
 row n (Block s k) e = let b = and-true (ltb k 4) (settingExists s) e in block-row n s k (ltb-true k 4 (b .0)) (b .1)
@@ -113,13 +119,14 @@ row-is n r q b t = in-map-is n q (found n r q b t .exists)
 
 pub held-is : (h : Handler) (q : Register) → value h q ≡ held h q
 unfolding value
-held-is h = by-kind (λ q. value h q ≡ held h q) (by-single (λ o. value h (Only o) ≡ held h (Only o)) refl refl refl)
+held-is h = by-kind (λ q. value h q ≡ held h q) (by-single (λ o. value h (Only o) ≡ held h (Only o)) refl refl refl refl refl refl)
     (λ f j. by-field (λ f. value h (Local f j) ≡ held h (Local f j)) refl refl refl refl f)
     (λ f i. by-field (λ f. value h (Alert f i) ≡ held h (Alert f i)) refl refl refl refl f)
     (λ s k. by-setting (λ s. value h (Block s k) ≡ held h (Block s k)) refl refl refl refl refl refl refl (λ p. refl) refl refl s) refl
 
 pub code-is : (h : Handler) (q : Register) → stage h q ≡ code h q
 unfolding stageIn
-code-is h = by-kind (λ q. stage h q ≡ code h q) (λ o. refl) (λ f j. by-field (λ f. stage h (Local f j) ≡ code h (Local f j)) refl refl refl refl f)
+code-is h = by-kind (λ q. stage h q ≡ code h q) (by-single (λ o. stage h (Only o) ≡ code h (Only o)) refl refl refl refl refl refl)
+    (λ f j. by-field (λ f. stage h (Local f j) ≡ code h (Local f j)) refl refl refl refl f)
     (λ f i. by-field (λ f. stage h (Alert f i) ≡ code h (Alert f i)) refl refl refl refl f)
     (λ s k. by-setting (λ s. stage h (Block s k) ≡ code h (Block s k)) refl refl refl refl refl refl refl (λ p. refl) refl refl s) refl

@@ -44,7 +44,7 @@ module _ (h : Handler) (x : Access) (y z : ℤ) (a : Answered h x y) (b : Answer
 
 module _ (h : Handler) (x : Access) (d e : Effects) (a : Handed h x d) (b : Handed h x e) where
   pub same-effects : d ≡ e
-  same-effects = λ i. record { clears = clears i; raises = raises i }
+  same-effects = λ i. record { clears = clears i; raises = raises i; begins = same-test (d .begins) (e .begins) (a .begins) (b .begins) i }
     where
       clears : d .clears ≡ e .clears
       clears = bit-ext 4 (d .clears) (e .clears) (a .classes) (b .classes) (λ k l. same-test (bit (d .clears) k) (bit (e .clears) k) (a .clears k l) (b .clears k l))

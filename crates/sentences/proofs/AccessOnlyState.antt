@@ -36,6 +36,7 @@ module _ (h : Handler) (x : Access) (f g : Handler) (a : Written h x f) (b : Wri
   same-changed q (Changes.takes r v p c) = a .takes r v p c ∙ sym (b .takes r v p c)
   same-changed q (Changes.local-cause j c) = a .local-cause j c ∙ sym (b .local-cause j c)
   same-changed q (Changes.alert-cause i c) = a .alert-cause i c ∙ sym (b .alert-cause i c)
+  same-changed q (Changes.ping-enable v n c) = a .ping-enable v n c ∙ sym (b .ping-enable v n c)
   same-changed q (Changes.intr-state v c) =
       same-bits (a .intr-width v (inl c)) (b .intr-width v (inl c))
       (λ k l. same-test (bit (f .interrupts .state) k) (bit (g .interrupts .state) k) (a .intr-state v c k l) (b .intr-state v c k l))
@@ -106,6 +107,10 @@ module _ (h : Handler) (x : Access) (f g : Handler) (a : Written h x f) (b : Wri
 
     same-interrupts : f .interrupts ≡ g .interrupts
     same-interrupts = λ i. record { state = same-held _ _ _ Row.intr-state i; enable = same-held _ _ _ Row.intr-enable i }
+
+    same-timer : f .timer ≡ g .timer
+    same-timer = λ i.
+        record { timeout = same-held _ _ _ Row.ping-timeout i; regwen = same-held _ _ _ Row.ping-regwen i; enable = same-held _ _ _ Row.ping-enable i }
 
     -- ── what each stage is ──
 
@@ -199,6 +204,7 @@ module _ (h : Handler) (x : Access) (f g : Handler) (a : Written h x f) (b : Wri
             classes = same-list noStages 4 (f .stages .classes) (g .stages .classes) (s .stages) (t .stages) same-block-stages i;
             alerts = same-alert-stages i;
             locals = same-local-stages i;
+            timeout = same-code _ _ _ Row.ping-timeout Shadowed.ping-timeout i;
           }
 
       pub same-state : f ≡ g
@@ -210,5 +216,6 @@ module _ (h : Handler) (x : Access) (f g : Handler) (a : Written h x f) (b : Wri
             alerts = same-alerts i;
             locals = same-locals i;
             interrupts = same-interrupts i;
+            timer = same-timer i;
             stages = same-stages i;
           }

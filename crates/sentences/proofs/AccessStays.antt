@@ -30,7 +30,7 @@ use Rattle.rules.specs.declared.Verdict.{Verdict}
 use Rattle.sentences.specs.Raw.{alertList}
 use Rattle.sentences.specs.AccessWrites.{Written}
 use Rattle.sentences.proofs.AccessVerdict.{refusalOf, verdict-of, is-5, is-1, is-2, is-4, is-14}
-use Rattle.sentences.proofs.AccessWrites.{takes, local-cause, alert-cause, intr-state, intr-test, intr-width, stays}
+use Rattle.sentences.proofs.AccessWrites.{takes, local-cause, alert-cause, ping-enable, intr-state, intr-test, intr-width, stays}
 
 -- what holds of the state, and of it with a value stored at a register of its map, holds of what an access stores
 pub stored-either : (h : Handler) (x : Access) (P : Handler → Type 0) → P h → ((q : Register) (v : ℕ) → inMap (h .n) q ≡ true → P (store h q v))
@@ -72,6 +72,7 @@ module _ (h : Handler) (x : Access) (m : h .n ≤ 248) where
         takes = takes h m x;
         local-cause = local-cause h m x;
         alert-cause = alert-cause h m x;
+        ping-enable = ping-enable h m x;
         intr-state = intr-state h m x;
         intr-test = intr-test h m x;
         intr-width = intr-width h m x;

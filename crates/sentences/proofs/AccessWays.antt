@@ -13,7 +13,7 @@ use Rattle.rules.specs.declared.Register.{Register}
 use Rattle.rules.specs.declared.Register.the-variants.{Only, Local, Alert, Block, Unassigned}
 use Rattle.rules.specs.declared.Setting.{Setting}
 use Rattle.rules.specs.declared.Setting.the-variants.{Ctrl, ClrRegwen, Clr, AccumCnt, AccumThresh, TimeoutCyc, PhaseCyc, EscCnt}
-use Rattle.rules.specs.declared.Single.the-variants.{IntrState, IntrEnable, IntrTest}
+use Rattle.rules.specs.declared.Single.the-variants.{IntrState, IntrEnable, IntrTest, PingRegwen, PingTimeout, PingEnable}
 use Rattle.sentences.specs.AccessMap.{WriteOnly, ReadOnly, Regwen, Shut, Shadowed}
 
 pub write-only-is : (q : Register) → (writeOnly q ≡ true) ↔ WriteOnly q
@@ -24,6 +24,9 @@ write-only-is q = (to q, from q)
     to (Only IntrState) = never
     to (Only IntrEnable) = never
     to (Only IntrTest) = (λ e. WriteOnly.intr-test)
+    to (Only PingRegwen) = never
+    to (Only PingTimeout) = never
+    to (Only PingEnable) = never
     to (Local Field.Regwen j) = never
     to (Local Field.En j) = never
     to (Local Field.Class j) = never
@@ -56,6 +59,9 @@ read-only-is q = (to q, from q)
     to (Only IntrState) = never
     to (Only IntrEnable) = never
     to (Only IntrTest) = never
+    to (Only PingRegwen) = never
+    to (Only PingTimeout) = never
+    to (Only PingEnable) = never
     to (Local Field.Regwen j) = never
     to (Local Field.En j) = never
     to (Local Field.Class j) = never
@@ -89,6 +95,9 @@ regwen-is q = (to q, from q)
     to (Only IntrState) = never
     to (Only IntrEnable) = never
     to (Only IntrTest) = never
+    to (Only PingRegwen) = (λ e. Regwen.timer)
+    to (Only PingTimeout) = never
+    to (Only PingEnable) = never
     to (Local Field.Regwen j) = (λ e. Regwen.local j)
     to (Local Field.En j) = never
     to (Local Field.Class j) = never
@@ -110,6 +119,7 @@ regwen-is q = (to q, from q)
     to Unassigned = never
 
     from : (q : Register) → Regwen q → isLock q ≡ true
+    from q Regwen.timer = refl
     from q (Regwen.local j) = refl
     from q (Regwen.alert i) = refl
     from q (Regwen.class k) = refl
@@ -123,6 +133,9 @@ shadowed-is q = (to q, from q)
     to (Only IntrState) = never
     to (Only IntrEnable) = never
     to (Only IntrTest) = never
+    to (Only PingRegwen) = never
+    to (Only PingTimeout) = (λ e. Shadowed.ping-timeout)
+    to (Only PingEnable) = never
     to (Local Field.Regwen j) = never
     to (Local Field.En j) = (λ e. Shadowed.local-en j)
     to (Local Field.Class j) = (λ e. Shadowed.local-class j)
@@ -152,6 +165,7 @@ shadowed-is q = (to q, from q)
     from q (Shadowed.accum-thresh k) = refl
     from q (Shadowed.timeout-cyc k) = refl
     from q (Shadowed.phase-cyc k p) = refl
+    from q Shadowed.ping-timeout = refl
 
 pub shut-is : (h : Handler) (q : Register) → (locked h q ≡ true) ↔ Shut h q
 unfolding locked guard value
@@ -161,6 +175,9 @@ shut-is h q = (to h q, from h q)
     to h (Only IntrState) = never
     to h (Only IntrEnable) = never
     to h (Only IntrTest) = never
+    to h (Only PingRegwen) = (λ e. Shut.ping-regwen (eqb-true _ 0 e))
+    to h (Only PingTimeout) = (λ e. Shut.ping-timeout (eqb-true _ 0 e))
+    to h (Only PingEnable) = (λ e. Shut.ping-enable (eqb-true _ 0 e))
     to h (Local Field.Regwen j) = (λ e. Shut.local-regwen j (eqb-true _ 0 e))
     to h (Local Field.En j) = (λ e. Shut.local-en j (eqb-true _ 0 e))
     to h (Local Field.Class j) = (λ e. Shut.local-class j (eqb-true _ 0 e))
@@ -182,6 +199,9 @@ shut-is h q = (to h q, from h q)
     to h Unassigned = never
 
     from : (h : Handler) (q : Register) → Shut h q → locked h q ≡ true
+    from h q (Shut.ping-regwen e) = eq-eqb _ 0 e
+    from h q (Shut.ping-timeout e) = eq-eqb _ 0 e
+    from h q (Shut.ping-enable e) = eq-eqb _ 0 e
     from h q (Shut.local-regwen j e) = eq-eqb _ 0 e
     from h q (Shut.local-en j e) = eq-eqb _ 0 e
     from h q (Shut.local-class j e) = eq-eqb _ 0 e

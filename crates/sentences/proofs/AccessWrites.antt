@@ -2,10 +2,10 @@
 -- Assumes nothing.
 use Prim.Native.Nat.{ℕ, _+_, _≤_, _<_}
 use mathlib.Core.Path.{_≡_, refl, sym, ap, _∙_, subst}
-use mathlib.Core.Logic.{_↔_, _⊎_, ⊎-elim, Iff·rfl}
+use mathlib.Core.Logic.{_↔_, _⊎_, _≢_, ⊎-elim, Iff·rfl}
 use mathlib.Core.Bool.{Bool, true, false, false≢true, cond, not, _&&_, _||_}
 use native.Mathlib.Omega.{arith}
-use borrow.Author.Tests.{eqb-true, ne-eqb, not-true}
+use borrow.Author.Tests.{eqb-true, eq-eqb, ne-eqb, not-true}
 use lib.Dec.{eqb}
 use Rattle.bits.proofs.BitLaws.{bit-bitsOf, bitsOf-lt}
 use Rattle.bits.proofs.IndexLaws.{and-true, true-and}
@@ -26,7 +26,7 @@ use Rattle.rules.specs.declared.Field.{Field}
 use Rattle.rules.specs.declared.Handler.{Handler}
 use Rattle.rules.specs.declared.Register.{Register}
 use Rattle.rules.specs.declared.Register.the-variants.{Only, Local, Alert, Block}
-use Rattle.rules.specs.declared.Single.the-variants.{IntrState, IntrEnable, IntrTest}
+use Rattle.rules.specs.declared.Single.the-variants.{IntrState, IntrEnable, IntrTest, PingRegwen, PingTimeout, PingEnable}
 use Rattle.sentences.specs.AccessMap.{Names, Plain, Shadowed}
 use Rattle.sentences.specs.Raw.{held, code}
 use Rattle.sentences.specs.AccessWrites.{Commits, Changes}
@@ -40,6 +40,8 @@ use Rattle.sentences.proofs.SentenceCases.{not-is, and-is}
 -- a plain register is written itself and takes what is written
 plain-takes : (q : Register) → Plain q → (target q ≡ q) × ((old v : ℕ) → newValue q old v ≡ v)
 plain-takes q Plain.intr-enable = (refl, λ old v. refl)
+plain-takes q Plain.ping-regwen = (refl, λ old v. refl)
+plain-takes q Plain.ping-timeout = (refl, λ old v. refl)
 plain-takes q (Plain.local-regwen j) = (refl, λ old v. refl)
 plain-takes q (Plain.local-en j) = (refl, λ old v. refl)
 plain-takes q (Plain.local-class j) = (refl, λ old v. refl)
@@ -119,6 +121,11 @@ module _ (h : Handler) (m : h .n ≤ 248) where
     pub alert-cause : (i : ℕ) → Commits h x (Alert Field.Cause i) 1 → held (acted h x) (Alert Field.Cause i) ≡ 0
     alert-cause i c = sym (held-is (acted h x) (Alert Field.Cause i)) ∙ stored (Alert Field.Cause i) 1 c
 
+    pub ping-enable : (v : ℕ) → v ≢ 0 → Commits h x (Only PingEnable) v → held (acted h x) (Only PingEnable) ≡ v
+    ping-enable v n c =
+        sym (held-is (acted h x) (Only PingEnable)) ∙ stored (Only PingEnable) v c
+        ∙ ap (λ (b : Bool). cond b (value h (Only PingEnable)) v) (ne-eqb v 0 n)
+
     -- INTR_STATE
     cleared : (v : ℕ) → Commits h x (Only IntrState) v → acted h x .interrupts .state ≡ bitsOf 4 (λ k. bit (h .interrupts .state) k && not (bit v k))
     cleared v c =
@@ -154,7 +161,9 @@ module _ (h : Handler) (m : h .n ≤ 248) where
     kept : (q p : Register) (v old : ℕ) → Commits h x q v → target q ≡ p → ¬ Changes h x p → newValue q old v ≡ old
     kept q p v old c e n = by-kind (λ q. Commits h x q v → target q ≡ p → newValue q old v ≡ old)
         (by-single (λ o. Commits h x (Only o) v → target (Only o) ≡ p → newValue (Only o) old v ≡ old) (λ c e. against (Changes.intr-state v c) e)
-        (λ c e. against (Changes.takes (Only IntrEnable) v Plain.intr-enable c) e) (λ c e. against (Changes.intr-test v c) e))
+        (λ c e. against (Changes.takes (Only IntrEnable) v Plain.intr-enable c) e) (λ c e. against (Changes.intr-test v c) e)
+        (λ c e. against (Changes.takes (Only PingRegwen) v Plain.ping-regwen c) e) (λ c e. against (Changes.takes (Only PingTimeout) v Plain.ping-timeout c) e)
+        (λ c e. enabled (λ z. against (Changes.ping-enable v z c) e)))
         (λ f j. by-field (λ f. Commits h x (Local f j) v → Local f j ≡ p → newValue (Local f j) old v ≡ old)
         (λ c e. against (Changes.takes _ v (Plain.local-regwen j) c) e) (λ c e. against (Changes.takes _ v (Plain.local-en j) c) e)
         (λ c e. against (Changes.takes _ v (Plain.local-class j) c) e)
@@ -171,6 +180,13 @@ module _ (h : Handler) (m : h .n ≤ 248) where
       where
         against : {A : Type 0} {q : Register} → Changes h x q → q ≡ p → A
         against c e = absurd (n (subst (Changes h x) e c))
+
+        enabled : ((v ≢ 0) → cond (eqb v 0) old v ≡ old) → cond (eqb v 0) old v ≡ old
+        enabled f = go (eqb v 0) refl
+          where
+            go : (b : Bool) → eqb v 0 ≡ b → cond b old v ≡ old
+            go true e = refl
+            go false e = ap (λ (b : Bool). cond b old v) (sym e) ∙ f (λ (z : v ≡ 0). false≢true (sym e ∙ eq-eqb v 0 z))
 
         cause : ((v ≡ 1) → cond (eqb v 1) 0 old ≡ old) → cond (eqb v 1) 0 old ≡ old
         cause f = go (eqb v 1) refl

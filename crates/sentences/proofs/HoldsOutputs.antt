@@ -105,7 +105,7 @@ module _ (g : Handler) (s : Sample) (f : Effects) (v : Valid g) (r : RaisesFiveO
   event-is : (k : ℕ) → (event g (heard g s f) k ≡ true) ↔ ClassHasEvent g s f (after2 g s f) k
   unfolding event sampled
   event-is k =
-      let a = holds-assigned g s f k (v .n) r in
+      let a = holds-assigned g s f k (v .n) (v .ping-timeout) r in
       then (holds-event (assigned g (heard g s f) k) (classAt g k)) (λ d. (a .0 (d .0), d .1), λ d. (a .1 (d .0), d .1))
 
   now : (k : ℕ) → k < 4 → bit (after4 g s f .interrupts .state) k ≡ interruptNow g (heard g s f) k
@@ -137,5 +137,6 @@ module _ (g : Handler) (s : Sample) (f : Effects) (v : Valid g) (r : RaisesFiveO
         links = refl;
         alerts = refl;
         locals = refl;
+        timer = refl;
         stages = refl;
       }

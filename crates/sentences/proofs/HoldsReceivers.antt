@@ -2,13 +2,14 @@
 -- Assumes nothing.
 use Prim.Native.Nat.{ℕ, _+_, _*_, _≤_, _<_}
 use mathlib.Core.Path.{_≡_, refl, sym, ap, ap₂, _∙_}
-use mathlib.Core.Logic.{_↔_, ⊎-elim, Iff·rfl}
-use mathlib.Core.Bool.{Bool, true, false, false≢true, cond, not, _&&_, _||_}
+use mathlib.Core.Logic.{_↔_, inl, ⊎-elim, Iff·rfl}
+use mathlib.Core.Bool.{Bool, true, false, false≢true, and-true, cond, not, _&&_, _||_}
+use native.Mathlib.Decide.{decLt}
 use native.Mathlib.Omega.{arith}
 use borrow.Author.Tests.{lt-ltb, le-ltb}
-use lib.Dec.{ltb}
-use Rattle.bits.specs.Bits.{wordOf}
-use Rattle.bits.specs.Index.{wordsBy}
+use lib.Dec.{eqb, leb, ltb}
+use Rattle.bits.specs.Bits.{bit, wordOf}
+use Rattle.bits.specs.Index.{placeIn, wordsBy}
 use Rattle.bits.proofs.BitLaws.{wordOf-lt}
 use Rattle.bits.proofs.IndexLaws.{at-each, length-each}
 use Rattle.bits.proofs.WordLaws.{placeIn-each}
@@ -16,18 +17,21 @@ use Rattle.link_rules.proofs.CodeLaws.{pausing-back, busy-back}
 use Rattle.link_rules.specs.Codes.{handshakeOf, pausingBit, busyBit}
 use Rattle.link_rules.specs.Pair.{rises}
 use Rattle.link_rules.specs.Receiver.{isReady, takes, askedFor, standsAfter, received}
+use Rattle.link_rules.specs.Timer.{isLine, lineOf, openNow, age, fails, failsAlert}
 use Rattle.link_rules.specs.declared.Handshake.{Handshake}
 use Rattle.link_rules.specs.declared.Receiver.{Receiver}
-use Rattle.rules.specs.Samples.{receivedBy, happened, answered, receiverAfter, heard, sampled}
+use Rattle.link_rules.specs.declared.Turn.{Turn}
+use Rattle.rules.specs.Samples.{receivedBy, happened, answered, receiverAfter, turnPending, before, asksFor, turnAnswered, timed, receiverTimed, heard, sampled}
 use Rattle.rules.specs.State.{words, receiver, withLinks}
 use Rattle.rules.specs.Tick.{linksAfter}
 use Rattle.rules.specs.declared.Effects.{Effects}
 use Rattle.rules.specs.declared.Handler.{Handler}
 use Rattle.rules.specs.declared.Sample.{Sample}
 use Rattle.sentences.specs.Pairs.{FourWords}
-use Rattle.sentences.specs.Raw.{positive, negative, asked, pausing, busy, level, pending}
-use Rattle.sentences.specs.Receivers.{Taken, PingOpen, Answers, Event, Handshaken, Pinged, Received}
-use Rattle.sentences.proofs.SentenceCases.{off, lt-is, not-is, denied, and-is, or-is, then}
+use Rattle.sentences.specs.Raw.{positive, negative, pausing, busy, level, pending}
+use Rattle.sentences.specs.Receivers.{Taken, PingOpen, Answers, Event, TurnAnswered, Fails, AlertFails, Handshaken, Pinged, Received}
+use Rattle.sentences.proofs.HoldsTurns.{cond-is, age-is, line-is, alerts-is, turn-open-is, open-now-is, asked-is}
+use Rattle.sentences.proofs.SentenceCases.{off, eq-is, lt-is, not-is, denied, and-is, and-then, or-is, then}
 
 -- the state after step 2: what it does to the registers, and the links
 abbrev pub after2 : Handler → Sample → Effects → Handler
@@ -67,7 +71,11 @@ not-self false e = false≢true (sym e)
 
 -- ── what alert i's receiver is given in a tick ──
 
-module _ (g : Handler) (s : Sample) (i : ℕ) where
+-- the timer asks for its ping
+abbrev asked : Handler → Sample → Effects → ℕ → Bool
+asked g s f i = placeIn (asksFor g s f) i
+
+module _ (g : Handler) (s : Sample) (f : Effects) (i : ℕ) where
   taken-is : ((ltb i (g .n) && takes (receiver g i .stands) (positive (s .alerts) i) (negative (s .alerts) i)) ≡ true) ↔ Taken g s i
   taken-is =
       let p = positive (s .alerts) i in
@@ -76,61 +84,111 @@ module _ (g : Handler) (s : Sample) (i : ℕ) where
       (and-is (isReady (receiver g i .stands)) (rises p m) (ready-is (pausing g i) (busy g i)) (high-is p m)) in
       then e (λ d. (d .0, d .1 .0, d .1 .1), λ d. (d .0, (d .1, d .2)))
 
-  open-is : ((asked s i || pending g i) ≡ true) ↔ PingOpen g s i
-  open-is = or-is (asked s i) (pending g i) Iff·rfl Iff·rfl
+  open-is : i < 256 → ((asked g s f i || pending g i) ≡ true) ↔ PingOpen g f i
+  open-is l = or-is (asked g s f i) (pending g i) (asked-is g s f i l) Iff·rfl
 
   -- (a && b) && c and a && (b && c)
   regroup : (a b c : Bool) → (a && (b && c)) ≡ ((a && b) && c)
   regroup true b c = refl
   regroup false b c = refl
 
-  pub event-is : (happened g (s .asks) (s .alerts) i ≡ true) ↔ Event g s i
-  unfolding happened received askedFor
-  event-is =
-      let t = takes (receiver g i .stands) (positive (s .alerts) i) (negative (s .alerts) i) in
-      let e = and-is (ltb i (g .n) && t) (not (asked s i || pending g i)) taken-is (denied (asked s i || pending g i) open-is) in
-      (λ x. e .0 (sym (regroup (ltb i (g .n)) t (not (asked s i || pending g i))) ∙ x), λ d. regroup (ltb i (g .n)) t (not (asked s i || pending g i)) ∙ e .1 d)
+  abbrev isOpen : Bool
+  isOpen = asked g s f i || pending g i
 
-  pub answers-is : (answered g (s .asks) (s .alerts) i ≡ true) ↔ Answers g s i
+  abbrev isTaken : Bool
+  isTaken = takes (receiver g i .stands) (positive (s .alerts) i) (negative (s .alerts) i)
+
+  pub event-is : i < 256 → (happened g (asksFor g s f) (s .alerts) i ≡ true) ↔ Event g s f i
+  unfolding happened received askedFor
+  event-is l =
+      let e = and-is (ltb i (g .n) && isTaken) (not isOpen) taken-is (denied isOpen (open-is l)) in
+      (λ x. e .0 (sym (regroup (ltb i (g .n)) isTaken (not isOpen)) ∙ x), λ d. regroup (ltb i (g .n)) isTaken (not isOpen) ∙ e .1 d)
+
+  pub answers-is : i < 256 → (answered g (asksFor g s f) (s .alerts) i ≡ true) ↔ Answers g s f i
   unfolding answered received askedFor
-  answers-is =
-      let t = takes (receiver g i .stands) (positive (s .alerts) i) (negative (s .alerts) i) in
-      let e = and-is (ltb i (g .n) && t) (asked s i || pending g i) taken-is open-is in
-      (λ x. e .0 (sym (regroup (ltb i (g .n)) t (asked s i || pending g i)) ∙ x), λ d. regroup (ltb i (g .n)) t (asked s i || pending g i) ∙ e .1 d)
+  answers-is l =
+      let e = and-is (ltb i (g .n) && isTaken) isOpen taken-is (open-is l) in
+      (λ x. e .0 (sym (regroup (ltb i (g .n)) isTaken isOpen) ∙ x), λ d. regroup (ltb i (g .n)) isTaken isOpen ∙ e .1 d)
+
+  -- of every number, since none at N and above is an alert
+  answers-any : g .n ≤ 248 → (answered g (asksFor g s f) (s .alerts) i ≡ true) ↔ Answers g s f i
+  unfolding answered
+  answers-any m = go (decLt i (g .n))
+    where
+      go : Dec (i < g .n) → (answered g (asksFor g s f) (s .alerts) i ≡ true) ↔ Answers g s f i
+      go (yes l) = answers-is (omega arith)
+      go (no n) =
+          let z : g .n ≤ i = omega arith in (
+            λ e. absurd (false≢true (sym (ap (λ (b : Bool). b && receivedBy g (asksFor g s f) (s .alerts) i .answer) (le-ltb i (g .n) z)) ∙ e)),
+            λ d. absurd (n (d .0 .0)),
+          )
+
+-- ── the turn's ping is answered, or fails ──
+
+module _ (g : Handler) (s : Sample) (f : Effects) (m : g .n ≤ 248) where
+  abbrev t : Turn
+  t = g .links .turn
+
+  pub turn-answered-is : (turnAnswered g s f ≡ true) ↔ TurnAnswered g s f
+  turn-answered-is =
+      cond-is (isLine t) (openNow (before g s f) t && bit (s .answers) (lineOf t)) (answered g (asksFor g s f) (s .alerts) (t .alert)) (line-is g) (alerts-is g)
+      (and-is (openNow (before g s f) t) (bit (s .answers) (lineOf t)) (open-now-is g s f false) Iff·rfl) (answers-any g s f (t .alert) m)
+
+  module _ (u : g .timer .timeout ≤ 65535) where
+    pub fails-is : (fails (timed g s f) t ≡ true) ↔ Fails g s f
+    unfolding fails
+    fails-is =
+        let w = g .timer .timeout in
+        let e = and-is (openNow (timed g s f) t) (not (turnAnswered g s f) && (ltb 0 w && leb w (age (timed g s f) t))) (open-now-is g s f (turnAnswered g s f))
+        (and-is (not (turnAnswered g s f)) (ltb 0 w && leb w (age (timed g s f) t)) (denied (turnAnswered g s f) turn-answered-is)
+        (and-then (ltb 0 w) (leb w (age (timed g s f) t)) (lt-is 0 w) (λ z. age-is (turnPending g) w (t .count) u z))) in
+        then e (
+          λ d. ((d .0 .0, turn-open-is g .0 (d .1 .1 .1 .0)), (d .1 .0, (d .1 .1 .0, d .1 .1 .1 .1))),
+          λ d. ((d .0 .0, inl (d .0 .1)), (d .1 .0, (d .1 .1 .0, (turn-open-is g .1 (d .0 .1), d .1 .1 .1)))),
+        )
+
+    pub alert-fails-is : (i : ℕ) → ((failsAlert (timed g s f) t && eqb i (t .alert)) ≡ true) ↔ AlertFails g s f i
+    alert-fails-is i =
+        let e = and-is (failsAlert (timed g s f) t) (eqb i (t .alert)) (and-is (fails (timed g s f) t) (not (isLine t)) fails-is (alerts-is g)) (eq-is i (t .alert)) in
+        then e (λ d. (d .0 .0, (d .0 .1, d .1)), λ d. ((d .0, d .1 .0), d .1 .1))
 
 -- ── the receivers after step 2 ──
 
-module _ (g : Handler) (s : Sample) (f : Effects) (m : g .n ≤ 248) where
+module _ (g : Handler) (s : Sample) (f : Effects) (m : g .n ≤ 248) (u : g .timer .timeout ≤ 65535) where
   abbrev h : Handler
   h = after2 g s f
 
   abbrev next : ℕ → Receiver
-  next i = receiverAfter g (s .asks) (s .alerts) i
+  next i = receiverAfter g (asksFor g s f) (s .alerts) i
 
   -- every bit of the four words
   pausing-at : (i : ℕ) → i < 256 → pausing h i ≡ pausingBit (next i .stands)
-  unfolding heard
+  unfolding heard receiverTimed
   pausing-at i l = placeIn-each words (λ j. pausingBit (next j .stands)) i l
 
   busy-at : (i : ℕ) → i < 256 → busy h i ≡ busyBit (next i .stands)
-  unfolding heard
+  unfolding heard receiverTimed
   busy-at i l = placeIn-each words (λ j. busyBit (next j .stands)) i l
 
   level-at : (i : ℕ) → i < 256 → level h i ≡ next i .level
-  unfolding heard
+  unfolding heard receiverTimed
   level-at i l = placeIn-each words (λ j. next j .level) i l
 
-  pending-at : (i : ℕ) → i < 256 → pending h i ≡ next i .pending
-  unfolding heard
-  pending-at i l = placeIn-each words (λ j. next j .pending) i l
+  -- its ping fails
+  abbrev failing : ℕ → Bool
+  failing i = failsAlert (timed g s f) (g .links .turn) && eqb i (g .links .turn .alert)
+
+  pending-at : (i : ℕ) → i < 256 → pending h i ≡ (next i .pending && not (ltb i (g .n) && failing i))
+  unfolding heard receiverTimed
+  pending-at i l = placeIn-each words (λ j. next j .pending && not (ltb j (g .n) && failing j)) i l
 
   next-above : (i : ℕ) → g .n ≤ i → next i ≡ receiver g i
   unfolding receiverAfter
-  next-above i l = ap (λ (t : Bool). cond t (receivedBy g (s .asks) (s .alerts) i .receiver) (receiver g i)) (le-ltb i (g .n) l)
+  next-above i l = ap (λ (t : Bool). cond t (receivedBy g (asksFor g s f) (s .alerts) i .receiver) (receiver g i)) (le-ltb i (g .n) l)
 
-  next-below : (i : ℕ) → i < g .n → next i ≡ receivedBy g (s .asks) (s .alerts) i .receiver
+  next-below : (i : ℕ) → i < g .n → next i ≡ receivedBy g (asksFor g s f) (s .alerts) i .receiver
   unfolding receiverAfter
-  next-below i l = ap (λ (t : Bool). cond t (receivedBy g (s .asks) (s .alerts) i .receiver) (receiver g i)) (lt-ltb i (g .n) l)
+  next-below i l = ap (λ (t : Bool). cond t (receivedBy g (asksFor g s f) (s .alerts) i .receiver) (receiver g i)) (lt-ltb i (g .n) l)
 
   -- where it stands below N, by where it stood and the wires
   stands-below : (i : ℕ) → i < g .n → next i .stands ≡ standsAfter (receiver g i .stands) (positive (s .alerts) i) (negative (s .alerts) i)
@@ -165,7 +223,7 @@ module _ (g : Handler) (s : Sample) (f : Effects) (m : g .n ≤ 248) where
       }
 
   -- its ping below N
-  level-below : (i : ℕ) → i < g .n → (a o : Bool) → asked s i ≡ a → pending g i ≡ o → level h i ≡ cond (a && not o) (not (level g i)) (level g i)
+  level-below : (i : ℕ) → i < g .n → (a o : Bool) → asked g s f i ≡ a → pending g i ≡ o → level h i ≡ cond (a && not o) (not (level g i)) (level g i)
   unfolding received askedFor
   level-below i l a o x y =
       level-at i (omega (arith, m)) ∙ ap (λ (r : Receiver). r .level) (next-below i l)
@@ -174,29 +232,48 @@ module _ (g : Handler) (s : Sample) (f : Effects) (m : g .n ≤ 248) where
   abbrev taken : ℕ → Bool
   taken i = takes (receiver g i .stands) (positive (s .alerts) i) (negative (s .alerts) i)
 
-  pending-below : (i : ℕ) → i < g .n → pending h i ≡ ((asked s i || pending g i) && not (ltb i (g .n) && taken i))
+  pending-below : (i : ℕ) → i < g .n → pending h i ≡ (((asked g s f i || pending g i) && not (ltb i (g .n) && taken i)) && not (failing i))
   unfolding received askedFor
   pending-below i l =
-      pending-at i (omega (arith, m)) ∙ ap (λ (r : Receiver). r .pending) (next-below i l)
-      ∙ ap (λ (t : Bool). (asked s i || pending g i) && not (t && taken i)) (sym (lt-ltb i (g .n) l))
+      pending-at i (omega (arith, m)) ∙ ap (λ (b : Bool). next i .pending && not (b && failing i)) (lt-ltb i (g .n) l)
+      ∙ ap (λ (r : Receiver). r .pending && not (failing i)) (next-below i l)
+      ∙ ap (λ (t : Bool). ((asked g s f i || pending g i) && not (t && taken i)) && not (failing i)) (sym (lt-ltb i (g .n) l))
 
-  pings : Pinged g s h
+  -- by its three tests
+  left-open : (i : ℕ) → i < g .n → (o t b : Bool) → (asked g s f i || pending g i) ≡ o → (ltb i (g .n) && taken i) ≡ t → failing i ≡ b
+      → pending h i ≡ ((o && not t) && not b)
+  left-open i l o t b x y z =
+      pending-below i l ∙ ap₂ (λ (o : Bool) (t : Bool). (o && not t) && not (failing i)) x y ∙ ap (λ (b : Bool). (o && not t) && not b) z
+
+  failed : (a : Bool) → (a && false) ≡ false
+  failed true = refl
+  failed false = refl
+
+  pings : Pinged g s f h
   pings =
       record {
-        changes = λ i l x y e. not-self (level g i) (sym (level-below i l true false x y) ∙ e);
-        while-open = λ i l y. while-open i l (asked s i) refl y;
-        unasked = λ i l x. level-below i l false (pending g i) x refl;
-        opens = λ i l o n. pending-below i l ∙ ap₂ (λ (o : Bool) (t : Bool). o && not t) (open-is g s i .1 o) (off (ltb i (g .n) && taken i) (taken-is g s i) n);
-        closes = λ i d. pending-below i (d .0 .0) ∙ ap₂ (λ (o : Bool) (t : Bool). o && not t) (open-is g s i .1 (d .1)) (taken-is g s i .1 (d .0));
-        none-open = λ i l n. pending-below i l ∙ ap (λ (o : Bool). o && not (ltb i (g .n) && taken i)) (off (asked s i || pending g i) (open-is g s i) n);
+        changes = λ i l x y e. not-self (level g i) (sym (level-below i l true false (asked-is g s f i (omega (arith, m)) .1 x) y) ∙ e);
+        while-open = λ i l y. while-open i l (asked g s f i) refl y;
+        unasked = λ i l x. level-below i l false (pending g i) (off (asked g s f i) (asked-is g s f i (omega (arith, m))) x) refl;
+        opens = λ i l o n k.
+            left-open i l true false false (open-is g s f i (omega (arith, m)) .1 o) (off (ltb i (g .n) && taken i) (taken-is g s f i) n)
+            (off (failing i) (alert-fails-is g s f m u i) k);
+        closes = λ i d.
+            let l : i < g .n = d .0 .0 in
+            left-open i l true true (failing i) (open-is g s f i (omega (arith, m, l)) .1 (d .1)) (taken-is g s f i .1 (d .0)) refl;
+        fails = λ i l k.
+            left-open i l (asked g s f i || pending g i) (ltb i (g .n) && taken i) true refl refl (alert-fails-is g s f m u i .1 k)
+            ∙ failed ((asked g s f i || pending g i) && not (ltb i (g .n) && taken i));
+        none-open = λ i l n.
+            left-open i l false (ltb i (g .n) && taken i) (failing i) (off (asked g s f i || pending g i) (open-is g s f i (omega (arith, m))) n) refl refl;
       }
     where
-      while-open : (i : ℕ) → i < g .n → (a : Bool) → asked s i ≡ a → pending g i ≡ true → level h i ≡ level g i
+      while-open : (i : ℕ) → i < g .n → (a : Bool) → asked g s f i ≡ a → pending g i ≡ true → level h i ≡ level g i
       while-open i l true x y = level-below i l true true x y
       while-open i l false x y = level-below i l false true x y
 
-  pub holds-receivers : Received g s h
-  unfolding heard
+  pub holds-receivers : Received g s f h
+  unfolding heard receiverTimed
   holds-receivers =
       record {
         handshake = handshakes;
@@ -204,9 +281,11 @@ module _ (g : Handler) (s : Sample) (f : Effects) (m : g .n ≤ 248) where
         pausing-above = λ i l b. pausing-at i b ∙ ap (λ (r : Receiver). pausingBit (r .stands)) (next-above i l) ∙ pausing-back (pausing g i) (busy g i);
         busy-above = λ i l b. busy-at i b ∙ ap (λ (r : Receiver). busyBit (r .stands)) (next-above i l) ∙ busy-back (pausing g i) (busy g i);
         level-above = λ i l b. level-at i b ∙ ap (λ (r : Receiver). r .level) (next-above i l);
-        pending-above = λ i l b. pending-at i b ∙ ap (λ (r : Receiver). r .pending) (next-above i l);
+        pending-above = λ i l b.
+            pending-at i b ∙ ap (λ (c : Bool). next i .pending && not (c && failing i)) (le-ltb i (g .n) l) ∙ and-true (next i .pending)
+            ∙ ap (λ (r : Receiver). r .pending) (next-above i l);
         pausing-words = four-words (λ i. pausingBit (next i .stands));
         busy-words = four-words (λ i. busyBit (next i .stands));
         level-words = four-words (λ i. next i .level);
-        pending-words = four-words (λ i. next i .pending);
+        pending-words = four-words (λ i. next i .pending && not (ltb i (g .n) && failing i));
       }

@@ -1,9 +1,9 @@
 -- The rules of step 2 satisfy the sentences.
 -- Assumes nothing.
-use Prim.Native.Nat.{ℕ, zero, suc, _<_}
+use Prim.Native.Nat.{ℕ, zero, suc, _≤_, _<_}
 use mathlib.Core.Path.{_≡_, refl, sym, ap, subst, _∙_}
 use mathlib.Core.Logic.{_↔_, _⊎_, ⊎-elim}
-use mathlib.Core.Bool.{Bool, true, false, false≢true, _&&_}
+use mathlib.Core.Bool.{Bool, true, false, false≢true, not, _&&_}
 use native.Mathlib.Decide.{decLt}
 use native.Mathlib.Omega.{arith}
 use lib.Dec.{eqb, ltb}
@@ -12,7 +12,8 @@ use Rattle.bits.specs.Index.{anyTo, placeIn}
 use Rattle.bits.proofs.BitLaws.{bit-none}
 use Rattle.bits.proofs.IndexLaws.{and-true, length-each}
 use Rattle.link_rules.specs.Pair.{equal}
-use Rattle.rules.specs.Samples.{alertBroken, raised, heard, alertEvent, occurs, sampled, assigned}
+use Rattle.link_rules.specs.Timer.{isLine, fails, failsAlert, failsLine}
+use Rattle.rules.specs.Samples.{alertBroken, timed, raised, heard, alertEvent, occurs, sampled, assigned}
 use Rattle.rules.specs.State.{local, alert}
 use Rattle.rules.specs.declared.Effects.{Effects}
 use Rattle.rules.specs.declared.Field.{Field}
@@ -22,10 +23,13 @@ use Rattle.laws.proofs.State.StateLaws.{alert-sampled, local-sampled}
 use Rattle.laws.proofs.Samples.Heard.{heard-event, heard-answer, heard-raise}
 use Rattle.sentences.specs.Pairs.{Equal}
 use Rattle.sentences.specs.Raw.{positive, negative}
-use Rattle.sentences.specs.Receivers.{Answers, Event}
+use Rattle.sentences.specs.Receivers.{Answers, Event, Fails}
 use Rattle.sentences.specs.Samples.{AlertEnabled, EqualWires, DifferingWrite, RaisesFiveOrNone, Occurs, Sampled, SampleStep, EventIs, AnswersIs, AlertEventIs, OccursIs, AssignedIs}
+use Rattle.sentences.specs.Turns.{AlertsTurn, LinesTurn}
 use Rattle.sentences.specs.Valid.{Valid}
-use Rattle.sentences.proofs.HoldsReceivers.{after2, event-is, answers-is, holds-receivers}
+use Rattle.sentences.proofs.HoldsReceivers.{after2, event-is, answers-is, fails-is, holds-receivers}
+use Rattle.sentences.proofs.HoldsTimer.{holds-timer}
+use Rattle.sentences.proofs.HoldsTurns.{line-is, alerts-is}
 use Rattle.sentences.proofs.SentenceCases.{off, eq-is, lt-is, and-is, or-is, any-is, then}
 
 -- ── equal wires ──
@@ -51,13 +55,13 @@ module _ (g : Handler) (s : Sample) where
       let e = any-is _ (alertBroken g (s .alerts)) (g .n) (λ i l. broken-is i) in
       (λ t. let d = e .0 t in (d .0, d .1, d .2 .1 .0, d .2 .1 .1), λ d. e .1 (d .0, d .1, (d .1, (d .2, d .3))))
 
--- ── one alert: below N its bit of what is heard, whatever step 1 hands on ──
+-- ── one alert: below N its bit of what is heard ──
 
-abbrev pub heardEvent : Effects → Handler → Sample → ℕ → Bool
-heardEvent f g s i = ltb i (g .n) && placeIn (heard g s f .events) i
+abbrev pub heardEvent : Handler → Sample → Effects → ℕ → Bool
+heardEvent g s f i = ltb i (g .n) && placeIn (heard g s f .events) i
 
-abbrev pub heardAnswer : Effects → Handler → Sample → ℕ → Bool
-heardAnswer f g s i = ltb i (g .n) && placeIn (heard g s f .answers) i
+abbrev pub heardAnswer : Handler → Sample → Effects → ℕ → Bool
+heardAnswer g s f i = ltb i (g .n) && placeIn (heard g s f .answers) i
 
 -- a test of every alert that is looked at below N
 below : {P : Type 0} (g : Handler) (i : ℕ) (t : Bool) → (i < g .n → (t ≡ true) ↔ P) → (P → i < g .n) → ((ltb i (g .n) && t) ≡ true) ↔ P
@@ -67,23 +71,23 @@ below {P} g i t f n = go (decLt i (g .n))
     go (yes l) = let e = and-is (ltb i (g .n)) t (lt-is i (g .n)) (f l) in (λ x. e .0 x .1, λ p. e .1 (l, p))
     go (no l) = (λ x. absurd (l (lt-is i (g .n) .0 (and-true (ltb i (g .n)) t x .0))), λ p. absurd (l (n p)))
 
-event-bit : (f : Effects) (g : Handler) (s : Sample) (i : ℕ) → i < 256 → (placeIn (heard g s f .events) i ≡ true) ↔ Event g s i
-event-bit f g s i l = subst (λ (t : Bool). (t ≡ true) ↔ Event g s i) (sym (heard-event g s f i l)) (event-is g s i)
+event-bit : (g : Handler) (s : Sample) (f : Effects) (i : ℕ) → i < 256 → (placeIn (heard g s f .events) i ≡ true) ↔ Event g s f i
+event-bit g s f i l = subst (λ (t : Bool). (t ≡ true) ↔ Event g s f i) (sym (heard-event g s f i l)) (event-is g s f i l)
 
-answer-bit : (f : Effects) (g : Handler) (s : Sample) (i : ℕ) → i < 256 → (placeIn (heard g s f .answers) i ≡ true) ↔ Answers g s i
-answer-bit f g s i l = subst (λ (t : Bool). (t ≡ true) ↔ Answers g s i) (sym (heard-answer g s f i l)) (answers-is g s i)
+answer-bit : (g : Handler) (s : Sample) (f : Effects) (i : ℕ) → i < 256 → (placeIn (heard g s f .answers) i ≡ true) ↔ Answers g s f i
+answer-bit g s f i l = subst (λ (t : Bool). (t ≡ true) ↔ Answers g s f i) (sym (heard-answer g s f i l)) (answers-is g s f i l)
 
-pub holds-event-bits : (f : Effects) → EventIs (heardEvent f)
-holds-event-bits f g s i m = below g i (placeIn (heard g s f .events) i) (λ l. event-bit f g s i (omega (arith, m))) (λ d. d .0 .0)
+pub holds-event-bits : EventIs heardEvent
+holds-event-bits g s f i m = below g i (placeIn (heard g s f .events) i) (λ l. event-bit g s f i (omega (arith, m))) (λ d. d .0 .0)
 
-pub holds-answer-bits : (f : Effects) → AnswersIs (heardAnswer f)
-holds-answer-bits f g s i m = below g i (placeIn (heard g s f .answers) i) (λ l. answer-bit f g s i (omega (arith, m))) (λ d. d .0 .0)
+pub holds-answer-bits : AnswersIs heardAnswer
+holds-answer-bits g s f i m = below g i (placeIn (heard g s f .answers) i) (λ l. answer-bit g s f i (omega (arith, m))) (λ d. d .0 .0)
 
-pub holds-alert-event : (f : Effects) → AlertEventIs (λ g s i. alertEvent g (heard g s f) i)
+pub holds-alert-event : AlertEventIs (λ g s f i. alertEvent g (heard g s f) i)
 unfolding alertEvent
-holds-alert-event f g s i m =
+holds-alert-event g s f i m =
     below g i (placeIn (heard g s f .events) i && eqb (alert g Field.En i) 1)
-    (λ l. and-is (placeIn (heard g s f .events) i) (eqb (alert g Field.En i) 1) (event-bit f g s i (omega (arith, m))) (eq-is (alert g Field.En i) 1)) (λ d. d .0 .0 .0)
+    (λ l. and-is (placeIn (heard g s f .events) i) (eqb (alert g Field.En i) 1) (event-bit g s f i (omega (arith, m))) (eq-is (alert g Field.En i) 1)) (λ d. d .0 .0 .0)
 
 -- ── local alerts ──
 
@@ -107,25 +111,40 @@ raised-by f j r h = (λ t. let e : j ≡ 5 = is-five t in (e, ap (bit (f .raises
         ⊎-elim (λ (e : f .raises ≡ 0). absurd (false≢true (sym (ap (λ (x : ℕ). bit x j) e ∙ bit-none j) ∙ t)))
         (λ (e : f .raises ≡ 32). five j h (sym (ap (λ (x : ℕ). bit x j) e) ∙ t)) r
 
-pub holds-occurs : OccursIs (λ g s f. occurs g (heard g s f))
-unfolding occurs raised
-holds-occurs g s f j r h =
-    let e = and-is (bit (heard g s f .raises) j) (eqb (local g Field.En j) 1)
-    (subst (λ (t : Bool). (t ≡ true) ↔ (((j ≡ 2) × EqualWires g s) ⊎ ((j ≡ 5) × DifferingWrite f))) (sym (heard-raise g s f j h))
+-- what raises local alert j
+abbrev Raised : Handler → Sample → Effects → ℕ → Type 0
+Raised g s f j =
+    ((j ≡ 0) × (Fails g s f × AlertsTurn g)) ⊎ (((j ≡ 1) × (Fails g s f × LinesTurn g)) ⊎ (((j ≡ 2) × EqualWires g s) ⊎ ((j ≡ 5) × DifferingWrite f)))
+
+raised-is : (g : Handler) (s : Sample) (f : Effects) (j : ℕ) → g .n ≤ 248 → g .timer .timeout ≤ 65535 → RaisesFiveOrNone f → j < 7 → (raised g s f j ≡ true) ↔ Raised g s f j
+unfolding raised
+raised-is g s f j n fits r h =
+    let t = g .links .turn in
+    let m = timed g s f in
+    let e = fails-is g s f n fits in
+    or-is (eqb j 0 && failsAlert m t) _
+    (and-is (eqb j 0) (failsAlert m t) (eq-is j 0) (and-is (fails m t) (not (isLine t)) e (alerts-is g)))
+    (or-is (eqb j 1 && failsLine m t) _
+    (and-is (eqb j 1) (failsLine m t) (eq-is j 1) (and-is (fails m t) (isLine t) e (line-is g)))
     (or-is (eqb j 2 && anyTo (alertBroken g (s .alerts)) (g .n)) (bit (f .raises) j)
     (and-is (eqb j 2) (anyTo (alertBroken g (s .alerts)) (g .n)) (eq-is j 2) (equal-wires-is g s)) (raised-by f j r h)))
-    (eq-is (local g Field.En j) 1) in
+
+pub holds-occurs : OccursIs (λ g s f. occurs g (heard g s f))
+unfolding occurs
+holds-occurs g s f j n fits r h =
+    let e = and-is (bit (heard g s f .raises) j) (eqb (local g Field.En j) 1)
+    (subst (λ (t : Bool). (t ≡ true) ↔ Raised g s f j) (sym (heard-raise g s f j h)) (raised-is g s f j n fits r h)) (eq-is (local g Field.En j) 1) in
     (λ t. let d = e .0 t in (d .1, d .0), λ d. e .1 (d .1, d .0))
 
 -- ── what is assigned to a class ──
 
 pub holds-assigned : AssignedIs (λ g s f. assigned g (heard g s f))
 unfolding assigned
-holds-assigned g s f k m r =
+holds-assigned g s f k n fits r =
     let a = any-is _ (λ i. alertEvent g (heard g s f) i && eqb (alert g Field.Class i) k) (g .n)
-    (λ i l. and-is (alertEvent g (heard g s f) i) (eqb (alert g Field.Class i) k) (holds-alert-event f g s i m) (eq-is (alert g Field.Class i) k)) in
+    (λ i l. and-is (alertEvent g (heard g s f) i) (eqb (alert g Field.Class i) k) (holds-alert-event g s f i n) (eq-is (alert g Field.Class i) k)) in
     let b = any-is _ (λ j. occurs g (heard g s f) j && eqb (local g Field.Class j) k) 7
-    (λ j l. and-is (occurs g (heard g s f) j) (eqb (local g Field.Class j) k) (holds-occurs g s f j r l) (eq-is (local g Field.Class j) k)) in
+    (λ j l. and-is (occurs g (heard g s f) j) (eqb (local g Field.Class j) k) (holds-occurs g s f j n fits r l) (eq-is (local g Field.Class j) k)) in
     or-is (anyTo (λ i. alertEvent g (heard g s f) i && eqb (alert g Field.Class i) k) (g .n)) (anyTo (λ j. occurs g (heard g s f) j && eqb (local g Field.Class j) k) 7)
     (then a (λ d. (d .0, d .2 .0 .0, d .2 .0 .1, d .2 .1), λ d. (d .0, d .1 .0 .0, ((d .1, d .2), d .3))))
     (then b (λ d. (d .0, d .1, d .2 .0, d .2 .1), λ d. (d .0, d .1, (d .2, d .3))))
@@ -136,15 +155,16 @@ module _ (g : Handler) (s : Sample) (f : Effects) (v : Valid g) (r : RaisesFiveO
   samples-hold : Sampled g s f (after2 g s f)
   unfolding sampled heard
   samples-hold =
-      let on-event : (i : ℕ) → Event g s i → AlertEnabled g i → alertEvent g (heard g s f) i ≡ true = λ i e n. holds-alert-event f g s i (v .n) .1 (e, n) in
-      let on-local : (j : ℕ) → j < 7 → Occurs g s f j → occurs g (heard g s f) j ≡ true = λ j l o. holds-occurs g s f j r l .1 o in
+      let on-event : (i : ℕ) → Event g s f i → AlertEnabled g i → alertEvent g (heard g s f) i ≡ true = λ i e n. holds-alert-event g s f i (v .n) .1 (e, n) in
+      let on-local : (j : ℕ) → j < 7 → Occurs g s f j → occurs g (heard g s f) j ≡ true = λ j l o. holds-occurs g s f j (v .n) (v .ping-timeout) r l .1 o in
       record {
-        receivers = holds-receivers g s f (v .n);
+        receivers = holds-receivers g s f (v .n) (v .ping-timeout);
+        timer-turn = holds-timer g s f (v .n) (v .ping-timeout);
         cause-sets = λ i e n. let b : i < 248 = omega (arith, v .n, e .0 .0) in alert-sampled g (heard g s f) Field.Cause i b ∙ simp (on-event i e n);
-        cause-stays = λ i b n. alert-sampled g (heard g s f) Field.Cause i b ∙ simp (off (alertEvent g (heard g s f) i) (holds-alert-event f g s i (v .n)) n);
+        cause-stays = λ i b n. alert-sampled g (heard g s f) Field.Cause i b ∙ simp (off (alertEvent g (heard g s f) i) (holds-alert-event g s f i (v .n)) n);
         cause-entries = length-each 248 _;
         local-sets = λ j l o. local-sampled g (heard g s f) Field.Cause j l ∙ simp (on-local j l o);
-        local-stays = λ j l n. local-sampled g (heard g s f) Field.Cause j l ∙ simp (off (occurs g (heard g s f) j) (holds-occurs g s f j r l) n);
+        local-stays = λ j l n. local-sampled g (heard g s f) Field.Cause j l ∙ simp (off (occurs g (heard g s f) j) (holds-occurs g s f j (v .n) (v .ping-timeout) r l) n);
         local-entries = length-each 7 _;
         n = refl;
         alert-regwen = refl;
@@ -155,6 +175,7 @@ module _ (g : Handler) (s : Sample) (f : Effects) (v : Valid g) (r : RaisesFiveO
         local-class = refl;
         classes = refl;
         interrupts = refl;
+        timer = refl;
         stages = refl;
       }
 

@@ -50,6 +50,17 @@ same-new n h k a b = λ i.
           level = same-entries 4 0 (h .links .receivers .level) (k .links .receivers .level) (a .level) (b .level) i;
           pending = same-entries 4 0 (h .links .receivers .pending) (k .links .receivers .pending) (a .pending) (b .pending) i;
         };
+        turn = record {
+          number = (a .turn-number ∙ sym (b .turn-number)) i;
+          alert = (a .turn-alert ∙ sym (b .turn-alert)) i;
+          count = (a .turn-count ∙ sym (b .turn-count)) i;
+        };
+        lines = (a .line-pings ∙ sym (b .line-pings)) i;
+      };
+      timer = record {
+        timeout = (a .ping-timeout ∙ sym (b .ping-timeout)) i;
+        regwen = (a .ping-regwen ∙ sym (b .ping-regwen)) i;
+        enable = (a .ping-enable ∙ sym (b .ping-enable)) i;
       };
       classes =
           same-list 4 _ (h .classes) (k .classes) (a .class-entries) (b .class-entries)
@@ -79,6 +90,7 @@ same-new n h k a b = λ i.
           en = same-entries 7 0 (h .stages .locals .en) (k .stages .locals .en) (a .staged-local-en) (b .staged-local-en) i;
           class = same-entries 7 0 (h .stages .locals .class) (k .stages .locals .class) (a .staged-local-class) (b .staged-local-class) i;
         };
+        timeout = (a .staged-ping-timeout ∙ sym (b .staged-ping-timeout)) i;
       };
     }
 

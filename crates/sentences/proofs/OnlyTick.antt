@@ -91,6 +91,7 @@ module _ (g : Handler) (s : Sample) (f : Effects) (m h k : Handler) (fit : (j : 
         alerts = (a .alerts ∙ sym (b .alerts)) i;
         locals = (a .locals ∙ sym (b .locals)) i;
         interrupts = record { state = same-state i; enable = (a .enable ∙ sym (b .enable)) i };
+        timer = (a .timer ∙ sym (b .timer)) i;
         stages = (a .stages ∙ sym (b .stages)) i;
       }
 

@@ -13,8 +13,9 @@ use Rattle.rules.specs.declared.Effects.{Effects}
 use Rattle.rules.specs.declared.Handler.{Handler}
 use Rattle.rules.specs.declared.Refusal.{Refusal}
 use Rattle.rules.specs.declared.Register.{Register}
-use Rattle.rules.specs.declared.Register.the-variants.{Block}
+use Rattle.rules.specs.declared.Register.the-variants.{Only, Block}
 use Rattle.rules.specs.declared.Setting.the-variants.{Clr}
+use Rattle.rules.specs.declared.Single.the-variants.{PingEnable}
 use Rattle.rules.specs.declared.Verdict.{Verdict}
 use Rattle.sentences.specs.AccessArrays.{Sized}
 use Rattle.sentences.specs.AccessRefusals.{Reads, Writes, Given5, Given1, Given2, Given4, Given14, Given3, Given12, Accepted}
@@ -56,6 +57,8 @@ pub record Handed (h : Handler) (x : Access) (fx : Effects) : Type 0 where
   pub raises : (j : ℕ) → j < 7 → (bit (fx .raises) j ≡ true) ↔ ((j ≡ 5) × Given12 h x)
   -- "local alert j is 0 to 6"
   pub locals : fx .raises < 128
+  -- request (ix): "When 6 becomes 1": an accepted write of 1 while it is 0
+  pub begins : (fx .begins ≡ true) ↔ (Accepted h x × Writes h x (Only PingEnable) 1 × (h .timer .enable ≡ 0))
 
 -- ── step 1: the state h with the access x leaves g, answers z and hands on fx ──
 

@@ -10,7 +10,7 @@ use Rattle.rules.specs.declared.Register.{Register}
 use Rattle.rules.specs.declared.Register.the-variants.{Only, Local, Alert, Block}
 use Rattle.rules.specs.declared.Setting.{Setting}
 use Rattle.rules.specs.declared.Setting.the-variants.{Ctrl, ClrRegwen, Clr, AccumCnt, AccumThresh, TimeoutCyc, PhaseCyc, EscCnt}
-use Rattle.rules.specs.declared.Single.the-variants.{IntrState, IntrEnable, IntrTest}
+use Rattle.rules.specs.declared.Single.the-variants.{IntrState, IntrEnable, IntrTest, PingRegwen, PingTimeout, PingEnable}
 use Rattle.sentences.specs.Raw.{classOf}
 
 -- ── the table: number, register, bits ──
@@ -21,6 +21,10 @@ pub data Row (n : ℕ) : ℕ → Register → ℕ → Type 0 where
   intr-state : Row n 0 (Only IntrState) 4
   intr-enable : Row n 1 (Only IntrEnable) 4
   intr-test : Row n 2 (Only IntrTest) 4
+  -- request (ix): "registers 4 (REGWEN), 5 (timeout, 16 bits) and 6 (enable, 1 bit ..)"
+  ping-regwen : Row n 4 (Only PingRegwen) 1
+  ping-timeout : Row n 5 (Only PingTimeout) 16
+  ping-enable : Row n 6 (Only PingEnable) 1
   -- "16+j, 24+j, 32+j, 40+j | local REGWEN, EN, CLASS, CAUSE | 1, 1, 2, 1"
   local-regwen : (j : ℕ) → j < 7 → Row n (16 + j) (Local Field.Regwen j) 1
   local-en : (j : ℕ) → j < 7 → Row n (24 + j) (Local Field.En j) 1
@@ -61,9 +65,12 @@ pub data ReadOnly : Register → Type 0 where
   esc-cnt : (k : ℕ) → ReadOnly (Block EscCnt k)
   state : (k : ℕ) → ReadOnly (Block Setting.State k)
 
--- the registers that take a written value as it is: not INTR_STATE and CAUSE, where "a 1 clears", and none of the above
+-- the registers that take a written value as it is: not INTR_STATE and CAUSE, where "a 1 clears", not the ping timer's enable, where
+-- "a written 0 does nothing", and none of the above
 pub data Plain : Register → Type 0 where
   intr-enable : Plain (Only IntrEnable)
+  ping-regwen : Plain (Only PingRegwen)
+  ping-timeout : Plain (Only PingTimeout)
   local-regwen : (j : ℕ) → Plain (Local Field.Regwen j)
   local-en : (j : ℕ) → Plain (Local Field.En j)
   local-class : (j : ℕ) → Plain (Local Field.Class j)
@@ -79,6 +86,7 @@ pub data Plain : Register → Type 0 where
 
 -- "REGWEN and CLR_REGWEN"
 pub data Regwen : Register → Type 0 where
+  timer : Regwen (Only PingRegwen)
   local : (j : ℕ) → Regwen (Local Field.Regwen j)
   alert : (i : ℕ) → Regwen (Alert Field.Regwen i)
   class : (k : ℕ) → Regwen (Block Setting.Regwen k)
@@ -98,7 +106,11 @@ pub data Shut (h : Handler) : Register → Type 0 where
   phase-cyc : (k p : ℕ) → classOf h k .regwen ≡ 0 → Shut h (Block (PhaseCyc p) k)
   -- "CLR_REGWEN guards CLR"
   clr : (k : ℕ) → classOf h k .clrwen ≡ 0 → Shut h (Block Clr k)
+  -- request (ix): "The first locks 5 and 6"
+  ping-timeout : h .timer .regwen ≡ 0 → Shut h (Only PingTimeout)
+  ping-enable : h .timer .regwen ≡ 0 → Shut h (Only PingEnable)
   -- "That REGWEN is then locked too, and CLR_REGWEN is locked while it is 0."
+  ping-regwen : h .timer .regwen ≡ 0 → Shut h (Only PingRegwen)
   local-regwen : (j : ℕ) → getD (h .locals .regwen) j 0 ≡ 0 → Shut h (Local Field.Regwen j)
   alert-regwen : (i : ℕ) → getD (h .alerts .regwen) i 0 ≡ 0 → Shut h (Alert Field.Regwen i)
   regwen : (k : ℕ) → classOf h k .regwen ≡ 0 → Shut h (Block Setting.Regwen k)
@@ -114,3 +126,5 @@ pub data Shadowed : Register → Type 0 where
   accum-thresh : (k : ℕ) → Shadowed (Block AccumThresh k)
   timeout-cyc : (k : ℕ) → Shadowed (Block TimeoutCyc k)
   phase-cyc : (k p : ℕ) → Shadowed (Block (PhaseCyc p) k)
+  -- request (ix): "5 is shadowed"
+  ping-timeout : Shadowed (Only PingTimeout)

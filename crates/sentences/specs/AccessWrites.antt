@@ -2,7 +2,7 @@
 -- Assumes nothing.
 use Prim.Native.Nat.{ℕ, _+_, _≤_, _<_}
 use mathlib.Core.Path.{_≡_}
-use mathlib.Core.Logic.{_↔_, _⊎_}
+use mathlib.Core.Logic.{_↔_, _⊎_, _≢_}
 use mathlib.Core.Bool.{true, false}
 use lib.ListN.{getD}
 use Rattle.bits.specs.Bits.{bit}
@@ -11,7 +11,7 @@ use Rattle.rules.specs.declared.Field.{Field}
 use Rattle.rules.specs.declared.Handler.{Handler}
 use Rattle.rules.specs.declared.Register.{Register}
 use Rattle.rules.specs.declared.Register.the-variants.{Only, Local, Alert}
-use Rattle.rules.specs.declared.Single.the-variants.{IntrState, IntrTest}
+use Rattle.rules.specs.declared.Single.the-variants.{IntrState, IntrTest, PingEnable}
 use Rattle.sentences.specs.AccessMap.{Names, Plain, Shadowed}
 use Rattle.sentences.specs.AccessRefusals.{Writes, Given5, Given1, Given2, Given4, Given14, Accepted}
 use Rattle.sentences.specs.Raw.{alertList, held, code}
@@ -28,6 +28,7 @@ pub data Changes (h : Handler) (x : Access) : Register → Type 0 where
   takes : (q : Register) (v : ℕ) → Plain q → Commits h x q v → Changes h x q
   local-cause : (j : ℕ) → Commits h x (Local Field.Cause j) 1 → Changes h x (Local Field.Cause j)
   alert-cause : (i : ℕ) → Commits h x (Alert Field.Cause i) 1 → Changes h x (Alert Field.Cause i)
+  ping-enable : (v : ℕ) → v ≢ 0 → Commits h x (Only PingEnable) v → Changes h x (Only PingEnable)
   intr-state : (v : ℕ) → Commits h x (Only IntrState) v → Changes h x (Only IntrState)
   intr-test : (v : ℕ) → Commits h x (Only IntrTest) v → Changes h x (Only IntrState)
 
@@ -39,6 +40,8 @@ pub record Written (h : Handler) (x : Access) (g : Handler) : Type 0 where
   -- "In CAUSE a written 1 clears."
   pub local-cause : (j : ℕ) → Commits h x (Local Field.Cause j) 1 → held g (Local Field.Cause j) ≡ 0
   pub alert-cause : (i : ℕ) → Commits h x (Alert Field.Cause i) 1 → held g (Alert Field.Cause i) ≡ 0
+  -- request (ix): "6 (enable, 1 bit; a written 0 does nothing)"
+  pub ping-enable : (v : ℕ) → v ≢ 0 → Commits h x (Only PingEnable) v → held g (Only PingEnable) ≡ v
   -- "INTR_STATE, a 1 clears"; "Bit or field for class or line 0 is lowest."
   pub intr-state : (v : ℕ) → Commits h x (Only IntrState) v → (k : ℕ) → k < 4
       → (bit (g .interrupts .state) k ≡ true) ↔ ((bit (h .interrupts .state) k ≡ true) × (bit v k ≡ false))
@@ -47,12 +50,12 @@ pub record Written (h : Handler) (x : Access) (g : Handler) : Type 0 where
       → (bit (g .interrupts .state) k ≡ true) ↔ ((bit (h .interrupts .state) k ≡ true) ⊎ (bit v k ≡ true))
   -- "INTR_STATE, a 1 clears | 4": its bits
   pub intr-width : (v : ℕ) → Commits h x (Only IntrState) v ⊎ Commits h x (Only IntrTest) v → g .interrupts .state < 16
-  -- a reading: every other register stays. So a first write, a 0 to CAUSE, and a write to CLR change none ("CLR holds no value"), nor does a write
+  -- a reading: every other register stays. So a first write, a 0 to CAUSE or to 6, and a write to CLR change none ("CLR holds no value"), nor does a write
   -- refused with 3 or 12 ("changes nothing")
   pub stays : (r : ℕ) (q : Register) → Names (h .n) r q → ¬ Changes h x q → held g q ≡ held h q
   -- "Stored entries at N and above are no registers: .. no call changes them."
   pub above : (f : Field) (i : ℕ) → h .n ≤ i → i < 248 → getD (alertList g f) i 0 ≡ getD (alertList h f) i 0
-  -- a reading: N stays, and so do the alerts' receivers, which are step 2's
+  -- a reading: N stays, and so do the alerts' receivers, the turn and the open pings, which are step 2's
   pub n : g .n ≡ h .n
   pub links : g .links ≡ h .links
   -- refusals 5, 1, 2 and 4: "access does nothing"; 14 too: "So 3 and 12 are now the refusals that may change something"

@@ -59,11 +59,21 @@ pub record New (n : ℕ) (h : Handler) : Type 0 where
   pub busy : Entries 4 0 (h .links .receivers .busy)
   pub level : Entries 4 0 (h .links .receivers .level)
   pub pending : Entries 4 0 (h .links .receivers .pending)
+  -- request (ix): "All REGWEN .. start at 1, .. every other register at 0": registers 4, 5 and 6
+  pub ping-regwen : h .timer .regwen ≡ 1
+  pub ping-timeout : h .timer .timeout ≡ 0
+  pub ping-enable : h .timer .enable ≡ 0
+  -- a reading: the turn, which the first word sets when 6 becomes 1, is 0 in each field, and no line's ping is open
+  pub turn-number : h .links .turn .number ≡ 0
+  pub turn-alert : h .links .turn .alert ≡ 0
+  pub turn-count : h .links .turn .count ≡ 0
+  pub line-pings : h .links .lines ≡ 0
   -- request (v): nothing is staged
   pub staged-local-en : Entries 7 0 (h .stages .locals .en)
   pub staged-local-class : Entries 7 0 (h .stages .locals .class)
   pub staged-alert-en : Entries 248 0 (h .stages .alerts .en)
   pub staged-alert-class : Entries 248 0 (h .stages .alerts .class)
+  pub staged-ping-timeout : h .stages .timeout ≡ 0
   pub staged-entries : length (h .stages .classes) ≡ 4
   pub staged-classes : (k : ℕ) → k < 4 → NoStages (stagesOf h k)
 

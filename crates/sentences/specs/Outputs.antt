@@ -50,6 +50,7 @@ pub record ClassesStepped (g : Handler) (s : Sample) (f : Effects) (m h : Handle
   pub links : h .links ≡ m .links
   pub alerts : h .alerts ≡ m .alerts
   pub locals : h .locals ≡ m .locals
+  pub timer : h .timer ≡ m .timer
   pub stages : h .stages ≡ m .stages
 
 -- ── step 5: o are the outputs from the state h, "the state now reached"; "Bit or field for class or line 0 is lowest". g is the state before step 2,
@@ -67,7 +68,7 @@ pub record OutputOf (g h : Handler) (o : Output) : Type 0 where
   -- become outputs, (0,1) at reset, at N and above": by where the receiver stands before the tick's wires, so that equal wires do not keep "a due
   -- acknowledge change" back
   pub acknowledge : PairsBy (g .n) (Acknowledged g) (o .acknowledge)
-  -- "Asking changes the ping pair's level .. before that tick's wires are read"
+  -- request (ix): a ping that opens "changes the ping pair's level .. before that tick's wires are read"
   pub ping : PairsBy (h .n) (λ i. level h i ≡ true) (o .ping)
 
 -- step 5, of every two states

@@ -11,13 +11,12 @@ use Rattle.rules.specs.declared.Field.{Field}
 use Rattle.rules.specs.declared.Handler.{Handler}
 use Rattle.rules.specs.declared.Register.{Register}
 use Rattle.rules.specs.declared.Register.the-variants.{Only, Local, Alert, Block, Unassigned}
-use Rattle.rules.specs.declared.Sample.{Sample}
 use Rattle.rules.specs.declared.Setting.{Setting}
 use Rattle.rules.specs.declared.Setting.the-variants.{Ctrl, ClrRegwen, Clr, AccumCnt, AccumThresh, TimeoutCyc, PhaseCyc, EscCnt}
-use Rattle.rules.specs.declared.Single.the-variants.{IntrState, IntrEnable, IntrTest}
+use Rattle.rules.specs.declared.Single.the-variants.{IntrState, IntrEnable, IntrTest, PingRegwen, PingTimeout, PingEnable}
 use Rattle.rules.specs.declared.Wires.{Wires}
 
--- ── alert i has bit 63 - i % 64 of word i / 64: of the wires, of the pings that are asked for and of the receivers ──
+-- ── alert i has bit 63 - i % 64 of word i / 64: of the wires and of the receivers ──
 
 abbrev pub bitOfAlert : List ℕ → ℕ → Bool
 bitOfAlert ws i = bit (getD ws (i / 64) 0) (63 - i % 64)
@@ -27,9 +26,6 @@ positive w i = bitOfAlert (w .pos) i
 
 abbrev pub negative : Wires → ℕ → Bool
 negative w i = bitOfAlert (w .neg) i
-
-abbrev pub asked : Sample → ℕ → Bool
-asked s i = bitOfAlert (s .asks) i
 
 -- the two bits that say where its receiver stands, the level of its ping pair, and whether a ping is open
 abbrev pub pausing : Handler → ℕ → Bool
@@ -43,6 +39,10 @@ level g i = bitOfAlert (g .links .receivers .level) i
 
 abbrev pub pending : Handler → ℕ → Bool
 pending g i = bitOfAlert (g .links .receivers .pending) i
+
+-- request (ix): the ping of line e is open; line 0 is the lowest bit
+abbrev pub linePending : Handler → ℕ → Bool
+linePending g e = bit (g .links .lines) e
 
 -- ── entry k of the four classes and of their stages; an array has its four entries, and past them there is none: never read ──
 
@@ -90,6 +90,9 @@ abbrev pub held : Handler → Register → ℕ
 held h (Only IntrState) = h .interrupts .state
 held h (Only IntrEnable) = h .interrupts .enable
 held h (Only IntrTest) = 0
+held h (Only PingRegwen) = h .timer .regwen
+held h (Only PingTimeout) = h .timer .timeout
+held h (Only PingEnable) = h .timer .enable
 held h (Local f j) = getD (localList h f) j 0
 held h (Alert f i) = getD (alertList h f) i 0
 held h (Block s k) = settingIn (classOf h k) s
@@ -122,7 +125,12 @@ settingStageIn c EscCnt = 0
 settingStageIn c Setting.State = 0
 
 abbrev pub code : Handler → Register → ℕ
-code h (Only o) = 0
+code h (Only IntrState) = 0
+code h (Only IntrEnable) = 0
+code h (Only IntrTest) = 0
+code h (Only PingRegwen) = 0
+code h (Only PingTimeout) = h .stages .timeout
+code h (Only PingEnable) = 0
 code h (Local f j) = getD (localStageList h f) j 0
 code h (Alert f i) = getD (alertStageList h f) i 0
 code h (Block s k) = settingStageIn (stagesOf h k) s

@@ -1,14 +1,17 @@
 -- Request (viii), "The whole handshake": what step 2 makes of the alerts' receivers, in sentences: raw bits, and no definition of the rules.
--- The state is g before step 2 and h after it, and s is the tick's sample. The pairs that come out are in Outputs.antt.
+-- The state is g before step 2 and h after it, s is the tick's sample, and f is what step 1 hands on. The pairs that come out are in Outputs.antt.
 -- Assumes nothing.
-use Prim.Native.Nat.{ℕ, _≤_, _<_}
+use Prim.Native.Nat.{ℕ, _+_, _≤_, _<_}
 use mathlib.Core.Path.{_≡_}
 use mathlib.Core.Logic.{_⊎_, _≢_}
 use mathlib.Core.Bool.{true, false}
+use Rattle.bits.specs.Bits.{bit}
+use Rattle.rules.specs.declared.Effects.{Effects}
 use Rattle.rules.specs.declared.Handler.{Handler}
 use Rattle.rules.specs.declared.Sample.{Sample}
 use Rattle.sentences.specs.Pairs.{High, Low, Equal, Differ, FourWords}
-use Rattle.sentences.specs.Raw.{asked, pausing, busy, level, pending}
+use Rattle.sentences.specs.Raw.{pausing, busy, level, pending}
+use Rattle.sentences.specs.Turns.{AlertsTurn, LinesTurn, turnLine, turnAlert, Runs, TurnOpen, Asked, OpenNow}
 
 -- ── where alert i's receiver stands, by its bits `pausing` and `busy` ──
 
@@ -35,16 +38,33 @@ abbrev pub Taken : Handler → Sample → ℕ → Type 0
 Taken g s i = (i < g .n) × Ready g i × High (s .alerts) i
 
 -- "Asking .. opens a ping before that tick's wires are read": one is open when they are, by this asking or by one before it
-abbrev pub PingOpen : Handler → Sample → ℕ → Type 0
-PingOpen g s i = (asked s i ≡ true) ⊎ (pending g i ≡ true)
+abbrev pub PingOpen : Handler → Effects → ℕ → Type 0
+PingOpen g f i = Asked g f i ⊎ (pending g i ≡ true)
 
 -- "A rise taken while a ping is open answers .. it and is no event"
-abbrev pub Answers : Handler → Sample → ℕ → Type 0
-Answers g s i = Taken g s i × PingOpen g s i
+abbrev pub Answers : Handler → Sample → Effects → ℕ → Type 0
+Answers g s f i = Taken g s i × PingOpen g f i
 
 -- "any other is one event, in the tick it is taken"
-abbrev pub Event : Handler → Sample → ℕ → Type 0
-Event g s i = Taken g s i × ¬ PingOpen g s i
+abbrev pub Event : Handler → Sample → Effects → ℕ → Type 0
+Event g s f i = Taken g s i × ¬ PingOpen g f i
+
+-- ── request (ix): the turn's ping is answered, or fails ──
+
+-- an alert's by a rise that is taken; "the sample says which escalation pings are answered", line 0 in the lowest bit
+abbrev pub TurnAnswered : Handler → Sample → Effects → Type 0
+TurnAnswered g s f =
+    (LinesTurn g × (OpenNow g f × (bit (s .answers) (turnLine g) ≡ true))) ⊎ (AlertsTurn g × Answers g s f (turnAlert g))
+
+-- "unanswered up to and in the first tick at least the timeout after it"; "at timeout 0 it waits for its answer". While the ping is open `count` is the
+-- ticks from its opening to the tick before this one
+abbrev pub Fails : Handler → Sample → Effects → Type 0
+Fails g s f =
+    (Runs g f × TurnOpen g) × ((¬ TurnAnswered g s f) × ((0 < g .timer .timeout) × (g .timer .timeout ≤ g .links .turn .count + 1)))
+
+-- the ping of alert i fails
+abbrev pub AlertFails : Handler → Sample → Effects → ℕ → Type 0
+AlertFails g s f i = Fails g s f × (AlertsTurn g × (i ≡ turnAlert g))
 
 -- ── the handshake ──
 
@@ -66,25 +86,27 @@ pub record Handshaken (g : Handler) (s : Sample) (h : Handler) : Type 0 where
 
 -- ── pings ──
 
-pub record Pinged (g : Handler) (s : Sample) (h : Handler) : Type 0 where
+pub record Pinged (g : Handler) (s : Sample) (f : Effects) (h : Handler) : Type 0 where
   -- "Asking changes the ping pair's level"
-  pub changes : (i : ℕ) → i < g .n → asked s i ≡ true → pending g i ≡ false → level h i ≢ level g i
+  pub changes : (i : ℕ) → i < g .n → Asked g f i → pending g i ≡ false → level h i ≢ level g i
   -- "while one is open .. it does nothing"
   pub while-open : (i : ℕ) → i < g .n → pending g i ≡ true → level h i ≡ level g i
   -- a reading: nothing else changes it
-  pub unasked : (i : ℕ) → i < g .n → asked s i ≡ false → level h i ≡ level g i
-  -- "and opens a ping"; a reading: it is open until a rise is taken
-  pub opens : (i : ℕ) → i < g .n → PingOpen g s i → ¬ Taken g s i → pending h i ≡ true
+  pub unasked : (i : ℕ) → i < g .n → ¬ Asked g f i → level h i ≡ level g i
+  -- "and opens a ping"; a reading: it is open until a rise is taken or it fails
+  pub opens : (i : ℕ) → i < g .n → PingOpen g f i → ¬ Taken g s i → ¬ AlertFails g s f i → pending h i ≡ true
   -- "A rise taken while a ping is open answers and closes it"
-  pub closes : (i : ℕ) → Answers g s i → pending h i ≡ false
+  pub closes : (i : ℕ) → Answers g s f i → pending h i ≡ false
+  -- request (ix): "it makes local 0 or 1 occur then and closes"
+  pub fails : (i : ℕ) → i < g .n → AlertFails g s f i → pending h i ≡ false
   -- a reading: nothing else opens one
-  pub none-open : (i : ℕ) → i < g .n → ¬ PingOpen g s i → pending h i ≡ false
+  pub none-open : (i : ℕ) → i < g .n → ¬ PingOpen g f i → pending h i ≡ false
 
 -- ── every bit of the receivers ──
 
-pub record Received (g : Handler) (s : Sample) (h : Handler) : Type 0 where
+pub record Received (g : Handler) (s : Sample) (f : Effects) (h : Handler) : Type 0 where
   pub handshake : Handshaken g s h
-  pub pings : Pinged g s h
+  pub pings : Pinged g s f h
   -- "or at N and above, it does nothing"; "Samples at N and above count for nothing"; "Stored entries at N and above .. no call changes them"; a
   -- reading: nor the bits past the 248th entry, since the receivers have four words of 64
   pub pausing-above : (i : ℕ) → g .n ≤ i → i < 256 → pausing h i ≡ pausing g i

@@ -11,7 +11,9 @@ use Rattle.rules.specs.declared.Effects.{Effects}
 use Rattle.rules.specs.declared.Handler.{Handler}
 use Rattle.rules.specs.declared.Sample.{Sample}
 use Rattle.sentences.specs.Pairs.{Equal}
-use Rattle.sentences.specs.Receivers.{Answers, Event, Received}
+use Rattle.sentences.specs.Receivers.{Answers, Event, Fails, Received}
+use Rattle.sentences.specs.Timer.{Timed}
+use Rattle.sentences.specs.Turns.{AlertsTurn, LinesTurn}
 use Rattle.sentences.specs.Valid.{Valid}
 
 -- ── the words of the sentences ──
@@ -36,25 +38,30 @@ abbrev pub RaisesFiveOrNone : Effects → Type 0
 RaisesFiveOrNone f = (f .raises ≡ 0) ⊎ (f .raises ≡ 32)
 
 -- "If any enabled alert has equal wires and local 2 is enabled, local 2 occurs"; "makes local 5 occur in that tick if enabled";
--- "A disabled local alert never occurs"; "Only 2 can occur in the base", and with request (v) 5
+-- "A disabled local alert never occurs"; request (ix): "it makes local 0 or 1 occur then", 0 for an alert's ping and 1 for a line's; "Only 2 can occur in
+-- the base", and with requests (v) and (ix) 0, 1 and 5
 abbrev pub Occurs : Handler → Sample → Effects → ℕ → Type 0
-Occurs g s f j = LocalEnabled g j × (((j ≡ 2) × EqualWires g s) ⊎ ((j ≡ 5) × DifferingWrite f))
+Occurs g s f j =
+    LocalEnabled g j
+    × (((j ≡ 0) × (Fails g s f × AlertsTurn g)) ⊎ (((j ≡ 1) × (Fails g s f × LinesTurn g)) ⊎ (((j ≡ 2) × EqualWires g s) ⊎ ((j ≡ 5) × DifferingWrite f))))
 
 -- "an enabled alert's event or an occurring local alert is assigned to it"
 abbrev pub Assigned : Handler → Sample → Effects → ℕ → Type 0
 Assigned g s f k =
-    ((i : ℕ) × Event g s i × AlertEnabled g i × (getD (g .alerts .class) i 0 ≡ k))
+    ((i : ℕ) × Event g s f i × AlertEnabled g i × (getD (g .alerts .class) i 0 ≡ k))
     ⊎ ((j : ℕ) × (j < 7) × Occurs g s f j × (getD (g .locals .class) j 0 ≡ k))
 
 -- ── the sentences ──
 
 pub record Sampled (g : Handler) (s : Sample) (f : Effects) (h : Handler) : Type 0 where
   -- request (viii): "Replace the edge receiver by the synchronous one"
-  pub receivers : Received g s h
+  pub receivers : Received g s f h
+  -- request (ix): the turn and the lines' pings
+  pub timer-turn : Timed g s f h
   -- "An enabled alert's event sets its cause"
-  pub cause-sets : (i : ℕ) → Event g s i → AlertEnabled g i → getD (h .alerts .cause) i 0 ≡ 1
+  pub cause-sets : (i : ℕ) → Event g s f i → AlertEnabled g i → getD (h .alerts .cause) i 0 ≡ 1
   -- a reading: nothing else in this step changes it, an answer to a ping, which "is no event", neither; nor at N and above
-  pub cause-stays : (i : ℕ) → i < 248 → ¬ (Event g s i × AlertEnabled g i) → getD (h .alerts .cause) i 0 ≡ getD (g .alerts .cause) i 0
+  pub cause-stays : (i : ℕ) → i < 248 → ¬ (Event g s f i × AlertEnabled g i) → getD (h .alerts .cause) i 0 ≡ getD (g .alerts .cause) i 0
   -- request (iii): "A new handler starts with 248 alert entries"
   pub cause-entries : length (h .alerts .cause) ≡ 248
   -- "local 2 occurs and sets its cause", and 5 likewise
@@ -73,6 +80,7 @@ pub record Sampled (g : Handler) (s : Sample) (f : Effects) (h : Handler) : Type
   pub local-class : h .locals .class ≡ g .locals .class
   pub classes : h .classes ≡ g .classes
   pub interrupts : h .interrupts ≡ g .interrupts
+  pub timer : h .timer ≡ g .timer
   pub stages : h .stages ≡ g .stages
 
 -- step 2, of every state that refusal 7 does not meet
@@ -80,18 +88,22 @@ abbrev pub SampleStep : (Handler → Sample → Effects → Handler) → Type 0
 SampleStep sample = (g : Handler) (s : Sample) (f : Effects) → Valid g → RaisesFiveOrNone f → Sampled g s f (sample g s f)
 
 -- an alert's event, enabled or not, an answer to its ping, an enabled alert's event, an occurring local alert, and what is assigned to class k,
--- as tests
-abbrev pub EventIs : (Handler → Sample → ℕ → Bool) → Type 0
-EventIs event = (g : Handler) (s : Sample) (i : ℕ) → g .n ≤ 248 → (event g s i ≡ true) ↔ Event g s i
+-- as tests; N is at most 248 and a timeout has 16 bits
+abbrev pub EventIs : (Handler → Sample → Effects → ℕ → Bool) → Type 0
+EventIs event = (g : Handler) (s : Sample) (f : Effects) (i : ℕ) → g .n ≤ 248 → (event g s f i ≡ true) ↔ Event g s f i
 
-abbrev pub AnswersIs : (Handler → Sample → ℕ → Bool) → Type 0
-AnswersIs answers = (g : Handler) (s : Sample) (i : ℕ) → g .n ≤ 248 → (answers g s i ≡ true) ↔ Answers g s i
+abbrev pub AnswersIs : (Handler → Sample → Effects → ℕ → Bool) → Type 0
+AnswersIs answers = (g : Handler) (s : Sample) (f : Effects) (i : ℕ) → g .n ≤ 248 → (answers g s f i ≡ true) ↔ Answers g s f i
 
-abbrev pub AlertEventIs : (Handler → Sample → ℕ → Bool) → Type 0
-AlertEventIs event = (g : Handler) (s : Sample) (i : ℕ) → g .n ≤ 248 → (event g s i ≡ true) ↔ (Event g s i × AlertEnabled g i)
+abbrev pub AlertEventIs : (Handler → Sample → Effects → ℕ → Bool) → Type 0
+AlertEventIs event = (g : Handler) (s : Sample) (f : Effects) (i : ℕ) → g .n ≤ 248 → (event g s f i ≡ true) ↔ (Event g s f i × AlertEnabled g i)
 
 abbrev pub OccursIs : (Handler → Sample → Effects → ℕ → Bool) → Type 0
-OccursIs occurs = (g : Handler) (s : Sample) (f : Effects) (j : ℕ) → RaisesFiveOrNone f → j < 7 → (occurs g s f j ≡ true) ↔ Occurs g s f j
+OccursIs occurs =
+    (g : Handler) (s : Sample) (f : Effects) (j : ℕ) → g .n ≤ 248 → g .timer .timeout ≤ 65535 → RaisesFiveOrNone f → j < 7
+    → (occurs g s f j ≡ true) ↔ Occurs g s f j
 
 abbrev pub AssignedIs : (Handler → Sample → Effects → ℕ → Bool) → Type 0
-AssignedIs assigned = (g : Handler) (s : Sample) (f : Effects) (k : ℕ) → g .n ≤ 248 → RaisesFiveOrNone f → (assigned g s f k ≡ true) ↔ Assigned g s f k
+AssignedIs assigned =
+    (g : Handler) (s : Sample) (f : Effects) (k : ℕ) → g .n ≤ 248 → g .timer .timeout ≤ 65535 → RaisesFiveOrNone f
+    → (assigned g s f k ≡ true) ↔ Assigned g s f k

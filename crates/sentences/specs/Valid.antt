@@ -7,7 +7,8 @@ use mathlib.Core.Bool.{Bool, true}
 use lib.ListN.{getD}
 use Rattle.rules.specs.declared.Handler.{Handler}
 use Rattle.sentences.specs.Fits.{Fits}
-use Rattle.sentences.specs.Raw.{classOf, stagesOf}
+use Rattle.sentences.specs.Raw.{pending, linePending, classOf, stagesOf}
+use Rattle.sentences.specs.Turns.{AlertsTurn, LinesTurn, turnLine}
 
 -- request (v): a stage holds 0 where nothing is staged, and v + 1 where v is; the staged value is at most this
 abbrev pub StagedUpTo : ℕ → ℕ → Type 0
@@ -33,6 +34,13 @@ pub record Valid (h : Handler) : Type 0 where
   pub alert-cause : (i : ℕ) → i < h .n → getD (h .alerts .cause) i 0 ≤ 1
   -- "a CTRL over 0x3FFF and so on), a STATE of 2, or a class count that is not 0 in Idle or Terminal or is 0 in Timeout or a phase"
   pub classes : (k : ℕ) → k < 4 → Fits (classOf h k)
+  -- request (ix): registers 4, 5 and 6 have 1, 16 and 1 bits
+  pub ping-regwen : h .timer .regwen ≤ 1
+  pub ping-timeout : h .timer .timeout ≤ 65535
+  pub ping-enable : h .timer .enable ≤ 1
+  -- "7 covers an open ping that isn't the turn's"; a reading: while 6 is 0 there is no turn
+  pub alert-ping : (i : ℕ) → i < h .n → pending h i ≡ true → (h .timer .enable ≡ 1) × (AlertsTurn h × (i ≡ h .links .turn .alert))
+  pub line-ping : (e : ℕ) → e < 4 → linePending h e ≡ true → (h .timer .enable ≡ 1) × (LinesTurn h × (e ≡ turnLine h))
   -- request (v): "7 also covers a staged value over its field": "EN and CLASS of alerts and local alerts"
   pub staged-local-en : (j : ℕ) → j < 7 → StagedUpTo 1 (getD (h .stages .locals .en) j 0)
   pub staged-local-class : (j : ℕ) → j < 7 → StagedUpTo 3 (getD (h .stages .locals .class) j 0)
@@ -42,6 +50,8 @@ pub record Valid (h : Handler) : Type 0 where
   pub staged-ctrl : (k : ℕ) → k < 4 → StagedUpTo 0x3FFF (stagesOf h k .ctrl)
   pub staged-thresh : (k : ℕ) → k < 4 → StagedUpTo 65535 (stagesOf h k .thresh)
   pub staged-timeout : (k : ℕ) → k < 4 → StagedUpTo 4294967295 (stagesOf h k .timeout)
+  -- request (ix): "5 is shadowed"
+  pub staged-ping-timeout : StagedUpTo 65535 (h .stages .timeout)
   pub staged-length : (k p : ℕ) → k < 4 → p < 4 → StagedUpTo 4294967295 (getD (stagesOf h k .lengths) p 0)
 
 -- a test of refusal 7

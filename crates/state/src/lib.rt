@@ -1,4 +1,5 @@
 // A new handler, and the test of refusal 7.
 pub mod new;
+mod pings;
 mod stages;
 pub mod valid;

@@ -2,6 +2,7 @@
 use crate::stages::none;
 use answers::signed;
 use class_rules::Class;
+use link_rules::Turn;
 use rules::Alerts;
 use rules::Answer;
 use rules::Handler;
@@ -12,6 +13,7 @@ use rules::MOST;
 use rules::Made;
 use rules::Receivers;
 use rules::Refusal;
+use rules::Timer;
 use rules::WORDS;
 ghost use mathlib.Core.Path.{_≡_};
 ghost use Rattle.rules.specs.State.{resetClass, newHandler, made};
@@ -47,6 +49,12 @@ fn reset(n: usize) -> Handler
                 level: [0; WORDS],
                 pending: [0; WORDS],
             },
+            turn: Turn {
+                number: 0,
+                alert: 0,
+                count: 0,
+            },
+            lines: 0,
         },
         classes: [class; 4],
         alerts: Alerts {
@@ -63,6 +71,11 @@ fn reset(n: usize) -> Handler
         },
         interrupts: Interrupts {
             state: 0,
+            enable: 0,
+        },
+        timer: Timer {
+            timeout: 0,
+            regwen: 1,
             enable: 0,
         },
         stages: none(),

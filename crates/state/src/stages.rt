@@ -34,6 +34,7 @@ pub fn none() -> Stages
             en: [0; 7],
             class: [0; 7],
         },
+        timeout: 0,
     }
 }
 
@@ -118,6 +119,5 @@ pub fn fit(s: Stages, n: usize) -> bool
     let classes = s.classes;
     let l = locals_fit(s.locals);
     let a = alerts_fit(s.alerts, n);
-    let c = classes_fit(classes);
-    l & (a & c)
+    l & (a & (classes_fit(classes) & (s.timeout <= 65536)))
 }

@@ -1,4 +1,6 @@
 // "Numbers that come back": the test of refusal 7, that a state keeps its rule.
+use crate::pings::pings_fit;
+use crate::pings::timer_fits;
 use crate::stages::fit;
 use class_rules::Class;
 use rules::Alerts;
@@ -99,5 +101,7 @@ pub fn is_valid(h: Handler) -> bool
     let a = alerts_fit(h.alerts, n);
     let c = classes_fit(classes);
     let s = fit(h.stages, n);
-    (h.interrupts.state < 16) & ((h.interrupts.enable < 16) & (l & (a & (c & s))))
+    let t = timer_fits(h.timer);
+    let p = pings_fit(n, h.links, h.timer.enable == 1);
+    (h.interrupts.state < 16) & ((h.interrupts.enable < 16) & (l & (a & (c & (t & (p & s))))))
 }

@@ -3,6 +3,7 @@
 use batch::Batched;
 use boundary::tarravane_batch_24;
 use boundary::tarravane_batch_70;
+use boundary::tarravane_batch_pings;
 use boundary::tarravane_hear;
 use boundary::tarravane_install;
 use boundary::tarravane_new;
@@ -74,21 +75,42 @@ pub fn batch_70(h: Handler, bytes: &[u8], out: &mut [u64]) -> Batched
     tarravane_batch_70(h, bytes, out)
 }
 
+pub fn batch_pings(h: Handler, bytes: &[u8], out: &mut [u64]) -> Batched
+    ensures { λ r. ⌜ r .handler ≡ run h (ranBy Edition.Pings h (now (bytes .entry)) (now (out .entry))) ⌝ }
+    ensures answer { λ r. ⌜ r .answer ≡ batchAnswer (batchVerdict Edition.Pings h (now (bytes .entry)) (now (out .entry))) ⌝ }
+    ensures words { λ r. ⌜ Words Edition.Pings h (now (bytes .entry)) (now (out .entry)) (now (out .exit)) ⌝ }
+    ensures later { λ r. ⌜ LaterWords Edition.Pings h (now (bytes .entry)) (now (out .entry)) (now (out .exit)) ⌝ }
+    ensures demand3 { λ r. ⌜ (valid h ≡ true → Demand3 h (ranBy Edition.Pings h (now (bytes .entry)) (now (out .entry)))) ⌝ }
+{
+    tarravane_batch_pings(h, bytes, out)
+}
+
 pub fn write(
     kinds: &[u8],
     registers: &[u16],
     values: &[u32],
     positive: &[u64],
     negative: &[u64],
+    entropy: &[u32],
+    answers: &[u8],
     out: &mut [u8],
 ) -> i64
-    ensures { λ r. ⌜ r ≡ writeLent (lent (now (kinds .entry)) (now (registers .entry)) (now (values .entry)) (now (positive .entry)) (now (negative .entry))) (now (out .entry)) .answer ⌝ }
-    ensures bytes { λ r. ⌜ now (out .exit) ≡ writeLent (lent (now (kinds .entry)) (now (registers .entry)) (now (values .entry)) (now (positive .entry)) (now (negative .entry))) (now (out .entry)) .buffer ⌝ }
-    ensures inputs { λ r. ⌜ SameInputs (lent (now (kinds .entry)) (now (registers .entry)) (now (values .entry)) (now (positive .entry)) (now (negative .entry))) (now (out .entry)) (now (out .exit)) ⌝ }
-    ensures numbers { λ r. ⌜ SameNumbers (lent (now (kinds .entry)) (now (registers .entry)) (now (values .entry)) (now (positive .entry)) (now (negative .entry))) (now (out .entry)) ⌝ }
-    ensures writtenback { λ r. ⌜ SameBytes (lent (now (kinds .entry)) (now (registers .entry)) (now (values .entry)) (now (positive .entry)) (now (negative .entry))) (now (out .entry)) (now (out .exit)) ⌝ }
+    ensures { λ r. ⌜ r ≡ writeLent (lent (now (kinds .entry)) (now (registers .entry)) (now (values .entry)) (now (positive .entry)) (now (negative .entry)) (now (entropy .entry)) (now (answers .entry))) (now (out .entry)) .answer ⌝ }
+    ensures bytes { λ r. ⌜ now (out .exit) ≡ writeLent (lent (now (kinds .entry)) (now (registers .entry)) (now (values .entry)) (now (positive .entry)) (now (negative .entry)) (now (entropy .entry)) (now (answers .entry))) (now (out .entry)) .buffer ⌝ }
+    ensures inputs { λ r. ⌜ SameInputs (lent (now (kinds .entry)) (now (registers .entry)) (now (values .entry)) (now (positive .entry)) (now (negative .entry)) (now (entropy .entry)) (now (answers .entry))) (now (out .entry)) (now (out .exit)) ⌝ }
+    ensures numbers { λ r. ⌜ SameNumbers (lent (now (kinds .entry)) (now (registers .entry)) (now (values .entry)) (now (positive .entry)) (now (negative .entry)) (now (entropy .entry)) (now (answers .entry))) (now (out .entry)) ⌝ }
+    ensures writtenback { λ r. ⌜ SameBytes (lent (now (kinds .entry)) (now (registers .entry)) (now (values .entry)) (now (positive .entry)) (now (negative .entry)) (now (entropy .entry)) (now (answers .entry))) (now (out .entry)) (now (out .exit)) ⌝ }
 {
-    tarravane_record(kinds, registers, values, positive, negative, out)
+    tarravane_record(
+        kinds,
+        registers,
+        values,
+        positive,
+        negative,
+        entropy,
+        answers,
+        out,
+    )
 }
 
 pub fn install(h: Handler, lifecycle: u8) -> Installed

@@ -1,6 +1,6 @@
 -- The bytes of a record as numbers, part by part.
 -- Assumes nothing.
-use Prim.Native.Nat.{ℕ, zero, suc, _+_, _*_, _/_, _^_, _≤_, _<_}
+use Prim.Native.Nat.{ℕ, zero, suc, _+_, _*_, _/_, _%_, _^_, _≤_, _<_}
 use mathlib.Core.Path.{_≡_, refl, sym, ap, ap₂, subst, _∙_}
 use mathlib.Core.List.{List, [], _∷_, _++_}
 use native.Mathlib.Nat.{add-zero}
@@ -15,13 +15,14 @@ use Rattle.bits.proofs.IndexLaws.{is-each}
 use Rattle.bits.proofs.FieldLaws.{pack-unpack, unpack-fits}
 use Rattle.bits.proofs.PackLaws.{unpack-append, bytes-append}
 use Rattle.trace_rules.specs.Edition.{recordBytes, alerts, tail}
-use Rattle.trace_rules.specs.Record.{head, wires, layout, accessIn, wireWords, noAsks, inputOfParts, inputOfFields, heldIn, carried, inputOf}
+use Rattle.trace_rules.specs.Record.{head, wires, layout, accessIn, wireWords, otherWay, inputOfParts, inputOfFields, heldIn, carried, inputOf}
 use Rattle.rules.specs.declared.Access.{Access}
 use Rattle.trace_rules.specs.declared.Edition.{Edition}
-use Rattle.trace_rules.specs.declared.Edition.the-variants.{Alerts64, Alerts248}
+use Rattle.trace_rules.specs.declared.Edition.the-variants.{Alerts64, Alerts248, Pings}
 use Rattle.rules.specs.declared.Input.{Input}
-use Rattle.trace.specs.RecordParts.{wireBytes, tailBytes, headOf, fieldsOf}
+use Rattle.trace.specs.RecordParts.{wireBytes, tailBytes, headOf, fieldsOf, tailOf, behindOf}
 use Rattle.trace.specs.declared.record.Head.{Head}
+use Rattle.trace.specs.declared.record.Tail.{Tail}
 
 -- the n entries of a list that begin at a place
 pub part-length : (n at : ℕ) (xs : List ℕ) → at + n ≤ length xs → length (take n (drop at xs)) ≡ n
@@ -54,18 +55,22 @@ part-bytes m n at xs h =
 pub record-parts : (e : Edition) → recordBytes e ≡ 8 + (wireBytes e + (wireBytes e + tailBytes e))
 record-parts Alerts64 = refl
 record-parts Alerts248 = refl
+record-parts Pings = refl
 
 wire-bits : (e : Edition) → alerts e ≡ 8 * wireBytes e
 wire-bits Alerts64 = refl
 wire-bits Alerts248 = refl
+wire-bits Pings = refl
 
 tail-bits : (e : Edition) → total (tail e) ≡ 8 * tailBytes e
 tail-bits Alerts64 = refl
 tail-bits Alerts248 = refl
+tail-bits Pings = refl
 
 first-bits : (e : Edition) → total (head e) ≡ 64
 first-bits Alerts64 = refl
 first-bits Alerts248 = refl
+first-bits Pings = refl
 
 -- the first n of some bytes are bytes
 byte-taken : (n : ℕ) (xs : List ℕ) → ((i : ℕ) → getD xs i 0 < 2 ^ 8) → (i : ℕ) → getD (take n xs) i 0 < 2 ^ 8
@@ -79,6 +84,20 @@ pub part-lt : (n at : ℕ) (xs : List ℕ) → at + n ≤ length xs → ((i : �
 part-lt n at xs h b =
     subst (λ (k : ℕ). ofBytes (take n (drop at xs)) < 2 ^ (8 * k)) (part-length n at xs h)
     (bytes-lt (take n (drop at xs)) (byte-taken n (drop at xs) (λ i. subst (λ (x : ℕ). x < 2 ^ 8) (sym (getD-drop at xs i 0)) (b (at + i)))))
+
+-- request (ix): behind the wires are a word of four bytes and a byte of two fields
+pub pings-tail : (at : ℕ) (xs : List ℕ) → at + 5 ≤ length xs → ((i : ℕ) → getD xs i 0 < 2 ^ 8) → (w : ℕ) → w ≡ ofBytes (take 4 (drop at xs))
+    → record { word = w; zeros = getD xs (at + 4) 0 / 16; answers = getD xs (at + 4) 0 % 16 } ≡ tailOf Pings (ofBytes (take 5 (drop at xs)))
+unfolding unpack
+pings-tail at xs h b w e =
+    let n : ℕ = ofBytes (take 5 (drop at xs)) in
+    let y : ℕ = getD xs (at + 4) 0 in
+    let l : ofBytes (take 4 (drop at xs)) < 2 ^ 32 = part-lt 4 at xs (omega arith) b in
+    let s : n ≡ ofBytes (take 4 (drop at xs)) * 2 ^ 8 + y =
+    part-bytes 4 1 at xs h ∙ ap (λ (m : ℕ). ofBytes (take 4 (drop at xs)) * 2 ^ 8 + m) (getD-byte (at + 4) xs (omega arith)) in
+    let f : y < 2 ^ 8 = b (at + 4) in
+    ap₂ {C = Tail} (λ (p q : ℕ). record { word = p; zeros = q; answers = y % 16 }) (let z : w ≡ n / 2 ^ 8 % 2 ^ 32 = omega arith in z) (let z : y / 16 ≡ n / 2 ^ 4 % 2 ^ 4 = omega arith in z)
+    ∙ ap (λ (p : ℕ). record { word = n / 2 ^ 8 % 2 ^ 32; zeros = n / 2 ^ 4 % 2 ^ 4; answers = p }) (omega arith)
 
 module _ (e : Edition) (at : ℕ) (xs : List ℕ) (b : (i : ℕ) → getD xs i 0 < 2 ^ 8) (h : at + recordBytes e ≤ length xs) where
   abbrev first : ℕ
@@ -125,11 +144,16 @@ module _ (e : Edition) (at : ℕ) (xs : List ℕ) (b : (i : ℕ) → getD xs i 0
       ∙ ap (inputOfFields e) (unpack-append (head e) (wires e ++ tail e) first behind f (one p (one q (unpack-fits (tail e) rest))))
 
   -- and its access and sample, as the code reads them one after another
-  pub record-input : (f n : ℕ) (h : Head) (a r : Access) (p q : List ℕ) → f ≡ first → h ≡ headOf e f → a ≡ accessIn (fieldsOf h) [] → r ≡ carried e a → n ≡ alerts e
-      → p ≡ wireWords (alerts e) pos → q ≡ wireWords (alerts e) (ofBytes (take (wireBytes e) (drop (at + 8 + n / 8) xs)))
-      → record { access = r; sample = record { alerts = record { pos = p; neg = q }; asks = noAsks } } ≡ inputOf e (take (recordBytes e) (drop at xs))
+  pub record-input : (f n : ℕ) (h : Head) (t : Tail) (a r : Access) (p q : List ℕ) (m : ℕ) → f ≡ first → h ≡ headOf e f → n ≡ alerts e
+      → t ≡ tailOf e (ofBytes (take (tailBytes e) (drop (at + 8 + n / 8 + n / 8) xs))) → a ≡ accessIn (fieldsOf h) (behindOf t) → r ≡ carried e a
+      → p ≡ wireWords (alerts e) pos → q ≡ wireWords (alerts e) (ofBytes (take (wireBytes e) (drop (at + 8 + n / 8) xs))) → m ≡ otherWay (t .answers)
+      → record { access = r; sample = record { alerts = record { pos = p; neg = q }; word = t .word; answers = m } } ≡ inputOf e (take (recordBytes e) (drop at xs))
   unfolding inputOf unpack
-  record-input f n h a r p q u t v w m x y =
-      let z : r ≡ carried e (accessIn (fieldsOf (headOf e first)) []) = w ∙ ap (carried e) (v ∙ ap (λ (g : Head). accessIn (fieldsOf g) []) (t ∙ ap (headOf e) u)) in
-      let k : q ≡ wireWords (alerts e) neg = y ∙ ap (λ (i : ℕ). wireWords (alerts e) (ofBytes (take (wireBytes e) (drop (at + 8 + i / 8) xs)))) m in
-      rw (z, x, k) (sym (ap (λ (i : Input). record { access = carried e (i .access); sample = i .sample }) record-held))
+  record-input f n h t a r p q m ef eh en et ea er ep eq em =
+      let k : t ≡ tailOf e rest = et ∙ ap (λ (i : ℕ). tailOf e (ofBytes (take (tailBytes e) (drop (at + 8 + i / 8 + i / 8) xs)))) en in
+      let z : r ≡ carried e (accessIn (fieldsOf (headOf e first)) (behindOf (tailOf e rest))) =
+      er ∙ ap (carried e) (ea ∙ ap₂ (λ (g : Head) (s : Tail). accessIn (fieldsOf g) (behindOf s)) (eh ∙ ap (headOf e) ef) k) in
+      let y : q ≡ wireWords (alerts e) neg = eq ∙ ap (λ (i : ℕ). wireWords (alerts e) (ofBytes (take (wireBytes e) (drop (at + 8 + i / 8) xs)))) en in
+      let w : t .word ≡ tailOf e rest .word = ap (λ (s : Tail). s .word) k in
+      let o : m ≡ otherWay (tailOf e rest .answers) = em ∙ ap (λ (s : Tail). otherWay (s .answers)) k in
+      rw (z, ep, y, w, o) (sym (ap (λ (i : Input). record { access = carried e (i .access); sample = i .sample }) record-held))

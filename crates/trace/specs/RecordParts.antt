@@ -8,6 +8,7 @@ use Rattle.trace_rules.specs.Edition.{alerts, tail}
 use Rattle.trace_rules.specs.Record.{head}
 use Rattle.trace_rules.specs.declared.Edition.{Edition}
 use Rattle.trace.specs.declared.record.Head.{Head}
+use Rattle.trace.specs.declared.record.Tail.{Tail}
 
 -- the bytes of the positive wires, and of the negative ones
 abbrev pub wireBytes : Edition → ℕ
@@ -25,3 +26,12 @@ headOf e first =
 
 abbrev pub fieldsOf : Head → List ℕ
 fieldsOf h = h .kind ∷ h .register ∷ h .zeros ∷ h .value ∷ []
+
+-- the fields behind the wires, by the number that they make: word, zero bits, answer bits; all 0 where there are none
+abbrev pub tailOf : Edition → ℕ → Tail
+tailOf e rest =
+    let ts = unpack (tail e) rest in
+    record { word = getD ts 0 0; zeros = getD ts 1 0; answers = getD ts 2 0 }
+
+abbrev pub behindOf : Tail → List ℕ
+behindOf t = t .word ∷ t .zeros ∷ t .answers ∷ []

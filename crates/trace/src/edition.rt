@@ -11,12 +11,15 @@ pub const ALERTS_64_REGISTERS: u16 = 1024;
 
 pub const ALERTS_64_REGISTER_AT: u32 = 52;
 
-// The same of the edition of 248 alerts.
+// The same of the edition of 248 alerts, whose first 64 bits are those of the edition of pings too.
 pub const ALERTS_248_BYTES: usize = 70;
 
 pub const ALERTS_248_REGISTERS: u16 = 2048;
 
 pub const ALERTS_248_REGISTER_AT: u32 = 51;
+
+// The record of the edition of pings.
+pub const PINGS_BYTES: usize = 75;
 
 // The bytes of a record.
 pub fn record_bytes(edition: Edition) -> usize
@@ -25,6 +28,7 @@ pub fn record_bytes(edition: Edition) -> usize
     match edition {
         Edition::Alerts64 => ALERTS_64_BYTES,
         Edition::Alerts248 => ALERTS_248_BYTES,
+        Edition::Pings => PINGS_BYTES,
     }
 }
 
@@ -35,15 +39,27 @@ pub fn alerts(edition: Edition) -> usize
     match edition {
         Edition::Alerts64 => 64,
         Edition::Alerts248 => 248,
+        Edition::Pings => 248,
     }
 }
 
-// Document 01's numbers carried to the map's. What was unassigned then stays so: 3 names nothing.
+// Request (ix): registers 4, 5 and 6 are unassigned in older editions. 3 names nothing.
+fn without_timer(register: u16) -> u16
+    ensures { λ r. ⌜ r ≡ rules.withoutTimer register ⌝ }
+{
+    if (4 <= register) & (register < 7) {
+        3
+    } else {
+        register
+    }
+}
+
+// Document 01's numbers carried to the map's. What was unassigned then stays so.
 fn carry_64(register: u16) -> u16
     ensures { λ r. ⌜ r ≡ rules.carried64 register ⌝ }
 {
     if register < 64 {
-        register
+        without_timer(register)
     } else if register < 320 {
         register / 64 * 256 + register % 64
     } else if register < 384 {
@@ -53,20 +69,13 @@ fn carry_64(register: u16) -> u16
     }
 }
 
-// The map's own numbers. Registers 4, 5 and 6 of request (ix) are none of this edition's: once the map has them, they must not be reached
-// from here.
-fn carry_248(register: u16) -> u16
-    ensures { λ r. ⌜ r ≡ rules.carried248 register ⌝ }
-{
-    register
-}
-
-// The map's number of the register that the edition numbers so.
+// The map's number of the register that the edition numbers so; the newest edition has the map's own.
 pub fn carry(edition: Edition, register: u16) -> u16
     ensures { λ r. ⌜ r ≡ rules.carry edition register ⌝ }
 {
     match edition {
         Edition::Alerts64 => carry_64(register),
-        Edition::Alerts248 => carry_248(register),
+        Edition::Alerts248 => without_timer(register),
+        Edition::Pings => register,
     }
 }

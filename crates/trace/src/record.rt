@@ -5,6 +5,7 @@ use crate::edition::ALERTS_64_REGISTERS;
 use crate::edition::ALERTS_248_REGISTER_AT;
 use crate::edition::ALERTS_248_REGISTERS;
 use crate::edition::carry;
+use crate::word::four;
 use rules::Access;
 use rules::Input;
 use rules::Sample;
@@ -12,14 +13,13 @@ use rules::WORDS;
 use rules::Wires;
 use trace_rules::Edition;
 ghost use mathlib.Core.Path.{_≡_};
-ghost use mathlib.Core.List.{[]};
 ghost use Prim.Native.Nat.{_+_, _*_, _^_, _≤_};
 ghost use lib.ListN.{length, take, drop};
 ghost use Rattle.bits.specs.Fields.{ofBytes};
 ghost use Rattle.trace_rules.specs.Edition.{recordBytes, alerts};
 ghost use Rattle.trace_rules.specs.Record as rules;
 ghost use Rattle.trace_rules.specs.Record.{accessOf, clear, accessIn, wireWords, inputOf};
-ghost use Rattle.trace.specs.RecordParts.{wireBytes, headOf, fieldsOf};
+ghost use Rattle.trace.specs.RecordParts.{wireBytes, tailBytes, headOf, fieldsOf, tailOf, behindOf};
 
 // Four bytes as one number.
 fn half_at(bytes: &[u8], at: usize) -> u32
@@ -75,18 +75,25 @@ struct Head {
     value: u32,
 }
 
-// Whether all zero bits of a record are zero: those of its head, since no edition has zero bits behind its wires.
-fn are_clear(head: Head) -> bool
-    ensures { λ r. ⌜ r ≡ clear (fieldsOf head) [] ⌝ }
+// The fields behind a record's wires, request (ix): the entropy word, four zero bits, four answer bits with line 0 first.
+struct Tail {
+    word: u32,
+    zeros: u8,
+    answers: u8,
+}
+
+// Whether all zero bits of a record are zero: those of its head and of its tail.
+fn are_clear(head: Head, tail: Tail) -> bool
+    ensures { λ r. ⌜ r ≡ clear (fieldsOf head) (behindOf tail) ⌝ }
 {
-    head.zeros == 0
+    (head.zeros == 0) & (tail.zeros == 0)
 }
 
 // Malformed too: a nonzero bit among the zero bits.
-fn access_in(head: Head) -> Access
-    ensures { λ r. ⌜ r ≡ accessIn (fieldsOf head) [] ⌝ }
+fn access_in(head: Head, tail: Tail) -> Access
+    ensures { λ r. ⌜ r ≡ accessIn (fieldsOf head) (behindOf tail) ⌝ }
 {
-    if are_clear(head) {
+    if are_clear(head, tail) {
         access_of(head.kind, head.register, head.value)
     } else {
         Access::Malformed
@@ -132,6 +139,7 @@ fn head_of(edition: Edition, first: u64) -> Head
     match edition {
         Edition::Alerts64 => head_64(first),
         Edition::Alerts248 => head_248(first),
+        Edition::Pings => head_248(first),
     }
 }
 
@@ -188,23 +196,62 @@ fn wires_at(edition: Edition, bytes: &[u8], at: usize) -> [u64; WORDS]
     match edition {
         Edition::Alerts64 => wires_64(bytes, at),
         Edition::Alerts248 => wires_248(bytes, at),
+        Edition::Pings => wires_248(bytes, at),
     }
 }
 
-// The record whose first byte is at a place: the access, the positive wires with alert 0 first, the negative wires. It asks for no ping.
+// The word, the zero bits and the answer bits of a record of pings.
+fn pings_at(bytes: &[u8], at: usize) -> Tail
+    requires { ⌜ at + 5 ≤ length (now bytes) ⌝ }
+    ensures { λ r. ⌜ r ≡ tailOf Edition.Pings (ofBytes (take 5 (drop at (now (bytes .entry))))) ⌝ }
+{
+    let word = half_at(bytes, at);
+    let last = bytes[at + 4];
+    Tail {
+        word,
+        zeros: last / 16,
+        answers: last % 16,
+    }
+}
+
+// The tail of a record that begins at a place; older editions have none, which is word 0 and no answer.
+fn tail_at(edition: Edition, bytes: &[u8], at: usize) -> Tail
+    requires { ⌜ at + tailBytes edition ≤ length (now bytes) ⌝ }
+    ensures { λ r. ⌜ r ≡ tailOf edition (ofBytes (take (tailBytes edition) (drop at (now (bytes .entry))))) ⌝ }
+{
+    match edition {
+        Edition::Alerts64 => Tail {
+            word: 0,
+            zeros: 0,
+            answers: 0,
+        },
+        Edition::Alerts248 => Tail {
+            word: 0,
+            zeros: 0,
+            answers: 0,
+        },
+        Edition::Pings => pings_at(bytes, at),
+    }
+}
+
+// The record whose first byte is at a place: the access, the positive wires with alert 0 first, the negative wires, the word and the answers.
 pub fn input_at(edition: Edition, bytes: &[u8], at: usize) -> Input
     requires { ⌜ at + recordBytes edition ≤ length (now bytes) ⌝ }
     ensures { λ r. ⌜ r ≡ inputOf edition (take (recordBytes edition) (drop at (now (bytes .entry)))) ⌝ }
 {
     let head = head_of(edition, word_at(bytes, at));
-    let access = carried(edition, access_in(head));
+    let wires = edition::alerts(edition) / 8;
+    let tail = tail_at(edition, bytes, at + 8 + wires + wires);
+    let access = carried(edition, access_in(head, tail));
     let pos = wires_at(edition, bytes, at + 8);
-    let neg = wires_at(edition, bytes, at + 8 + edition::alerts(edition) / 8);
+    let neg = wires_at(edition, bytes, at + 8 + wires);
+    let answers = four(tail.answers) as u32;
     Input {
         access,
         sample: Sample {
             alerts: Wires { pos, neg },
-            asks: [0; WORDS],
+            word: tail.word,
+            answers,
         },
     }
 }

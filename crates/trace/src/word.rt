@@ -17,7 +17,7 @@ fn digit(x: u8, k: u32) -> u64
 }
 
 // Bits 0 to 3, bit 0 first.
-fn four(x: u8) -> u64
+pub fn four(x: u8) -> u64
     ensures { λ r. ⌜ (r ≡ pack (1 ∷ 1 ∷ 1 ∷ 1 ∷ []) (num (bit x 0) ∷ num (bit x 1) ∷ num (bit x 2) ∷ num (bit x 3) ∷ [])) × (r < 16) ⌝ }
 {
     digit(x, 0) * 8 + digit(x, 1) * 4 + digit(x, 2) * 2 + digit(x, 3)

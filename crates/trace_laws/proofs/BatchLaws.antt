@@ -1,12 +1,12 @@
 -- A batch: refused, it changes nothing; otherwise it gives what its ticks give one by one, and a trace may be cut between records.
 -- Assumes nothing.
 use Prim.Native.Nat.{ℕ, _+_, _-_, _*_, _/_, _%_, _≤_, _<_}
-use mathlib.Core.Path.{_≡_, sym, ap, ap₂, _∙_}
-use mathlib.Core.Bool.{true}
+use mathlib.Core.Path.{_≡_, refl, sym, ap, ap₂, _∙_}
+use mathlib.Core.Bool.{Bool, true, false, and-false, not, _&&_, _||_}
 use mathlib.Core.List.{List, [], _++_, map, map-append, append-assoc}
 use native.Mathlib.Decide.{decLt}
 use native.Mathlib.Omega.{arith}
-use borrow.Author.Tests.{eq-eqb, le-leb, le-ltb}
+use borrow.Author.Tests.{not-true, eq-eqb, le-leb, le-ltb}
 use lib.Dec.{leb}
 use lib.ListN.{length, getD, take, drop, length-append, length-drop, length-map, List·getD-append}
 use lib.Seq.{take-append-le, drop-append-le, drop-append-add, getD-append-add, take-at, drop-at, drop-drop}
@@ -14,22 +14,24 @@ use Rattle.bits.proofs.IndexLaws.{and-true, true-and, at-each, length-each, is-
 use Rattle.bits.specs.Index.{each}
 use Rattle.rules.specs.Answer.{firstOf, number}
 use Rattle.trace_rules.specs.Batch.{Batched, admits, batch, batchOf, batchInputs, batchVerdict}
-use Rattle.trace_rules.specs.Edition.{newest, recordBytes, alerts}
+use Rattle.trace_rules.specs.Edition.{newest, recordBytes, alerts, hasTimer}
 use Rattle.trace_rules.specs.Record.{inputOf, inputsOf, recordAt, recordCount}
 use Rattle.rules.specs.Run.{run, ticks}
 use Rattle.rules.specs.Valid.{valid}
 use Rattle.rules.specs.declared.Answer.{Answer}
 use Rattle.trace_rules.specs.declared.Edition.{Edition}
-use Rattle.rules.specs.State.{most}
+use Rattle.rules.specs.State.{most, isOn}
 use Rattle.rules.specs.declared.Handler.{Handler}
 use Rattle.rules.specs.declared.Input.{Input}
 use Rattle.rules.specs.declared.Refusal.{Refusal}
+use Rattle.rules.specs.declared.Refusal.the-variants.{BadState}
 use Rattle.rules.specs.declared.Verdict.{Verdict}
 use Rattle.trace_rules.specs.Word.{wordOf}
 use Rattle.trace_laws.specs.Batches.{ofTicks, behind, followed}
 use Rattle.laws.specs.Above.{SameAbove}
 use Rattle.laws.proofs.State.Above.{run-above}
 use Rattle.laws.proofs.Valid.KeepsValid.{run-valid}
+use Rattle.trace_laws.proofs.OlderEditions.{older-off}
 use Rattle.trace_laws.proofs.PartLaws.{some-bytes, part-within, count-add, place-add, rest-add}
 use Rattle.laws.proofs.Tick.Runs.{run-append, ticks-append, length-ticks}
 use Rattle.laws.proofs.Valid.ValidLaws.{facts}
@@ -38,19 +40,27 @@ use Rattle.laws.proofs.Valid.ValidLaws.{facts}
 
 pub admits-valid : (e : Edition) (h : Handler) → admits e h ≡ true → valid h ≡ true
 unfolding admits
-admits-valid e h a = and-true (valid h) (leb (h .n) (alerts e)) a .0
+admits-valid e h a = and-true (valid h) (leb (h .n) (alerts e) && (hasTimer e || not (isOn h))) a .0
 
--- any number of ticks leaves one
-pub run-admits : (e : Edition) (h : Handler) (xs : List Input) → admits e h ≡ true → admits e (run h xs) ≡ true
+-- the ticks of its records keep the timer off, where it is without it
+kept-off : (e : Edition) (h : Handler) (bytes : List ℕ) (b : Bool) → hasTimer e ≡ b → (b || not (isOn h)) ≡ true → (b || not (isOn (run h (inputsOf e bytes)))) ≡ true
+kept-off e h bytes true t a = a
+kept-off e h bytes false t a = ap not (older-off e t h bytes (not-true (isOn h) a))
+
+-- any number of ticks of its records leaves one
+pub run-admits : (e : Edition) (h : Handler) (bytes : List ℕ) → admits e h ≡ true → admits e (run h (inputsOf e bytes)) ≡ true
 unfolding admits
-run-admits e h xs a =
-    let b = and-true (valid h) (leb (h .n) (alerts e)) a in
-    true-and (run-valid h xs (b .0)) (ap (λ (n : ℕ). leb n (alerts e)) (run-above h xs .n) ∙ b .1)
+run-admits e h bytes a =
+    let xs : List Input = inputsOf e bytes in
+    let b = and-true (valid h) (leb (h .n) (alerts e) && (hasTimer e || not (isOn h))) a in
+    let c = and-true (leb (h .n) (alerts e)) (hasTimer e || not (isOn h)) (b .1) in
+    true-and (run-valid h xs (b .0))
+    (true-and (ap (λ (n : ℕ). leb n (alerts e)) (run-above h xs .n) ∙ c .0) (kept-off e h bytes (hasTimer e) refl (c .1)))
 
--- the newest records speak of every alert that there is
+-- the newest records speak of every alert that there is, and of the timer
 pub admits-all : (h : Handler) → valid h ≡ true → admits newest h ≡ true
 unfolding admits
-admits-all h v = true-and v (le-leb (h .n) most (facts h v .n))
+admits-all h v = true-and v (true-and (le-leb (h .n) most (facts h v .n)) refl)
 
 -- ── refused or not ──
 
@@ -71,6 +81,24 @@ pub batch-refused : (e : Edition) (h : Handler) (bytes out : List ℕ) (m : Refu
     → batch e h bytes out ≡ record { handler = h; answer = number (Answer.Refused m); out = out }
 unfolding batch batchOf run ticks
 batch-refused e h bytes out m r = ap (λ (v : Verdict). batchOf e v h bytes out) r
+
+-- request (ix): "an older batch answers 7 where the timer is on", before 8 and 9
+pub older-refused : (e : Edition) (h : Handler) (bytes out : List ℕ) → hasTimer e ≡ false → isOn h ≡ true → batchVerdict e h bytes out ≡ Verdict.Refused BadState
+unfolding batchVerdict firstOf admits
+older-refused e h bytes out o t = rw (o, t, and-false (leb (h .n) (alerts e)), and-false (valid h))
+
+-- so it leaves the timer on or off, as it was
+pub older-batch : (e : Edition) (h : Handler) (bytes out : List ℕ) → hasTimer e ≡ false → isOn (batch e h bytes out .handler) ≡ isOn h
+unfolding batch batchOf run
+older-batch e h bytes out o = go (isOn h) refl
+  where
+    by : (v : Verdict) → isOn h ≡ false → isOn (run h (batchInputs e v bytes)) ≡ isOn h
+    by Verdict.Accepted t = older-off e o h bytes t ∙ sym t
+    by (Verdict.Refused m) t = refl
+
+    go : (b : Bool) → isOn h ≡ b → isOn (batch e h bytes out .handler) ≡ isOn h
+    go true t = ap (λ (s : Batched). isOn (s .handler)) (batch-refused e h bytes out BadState (older-refused e h bytes out o t))
+    go false t = by (batchVerdict e h bytes out) t
 
 -- ── any other ──
 
@@ -162,7 +190,7 @@ module _ (e : Edition) (h : Handler) (a b out : List ℕ) (v : admits e h ≡ tr
   followed-ticks : followed e (recordCount e a) (ofTicks e h a out) b ≡ behind firstWords (ofTicks e left b rest)
   followed-ticks =
       ap₂ (λ (ws vs : List ℕ). behind ws (batch e left b vs)) (take-at firstWords rest (recordCount e a) words-first) (drop-at firstWords rest (recordCount e a) words-first)
-      ∙ ap (behind firstWords) (batch-good e left b rest (run-admits e h (inputsOf e a) v) wb (simp length-drop (omega (arith, count-append e a b wa))))
+      ∙ ap (behind firstWords) (batch-good e left b rest (run-admits e h a v) wb (simp length-drop (omega (arith, count-append e a b wa))))
 
   -- one batch gives what two give, the second on the state that the first leaves
   pub batch-append : batch e h (a ++ b) out ≡ followed e (recordCount e a) (batch e h a out) b

@@ -1,8 +1,10 @@
 pub mod CarryLaws
 pub mod PartLaws
+pub mod OlderEditions
 pub mod BatchLaws
 pub mod BatchAboveExamples
 pub mod WireLaws
+pub mod OtherWay
 pub mod RecordLaws
 pub mod WellFormedLaws
 pub mod Recordable

@@ -15,7 +15,7 @@ use Rattle.bits.proofs.FieldLaws.{unpack-fits}
 use Rattle.bits.proofs.IndexLaws.{true-and}
 use Rattle.rules.specs.Access.{malformed}
 use Rattle.trace_rules.specs.Edition.{registerBits, alerts}
-use Rattle.trace_rules.specs.Record.{layout, valueBits, accessIn, registerOf, valueOf, wireWords, noAsks, heldIn, recordOf, recordable}
+use Rattle.trace_rules.specs.Record.{layout, valueBits, accessIn, registerOf, valueOf, wireWords, heldIn, recordOf, recordable}
 use Rattle.trace_rules.specs.Writer.{WellFormed, HeldBy, Wired}
 use Rattle.rules.specs.declared.Access.{Access}
 use Rattle.rules.specs.declared.Access.the-variants.{Nothing, Read, Write, Malformed}
@@ -59,14 +59,14 @@ record-formed e x w t =
     one-formed e (recordOf e x) (record-length e x) (record-byte e x)
     (ap (λ (y : Input). malformed (y .access)) (input-record e x w t) ∙ formed e (x .access) t)
 
--- with all wires at 0
+-- with all wires at 0, word 0 and no answer
 abbrev quiet : Edition → Access → Input
-quiet e a = record { access = a; sample = record { alerts = record { pos = wireWords (alerts e) 0; neg = wireWords (alerts e) 0 }; asks = noAsks } }
+quiet e a = record { access = a; sample = record { alerts = record { pos = wireWords (alerts e) 0; neg = wireWords (alerts e) 0 }; word = 0; answers = 0 } }
 
 held : (e : Edition) (a : Access) → recordable e a ≡ true → HeldBy e a
 held e a t =
     let x = quiet e a in
-    let w : Wired x = record { positive = unpack-fits _ _; negative = unpack-fits _ _ } in
+    let w : Wired x = record { positive = unpack-fits _ _; negative = unpack-fits _ _; word = pow-pos 32 } in
     (recordOf e x, record-length e x, record-formed e x w t, ap (λ (y : Input). y .access) (input-record e x w t))
 
 pub recordable-is : (e : Edition) (a : Access) → (recordable e a ≡ true) ↔ HeldBy e a

@@ -15,7 +15,7 @@ use lib.Seq.{take-at}
 use Rattle.bits.proofs.IndexLaws.{length-each}
 use Rattle.bits.specs.Index.{each, eachFrom}
 use Rattle.rules.specs.Answer.{firstOf, number}
-use Rattle.trace_rules.specs.Edition.{newest, recordBytes, carried248}
+use Rattle.trace_rules.specs.Edition.{newest, recordBytes}
 use Rattle.trace_rules.specs.Record.{carried, heldIn, inputOf, recordOf, recordable, inputsOf, recordAt, recordCount}
 use Rattle.trace_rules.specs.Writer.{WellFormed, Wired, AllWired, none, one, AllSame, no-more, and, recordsOf, anyUnrecordable, writeCases, writeVerdict, writeOf, write}
 use Rattle.rules.specs.declared.Answer.{Answer}
@@ -104,7 +104,6 @@ each-wired n f w = wired-from 0 n f w
 -- ── the newest edition has the map's own register numbers ──
 
 own-access : (a : Access) → carried newest a ≡ a
-unfolding carried248
 own-access Nothing = refl
 own-access (Read r) = refl
 own-access (Write r v) = refl

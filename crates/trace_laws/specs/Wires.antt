@@ -1,11 +1,14 @@
--- What a record shows of a sample: the wires that its edition has a place for.
+-- What a record shows of a sample: the wires that its edition has a place for, and with the timer its word and answers.
 -- Assumes nothing.
-use Rattle.trace_rules.specs.Edition.{alerts}
-use Rattle.trace_rules.specs.Record.{wireWords, wiresOf, noAsks}
+use Prim.Native.Nat.{_%_, _^_}
+use mathlib.Core.Bool.{cond}
+use Rattle.trace_rules.specs.Edition.{alerts, hasTimer}
+use Rattle.trace_rules.specs.Record.{wireWords, wiresOf}
 use Rattle.trace_rules.specs.declared.Edition.{Edition}
 use Rattle.rules.specs.declared.Input.{Input}
 
--- the same access, words in which every place past the edition's alerts is 0, and no asks
+-- the same access, words in which every place past the edition's alerts is 0, and where it has the timer the same word and the answers of the four
+-- lines, else word 0 and no answer
 abbrev pub shown : Edition → Input → Input
 shown e x =
     record {
@@ -17,6 +20,7 @@ shown e x =
                   pos = wireWords (alerts e) (wiresOf (alerts e) (x .sample .alerts .pos));
                   neg = wireWords (alerts e) (wiresOf (alerts e) (x .sample .alerts .neg));
                 };
-            asks = noAsks;
+            word = cond (hasTimer e) (x .sample .word) 0;
+            answers = cond (hasTimer e) (x .sample .answers % 2 ^ 4) 0;
           };
     }

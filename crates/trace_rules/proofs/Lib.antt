@@ -1,3 +1,4 @@
 pub mod TraceScenes
 pub mod TraceExamples
+pub mod PingExamples
 pub mod WriterExamples

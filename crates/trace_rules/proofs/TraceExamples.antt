@@ -1,4 +1,4 @@
--- Worked examples that pin "Traces" and the batch, by computation.
+-- Worked examples that pin "Traces" and the batch, by computation; PingExamples has the edition of pings.
 -- Assumes nothing.
 use Prim.Native.Nat.{ℕ, _+_, _*_, _^_}
 use mathlib.Core.Path.{_≡_, refl}
@@ -99,12 +99,6 @@ wires248 : (inputOf Alerts248 (bytes248 0 0 (2 ^ 247) 1) .sample .alerts .pos �
     × (inputOf Alerts248 (bytes248 0 0 (2 ^ 183) (2 ^ 184)) .sample .alerts .neg ≡ 1 ∷ 0 ∷ 0 ∷ 0 ∷ [])
 unfolding rules traces
 wires248 = (refl, refl, refl, refl)
-
--- request (viii): traces ask for no pings, whatever bits a record has
-asks : (inputOf Alerts64 (replicate 24 255) .sample .asks ≡ 0 ∷ 0 ∷ 0 ∷ 0 ∷ [])
-    × (inputOf Alerts248 (replicate 70 255) .sample .asks ≡ 0 ∷ 0 ∷ 0 ∷ 0 ∷ [])
-unfolding rules traces
-asks = (refl, refl)
 
 -- ── words ──
 

@@ -1,15 +1,16 @@
 -- "Traces": a batch fills a lent list of 64-bit words, one per record. Its refusals are of "Numbers that come back".
 -- Assumes nothing.
 use Prim.Native.Nat.{ℕ, _%_}
-use mathlib.Core.Bool.{Bool, not, _&&_}
+use mathlib.Core.Bool.{Bool, not, _&&_, _||_}
 use mathlib.Core.List.{List, [], _∷_, _++_, map}
 use lib.Dec.{eqb, leb, ltb}
 use lib.IntN.{ℤ}
 use lib.ListN.{length, drop}
 use Rattle.rules.specs.Answer.{Case, firstOf, number}
-use Rattle.trace_rules.specs.Edition.{recordBytes, alerts}
+use Rattle.trace_rules.specs.Edition.{recordBytes, alerts, hasTimer}
 use Rattle.trace_rules.specs.Record.{recordCount, inputsOf}
 use Rattle.rules.specs.Run.{run, ticks}
+use Rattle.rules.specs.State.{isOn}
 use Rattle.rules.specs.Valid.{valid}
 use Rattle.trace_rules.specs.Word.{wordOf}
 use Rattle.rules.specs.declared.Answer.{Answer}
@@ -19,9 +20,10 @@ use Rattle.rules.specs.declared.Input.{Input}
 use Rattle.rules.specs.declared.Refusal.the-variants.{BadState, BadLength, ShortList}
 use Rattle.rules.specs.declared.Verdict.{Verdict}
 
--- a state that the ticks of an edition's batch may start from
+-- a state that the ticks of an edition's batch may start from; request (iii): "an old batch answers 7 to a handler of more than 64 alerts";
+-- request (ix): "an older batch answers 7 where the timer is on"
 unfoldable pub admits : Edition → Handler → Bool
-admits e h = valid h && leb (h .n) (alerts e)
+admits e h = valid h && (leb (h .n) (alerts e) && (hasTimer e || not (isOn h)))
 
 -- for a batch the order is 7, 8, 9
 abbrev pub batchCases : Edition → Handler → List ℕ → List ℕ → List Case

@@ -5,7 +5,7 @@ use mathlib.Core.Bool.{Bool, true, false, cond, _&&_}
 use mathlib.Core.List.{List, [], _∷_, _++_}
 use lib.Dec.{eqb}
 use lib.ListN.{getD, length, take, drop, replicate}
-use Rattle.bits.specs.Bits.{fits}
+use Rattle.bits.specs.Bits.{bit, bitsOf, fits}
 use Rattle.bits.specs.Fields.{pack, unpack, ofBytes, toBytes}
 use Rattle.bits.specs.Index.{each}
 use Rattle.trace_rules.specs.Edition.{recordBytes, registerBits, zeroBits, alerts, tail, carry}
@@ -13,7 +13,7 @@ use Rattle.rules.specs.State.{words}
 use Rattle.rules.specs.declared.Access.{Access}
 use Rattle.rules.specs.declared.Access.the-variants.{Nothing, Read, Write, Malformed}
 use Rattle.trace_rules.specs.declared.Edition.{Edition}
-use Rattle.trace_rules.specs.declared.Edition.the-variants.{Alerts64, Alerts248}
+use Rattle.trace_rules.specs.declared.Edition.the-variants.{Alerts64, Alerts248, Pings}
 use Rattle.rules.specs.declared.Input.{Input}
 use Rattle.rules.specs.declared.Sample.{Sample}
 
@@ -40,9 +40,9 @@ accessOf kind register value =
     (cond (eqb kind 1) (cond (eqb value 0) (Access.Read register) Access.Malformed)
     (cond (eqb kind 2) (Access.Write register value) Access.Malformed))
 
--- whether all zero bits of a record are zero, by the fields hs of its head and ts of its tail: no edition has zero bits in its tail
+-- whether all zero bits of a record are zero, by the fields hs of its head and ts of its tail: where it has a tail, the four behind the word too
 abbrev pub clear : List ℕ → List ℕ → Bool
-clear hs ts = eqb (getD hs 2 0) 0
+clear hs ts = eqb (getD hs 2 0) 0 && eqb (getD ts 1 0) 0
 
 -- malformed too: a nonzero bit among the zero bits
 abbrev pub accessIn : List ℕ → List ℕ → Access
@@ -55,16 +55,29 @@ wireWords n wires = unpack (replicate words 64) (wires * 2 ^ (64 * words - n))
 abbrev pub wiresOf : ℕ → List ℕ → ℕ
 wiresOf n ws = pack (replicate words 64) ws / 2 ^ (64 * words - n)
 
--- request (viii): "the caller asks for pings, traces and the installer for none": no record has a place for asks, and its sample has none
-abbrev pub noAsks : List ℕ
-noAsks = replicate words 0
+-- request (ix): "four answer bits, line 0 first": in a sample line 0 is lowest, so that the four are the other way round, from a record and into
+-- one; bits from 4 up are no line's, and left out
+unfoldable pub otherWay : ℕ → ℕ
+otherWay x = bitsOf 4 (λ l. bit x (3 - l))
+
+-- the entropy word, and the lines whose ping is answered, by the fields ts of the tail: without them word 0 and no answer
+abbrev pub wordIn : List ℕ → ℕ
+wordIn ts = getD ts 0 0
+
+abbrev pub answersIn : List ℕ → ℕ
+answersIn ts = otherWay (getD ts 2 0)
 
 -- by the fields of the head, the wires and the tail
 abbrev pub inputOfParts : Edition → List ℕ → List ℕ → List ℕ → Input
 inputOfParts e hs ws ts =
     record {
       access = accessIn hs ts;
-      sample = record { alerts = record { pos = wireWords (alerts e) (getD ws 0 0); neg = wireWords (alerts e) (getD ws 1 0) }; asks = noAsks };
+      sample =
+          record {
+            alerts = record { pos = wireWords (alerts e) (getD ws 0 0); neg = wireWords (alerts e) (getD ws 1 0) };
+            word = wordIn ts;
+            answers = answersIn ts;
+          };
     }
 
 abbrev pub inputOfFields : Edition → List ℕ → Input
@@ -114,6 +127,7 @@ wireFields e s = wiresOf (alerts e) (s .alerts .pos) ∷ wiresOf (alerts e) (s .
 abbrev pub tailFields : Edition → Sample → List ℕ
 tailFields Alerts64 s = []
 tailFields Alerts248 s = []
+tailFields Pings s = s .word ∷ 0 ∷ otherWay (s .answers) ∷ []
 
 abbrev pub fieldsOfInput : Edition → Input → List ℕ
 fieldsOfInput e x = headFields (x .access) ++ (wireFields e (x .sample) ++ tailFields e (x .sample))

@@ -2,7 +2,7 @@
 -- Assumes nothing.
 use Prim.Native.Nat.{ℕ, _*_, _%_, _^_, _<_}
 use mathlib.Core.Path.{_≡_}
-use mathlib.Core.Bool.{Bool, false, not, _||_}
+use mathlib.Core.Bool.{Bool, false, cond, not, _||_}
 use mathlib.Core.List.{List, [], _∷_, _++_}
 use lib.Dec.{ltb}
 use lib.IntN.{ℤ, pos}
@@ -11,8 +11,8 @@ use Rattle.bits.specs.Fields.{Fit}
 use Rattle.bits.specs.Index.{placeIn}
 use Rattle.rules.specs.Answer.{Case, firstOf, number}
 use Rattle.rules.specs.Access.{malformed}
-use Rattle.trace_rules.specs.Edition.{recordBytes, alerts}
-use Rattle.trace_rules.specs.Record.{noAsks, heldIn, recordOf, recordable, recordCount, recordAt}
+use Rattle.trace_rules.specs.Edition.{recordBytes, alerts, hasTimer}
+use Rattle.trace_rules.specs.Record.{heldIn, recordOf, recordable, recordCount, recordAt}
 use Rattle.rules.specs.State.{words}
 use Rattle.rules.specs.declared.Access.{Access}
 use Rattle.rules.specs.declared.Answer.{Answer}
@@ -70,17 +70,20 @@ pub record WellFormed (e : Edition) (bytes : List ℕ) : Type 0 where
 abbrev pub HeldBy : Edition → Access → Type 0
 HeldBy e a = (bytes : List ℕ) × (length bytes ≡ recordBytes e) × WellFormed e bytes × (heldIn e bytes .access ≡ a)
 
--- a sample as the handler's type has it: words of 64 for the positive and for the negative wires
+-- a sample as the handler's type has it: words of 64 for the positive and for the negative wires, an entropy word of 32 bits
 pub record Wired (x : Input) : Type 0 where
   pub positive : Fit (replicate words 64) (x .sample .alerts .pos)
   pub negative : Fit (replicate words 64) (x .sample .alerts .neg)
+  pub word : x .sample .word < 2 ^ 32
 
--- y is x as an edition's record gives it back: the same access, the same pair of wires of each alert that the edition speaks of, and no asks
+-- y is x as an edition's record gives it back: the same access, the same pair of wires of each alert that the edition speaks of, and where it has
+-- the timer the same word and the same answers of the four lines, else word 0 and no answer
 pub record SameRead (e : Edition) (x y : Input) : Type 0 where
   pub access : y .access ≡ x .access
   pub positive : (i : ℕ) → i < alerts e → placeIn (y .sample .alerts .pos) i ≡ placeIn (x .sample .alerts .pos) i
   pub negative : (i : ℕ) → i < alerts e → placeIn (y .sample .alerts .neg) i ≡ placeIn (x .sample .alerts .neg) i
-  pub asks : y .sample .asks ≡ noAsks
+  pub word : y .sample .word ≡ cond (hasTimer e) (x .sample .word) 0
+  pub answers : y .sample .answers ≡ cond (hasTimer e) (x .sample .answers % 2 ^ 4) 0
 
 -- the same of each of a list
 pub data AllSame (e : Edition) : List Input → List Input → Type 0 where

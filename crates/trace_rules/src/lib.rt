@@ -1,7 +1,8 @@
 // A trace's editions. What records and words hold, and what a batch and the writer give, are the definitions in specs/.
 
-// The form of a trace, named by what it brings: its record speaks of 64 alerts, or of 248.
+// The form of a trace, named by what it brings: its record speaks of 64 alerts, of 248, or of 248 and of pings.
 pub enum Edition {
     Alerts64,
     Alerts248,
+    Pings,
 }

@@ -3,7 +3,7 @@
 use Prim.Native.Nat.{ℕ, zero, suc, _+_, _-_, _%_, _≤_, _<_}
 use mathlib.Core.Path.{_≡_, refl, sym, ap, _∙_, subst}
 use mathlib.Core.Logic.{_⊎_, _≢_, inl, inr, _↔_}
-use mathlib.Core.Bool.{Bool, true, false, false≢true, _&&_}
+use mathlib.Core.Bool.{Bool, true, false, false≢true, and-false, not, _||_}
 use mathlib.Core.List.{List, [], _∷_, _++_, map}
 use native.Mathlib.Omega.{arith}
 use native.Mathlib.Decide.{decLt, ℕ-discrete}
@@ -16,15 +16,16 @@ use lib.Seq.{take-all, getD-append-add, getD-drop}
 use Rattle.bits.proofs.IndexLaws.{at-each, length-each, true-and}
 use Rattle.rules.specs.Answer.{firstOf, number}
 use Rattle.trace_rules.specs.Batch.{Batched, admits, batch, batchVerdict}
-use Rattle.trace_rules.specs.Edition.{recordBytes, alerts}
+use Rattle.trace_rules.specs.Edition.{recordBytes, alerts, hasTimer}
 use Rattle.trace_rules.specs.Record.{inputOf, inputsOf, recordAt, recordCount}
 use Rattle.rules.specs.Run.{run, ticks}
+use Rattle.rules.specs.State.{isOn}
 use Rattle.rules.specs.Tick.{ticked}
 use Rattle.rules.specs.Valid.{valid}
 use Rattle.trace_rules.specs.Word.{wordOf}
 use Rattle.rules.specs.declared.Answer.{Answer}
 use Rattle.trace_rules.specs.declared.Edition.{Edition}
-use Rattle.trace_rules.specs.declared.Edition.the-variants.{Alerts64, Alerts248}
+use Rattle.trace_rules.specs.declared.Edition.the-variants.{Alerts64, Alerts248, Pings}
 use Rattle.rules.specs.declared.Handler.{Handler}
 use Rattle.rules.specs.declared.Input.{Input}
 use Rattle.rules.specs.declared.Refusal.{Refusal}
@@ -85,7 +86,7 @@ module _ (h : Handler) (xs : List Input) (out : List ℕ) (n : ℕ) (x : ℕ →
 
 module _ (e : Edition) (h : Handler) (bytes out : List ℕ) where
   abbrev Seven : Type 0
-  Seven = (¬ Valid h) ⊎ (alerts e < h .n)
+  Seven = (¬ Valid h) ⊎ ((alerts e < h .n) ⊎ ((hasTimer e ≡ false) × (h .timer .enable ≡ 1)))
 
   abbrev Eight : Type 0
   Eight = length bytes % recordBytes e ≢ 0
@@ -96,23 +97,27 @@ module _ (e : Edition) (h : Handler) (bytes out : List ℕ) where
   not-admitted : Seven → admits e h ≡ false
   unfolding admits
   not-admitted (inl f) = rw (off (valid h) (holds-valid h) f)
-  not-admitted (inr l) = go (valid h)
-    where
-      go : (b : Bool) → (b && leb (h .n) (alerts e)) ≡ false
-      go true = lt-leb (h .n) (alerts e) l
-      go false = refl
+  not-admitted (inr (inl l)) = rw (lt-leb (h .n) (alerts e) l, and-false (valid h))
+  not-admitted (inr (inr (o, t))) = rw (o, eq-eqb (h .timer .enable) 1 t, and-false (leb (h .n) (alerts e)), and-false (valid h))
 
   admitted : ¬ Seven → admits e h ≡ true
   unfolding admits
-  admitted f = true-and (go (valid h) (holds-valid h)) (le-leb (h .n) (alerts e) (small (decLt (alerts e) (h .n))))
+  admitted f =
+      true-and (go (valid h) (holds-valid h))
+      (true-and (le-leb (h .n) (alerts e) (small (decLt (alerts e) (h .n)))) (timed (hasTimer e) (ℕ-discrete (h .timer .enable) 1) (λ o t. f (inr (inr (o, t))))))
     where
       go : (b : Bool) → (b ≡ true) ↔ Valid h → b ≡ true
       go true s = refl
       go false s = absurd (f (inl (λ v. false≢true (s .1 v))))
 
       small : Dec (alerts e < h .n) → h .n ≤ alerts e
-      small (yes l) = absurd (f (inr l))
+      small (yes l) = absurd (f (inr (inl l)))
       small (no m) = omega arith
+
+      timed : (b : Bool) → Dec (h .timer .enable ≡ 1) → (b ≡ false → h .timer .enable ≡ 1 → ⊥) → (b || not (isOn h)) ≡ true
+      timed true d g = refl
+      timed false (yes t) g = absurd (g refl t)
+      timed false (no t) g = ap not (ne-eqb (h .timer .enable) 1 t)
 
   whole : ¬ Eight → length bytes % recordBytes e ≡ 0
   whole f = go (ℕ-discrete (length bytes % recordBytes e) 0)
@@ -167,4 +172,11 @@ holds-batches Alerts248 h bytes out =
       refused-8 = λ f s. refuses Alerts248 h bytes out BadLength 8 refl (eight Alerts248 h bytes out f s);
       refused-9 = λ f g s. refuses Alerts248 h bytes out ShortList 9 refl (nine Alerts248 h bytes out f g s);
       runs = λ f g k. runs Alerts248 h bytes out f g k;
+    }
+holds-batches Pings h bytes out =
+    record {
+      refused-7 = λ s. refuses Pings h bytes out BadState 7 refl (seven Pings h bytes out s);
+      refused-8 = λ f s. refuses Pings h bytes out BadLength 8 refl (eight Pings h bytes out f s);
+      refused-9 = λ f g s. refuses Pings h bytes out ShortList 9 refl (nine Pings h bytes out f g s);
+      runs = λ f g k. runs Pings h bytes out f g k;
     }

@@ -1,36 +1,46 @@
 -- The rules' reader of records satisfies the sentences.
 -- Assumes nothing.
 use Prim.Native.Nat.{ℕ, suc, _-_, _*_, _/_, _%_, _^_, _≤_, _<_}
-use mathlib.Core.Path.{_≡_, refl, ap, _∙_}
-use mathlib.Core.Logic.{_⊎_, inl, inr, ⊎-elim}
-use mathlib.Core.Bool.{Bool, true, false, cond, and-false}
+use mathlib.Core.Path.{_≡_, refl, sym, ap, _∙_, subst}
+use mathlib.Core.Logic.{inl, inr, ⊎-elim}
+use mathlib.Core.Bool.{Bool, true, false, cond, and-false, _&&_}
 use mathlib.Core.List.{List, [], _∷_}
 use native.Mathlib.Omega.{arith}
 use native.Mathlib.Nat.{mod-lt}
-use borrow.Author.Tests.{lt-ltb, le-ltb, ne-eqb}
+use borrow.Author.Tests.{lt-ltb, le-ltb, le-leb, lt-leb, ne-eqb}
 use lib.Dec.{eqb}
-use lib.ListN.{getD, length, replicate}
+use lib.ListN.{getD, length, drop, replicate}
 use lib.Pow.{pow-pos}
 use Rattle.bits.specs.Bits.{bit}
 use Rattle.bits.specs.Fields.{unpack, ofBytes}
-use Rattle.trace_rules.specs.Edition.{alerts, carried64, carried248, carry}
+use Rattle.trace_rules.specs.Edition.{alerts, withoutTimer, carried64, carried248, carry}
 use Rattle.rules.specs.Map.{numberOf}
-use Rattle.trace_rules.specs.Record.{layout, accessOf, accessIn, wireWords, heldIn, carried, inputOf}
+use Rattle.trace_rules.specs.Record.{layout, accessOf, accessIn, wireWords, otherWay, wordIn, answersIn, heldIn, carried, inputOf}
 use Rattle.rules.specs.declared.Access.{Access}
 use Rattle.trace_rules.specs.declared.Edition.{Edition}
-use Rattle.trace_rules.specs.declared.Edition.the-variants.{Alerts64, Alerts248}
+use Rattle.trace_rules.specs.declared.Edition.the-variants.{Alerts64, Alerts248, Pings}
+use Rattle.trace_laws.proofs.OtherWay.{other-lt, other-bit, other-none}
 use Rattle.trace_laws.proofs.WireLaws.{place-unpack, bit-up, bit-below}
 use Rattle.sentences.proofs.SentenceCases.{by-phase}
-use Rattle.trace_sentences.specs.RecordBits.{form, Stands, Some, Kind, Bad, Carried, Means, WiresAre, Holds, Reader}
+use Rattle.trace_sentences.specs.RecordBits.{form, Stands, Some, Kind, Bad, Kept, Carried, Means, WiresAre, AnswersAre, Holds, Reader}
 use Rattle.trace_sentences.proofs.BytePlaces.{field-stands, one-stands, some-not-zero, none-zero}
 
 -- ── register numbers ──
+
+holds-kept : (r : ℕ) → Kept r (withoutTimer r)
+unfolding numberOf
+holds-kept r =
+    record {
+      below = λ l. rw (lt-leb 4 r l);
+      timer = λ h l. let m : r < 7 = omega arith in rw (le-leb 4 r h, lt-ltb r 7 m);
+      above = λ h. let a : 4 ≤ r = omega arith in rw (le-leb 4 r a, le-ltb r 7 h);
+    }
 
 holds-carried : (r : ℕ) → Carried r (carried64 r)
 unfolding carried64 numberOf
 holds-carried r =
     record {
-      low = λ l. rw (lt-ltb r 64 l);
+      low = λ l. rw (lt-ltb r 64 l) (holds-kept r);
       regwen = λ i l e. let a : 64 ≤ r = omega arith in let b : r < 320 = omega arith in rw (le-ltb r 64 a, lt-ltb r 320 b) (omega arith);
       en = λ i l e. let a : 64 ≤ r = omega arith in let b : r < 320 = omega arith in rw (le-ltb r 64 a, lt-ltb r 320 b) (omega arith);
       class = λ i l e. let a : 64 ≤ r = omega arith in let b : r < 320 = omega arith in rw (le-ltb r 64 a, lt-ltb r 320 b) (omega arith);
@@ -44,20 +54,24 @@ holds-carried r =
 holds-means : (e : Edition) (r : ℕ) → Means e r (carry e r)
 unfolding carried248
 holds-means Alerts64 r = holds-carried r
-holds-means Alerts248 r = refl
+holds-means Alerts248 r = holds-kept r
+holds-means Pings r = refl
 
 -- ── the access, by its numbers ──
 
-module _ (k r z v : ℕ) where
+module _ (k r z v : ℕ) (ts : List ℕ) where
   abbrev access : Access
-  access = accessIn (k ∷ r ∷ z ∷ v ∷ []) []
+  access = accessIn (k ∷ r ∷ z ∷ v ∷ []) ts
 
   bad-zeros : ¬ (z ≡ 0) → access ≡ Access.Malformed
   bad-zeros f = rw (ne-eqb z 0 f)
 
+  bad-more : ¬ (getD ts 1 0 ≡ 0) → access ≡ Access.Malformed
+  bad-more f = rw (ne-eqb (getD ts 1 0) 0 f, and-false (eqb z 0))
+
   -- where the zero bits are zero, and where not
   as-zeros : (accessOf k r v ≡ Access.Malformed) → access ≡ Access.Malformed
-  as-zeros e = go (eqb z 0)
+  as-zeros e = go (eqb z 0 && eqb (getD ts 1 0) 0)
     where
       go : (t : Bool) → cond t (accessOf k r v) Access.Malformed ≡ Access.Malformed
       go true = e
@@ -79,17 +93,17 @@ module _ (k r z v : ℕ) where
   unfolding accessOf
   bad-none-value e f = as-zeros (rw (e, ne-eqb v 0 f, and-false (eqb r 0)))
 
-  is-nothing : z ≡ 0 → k ≡ 0 → r ≡ 0 → v ≡ 0 → access ≡ Access.Nothing
+  is-nothing : z ≡ 0 → getD ts 1 0 ≡ 0 → k ≡ 0 → r ≡ 0 → v ≡ 0 → access ≡ Access.Nothing
   unfolding accessOf
-  is-nothing a b c d = rw (a, b, c, d)
+  is-nothing a m b c d = rw (a, m, b, c, d)
 
-  is-read : z ≡ 0 → k ≡ 1 → v ≡ 0 → access ≡ Access.Read r
+  is-read : z ≡ 0 → getD ts 1 0 ≡ 0 → k ≡ 1 → v ≡ 0 → access ≡ Access.Read r
   unfolding accessOf
-  is-read a b d = rw (a, b, d)
+  is-read a m b d = rw (a, m, b, d)
 
-  is-write : z ≡ 0 → k ≡ 2 → access ≡ Access.Write r v
+  is-write : z ≡ 0 → getD ts 1 0 ≡ 0 → k ≡ 2 → access ≡ Access.Write r v
   unfolding accessOf
-  is-write a b = rw (a, b)
+  is-write a m b = rw (a, m, b)
 
 -- ── the wires ──
 
@@ -117,10 +131,26 @@ holds-wires bytes s n p h t =
       word = words-lt (p * 2 ^ (256 - n));
     }
 
+-- ── the answers ──
+
+-- the bits of a field are a record's, most significant first, and the sample has them the other way round
+holds-answers : (bytes : List ℕ) (n a : ℕ) → Stands bytes n 4 a → AnswersAre bytes n 4 (otherWay a)
+holds-answers bytes n a t = record { line = λ l h. other-bit a l h ∙ t .bits l h; size = other-lt a }
+
+-- no bits are no answer
+no-answers : (bytes : List ℕ) (n : ℕ) → AnswersAre bytes n 0 (otherWay 0)
+no-answers bytes n = record { line = λ l h. absurd (omega arith); size = subst (λ (a : ℕ). a < 1) (sym other-none) (omega arith) }
+
+no-word : (bytes : List ℕ) (n : ℕ) → Stands bytes n 0 0
+no-word bytes n = record { size = omega arith; bits = λ i h. absurd (omega arith) }
+
 -- ── the parts of a record ──
 
 abbrev part : Edition → List ℕ → ℕ → ℕ
 part e bytes i = getD (unpack (layout e) (ofBytes bytes)) i 0
+
+abbrev behind : Edition → List ℕ → List ℕ
+behind e bytes = drop 6 (unpack (layout e) (ofBytes bytes))
 
 record Parts (e : Edition) (bytes : List ℕ) : Type 0 where
   kind : Stands bytes 0 2 (part e bytes 0)
@@ -129,6 +159,9 @@ record Parts (e : Edition) (bytes : List ℕ) : Type 0 where
   value : Stands bytes (form e .value-at) 32 (part e bytes 3)
   positive : WiresAre bytes (form e .positive-at) (form e .alerts) (wireWords (alerts e) (part e bytes 4))
   negative : WiresAre bytes (form e .negative-at) (form e .alerts) (wireWords (alerts e) (part e bytes 5))
+  word : Stands bytes (form e .word-at) (form e .word-bits) (wordIn (behind e bytes))
+  more-zeros : Stands bytes (form e .more-zeros-at) (form e .more-zero-bits) (getD (behind e bytes) 1 0)
+  answers : AnswersAre bytes (form e .answers-at) (form e .answer-bits) (answersIn (behind e bytes))
 
 parts : (e : Edition) (bytes : List ℕ) → length bytes ≡ form e .bytes → ((i : ℕ) → getD bytes i 0 ≤ 255) → Parts e bytes
 unfolding unpack
@@ -140,6 +173,9 @@ parts Alerts64 bytes l b =
       value = field-stands bytes b 32 32 128 (omega arith);
       positive = holds-wires bytes 64 64 _ (omega arith) (field-stands bytes b 64 64 64 (omega arith));
       negative = holds-wires bytes 128 64 _ (omega arith) (field-stands bytes b 128 64 0 (omega arith));
+      word = no-word bytes 192;
+      more-zeros = no-word bytes 192;
+      answers = no-answers bytes 192;
     }
 parts Alerts248 bytes l b =
     record {
@@ -149,42 +185,79 @@ parts Alerts248 bytes l b =
       value = field-stands bytes b 32 32 496 (omega arith);
       positive = holds-wires bytes 64 248 _ (omega arith) (field-stands bytes b 64 248 248 (omega arith));
       negative = holds-wires bytes 312 248 _ (omega arith) (field-stands bytes b 312 248 0 (omega arith));
+      word = no-word bytes 560;
+      more-zeros = no-word bytes 560;
+      answers = no-answers bytes 560;
+    }
+parts Pings bytes l b =
+    record {
+      kind = field-stands bytes b 0 2 598 (omega arith);
+      register = field-stands bytes b 2 11 587 (omega arith);
+      zeros = field-stands bytes b 13 19 568 (omega arith);
+      value = field-stands bytes b 32 32 536 (omega arith);
+      positive = holds-wires bytes 64 248 _ (omega arith) (field-stands bytes b 64 248 288 (omega arith));
+      negative = holds-wires bytes 312 248 _ (omega arith) (field-stands bytes b 312 248 40 (omega arith));
+      word = field-stands bytes b 560 32 8 (omega arith);
+      more-zeros = field-stands bytes b 592 4 4 (omega arith);
+      answers = holds-answers bytes 596 _ (field-stands bytes b 596 4 0 (omega arith));
     }
 
 module _ (e : Edition) (bytes : List ℕ) (p : Parts e bytes) where
+  -- kind, register, zero bits and value
+  abbrev k : ℕ
+  k = part e bytes 0
+
+  abbrev r : ℕ
+  r = part e bytes 1
+
+  abbrev z : ℕ
+  z = part e bytes 2
+
+  abbrev v : ℕ
+  v = part e bytes 3
+
+  abbrev ts : List ℕ
+  ts = behind e bytes
+
   abbrev given : Access
-  given = access (part e bytes 0) (part e bytes 1) (part e bytes 2) (part e bytes 3)
+  given = access k r z v ts
 
-  kind-is : (k : ℕ) → Kind bytes k → part e bytes 0 ≡ k
-  kind-is k s = one-stands bytes 0 2 (part e bytes 0) k (p .kind) s
+  kind-is : (j : ℕ) → Kind bytes j → k ≡ j
+  kind-is j s = one-stands bytes 0 2 k j (p .kind) s
 
-  value-some : Some bytes (form e .value-at) 32 → ¬ (part e bytes 3 ≡ 0)
-  value-some = some-not-zero bytes (form e .value-at) 32 (part e bytes 3) (p .value)
+  value-some : Some bytes (form e .value-at) 32 → ¬ (v ≡ 0)
+  value-some = some-not-zero bytes (form e .value-at) 32 v (p .value)
+
+  register-some : Some bytes (form e .register-at) (form e .register-bits) → ¬ (r ≡ 0)
+  register-some = some-not-zero bytes (form e .register-at) (form e .register-bits) r (p .register)
 
   is-bad : Bad (form e) bytes → given ≡ Access.Malformed
   is-bad =
-      ⊎-elim (λ s. bad-three (part e bytes 0) (part e bytes 1) (part e bytes 2) (part e bytes 3) (kind-is 3 s))
-      (⊎-elim (λ s. bad-zeros (part e bytes 0) (part e bytes 1) (part e bytes 2) (part e bytes 3) (some-not-zero bytes (form e .zeros-at) (form e .zero-bits) _ (p .zeros) s))
-      (⊎-elim (λ s. bad-read (part e bytes 0) (part e bytes 1) (part e bytes 2) (part e bytes 3) (kind-is 1 (s .0)) (value-some (s .1)))
+      ⊎-elim (λ s. bad-three k r z v ts (kind-is 3 s))
+      (⊎-elim (λ s. bad-zeros k r z v ts (some-not-zero bytes (form e .zeros-at) (form e .zero-bits) z (p .zeros) s))
+      (⊎-elim (λ s. bad-more k r z v ts (some-not-zero bytes (form e .more-zeros-at) (form e .more-zero-bits) _ (p .more-zeros) s))
+      (⊎-elim (λ s. bad-read k r z v ts (kind-is 1 (s .0)) (value-some (s .1)))
       (λ s.
-      ⊎-elim (λ t. bad-none-register (part e bytes 0) (part e bytes 1) (part e bytes 2) (part e bytes 3) (kind-is 0 (s .0)) (some-not-zero bytes (form e .register-at) (form e .register-bits) _ (p .register) t))
-      (λ t. bad-none-value (part e bytes 0) (part e bytes 1) (part e bytes 2) (part e bytes 3) (kind-is 0 (s .0)) (value-some t)) (s .1))))
+      ⊎-elim (λ t. bad-none-register k r z v ts (kind-is 0 (s .0)) (register-some t)) (λ t. bad-none-value k r z v ts (kind-is 0 (s .0)) (value-some t)) (s .1)))))
 
   module _ (f : ¬ Bad (form e) bytes) where
-    no-zeros : part e bytes 2 ≡ 0
-    no-zeros = none-zero bytes (form e .zeros-at) (form e .zero-bits) _ (p .zeros) (λ s. f (inr (inl s)))
+    no-zeros : z ≡ 0
+    no-zeros = none-zero bytes (form e .zeros-at) (form e .zero-bits) z (p .zeros) (λ s. f (inr (inl s)))
+
+    no-more : getD ts 1 0 ≡ 0
+    no-more = none-zero bytes (form e .more-zeros-at) (form e .more-zero-bits) _ (p .more-zeros) (λ s. f (inr (inr (inl s))))
 
     nothing-is : Kind bytes 0 → given ≡ Access.Nothing
     nothing-is s =
-        is-nothing (part e bytes 0) (part e bytes 1) (part e bytes 2) (part e bytes 3) no-zeros (kind-is 0 s)
-        (none-zero bytes (form e .register-at) (form e .register-bits) _ (p .register) (λ t. f (inr (inr (inr (s, inl t))))))
-        (none-zero bytes (form e .value-at) 32 _ (p .value) (λ t. f (inr (inr (inr (s, inr t))))))
+        is-nothing k r z v ts no-zeros no-more (kind-is 0 s)
+        (none-zero bytes (form e .register-at) (form e .register-bits) r (p .register) (λ t. f (inr (inr (inr (inr (s, inl t)))))))
+        (none-zero bytes (form e .value-at) 32 v (p .value) (λ t. f (inr (inr (inr (inr (s, inr t)))))))
 
-    read-is : Kind bytes 1 → given ≡ Access.Read (part e bytes 1)
-    read-is s = is-read (part e bytes 0) (part e bytes 1) (part e bytes 2) (part e bytes 3) no-zeros (kind-is 1 s) (none-zero bytes (form e .value-at) 32 _ (p .value) (λ t. f (inr (inr (inl (s, t))))))
+    read-is : Kind bytes 1 → given ≡ Access.Read r
+    read-is s = is-read k r z v ts no-zeros no-more (kind-is 1 s) (none-zero bytes (form e .value-at) 32 v (p .value) (λ t. f (inr (inr (inr (inl (s, t)))))))
 
-    write-is : Kind bytes 2 → given ≡ Access.Write (part e bytes 1) (part e bytes 3)
-    write-is s = is-write (part e bytes 0) (part e bytes 1) (part e bytes 2) (part e bytes 3) no-zeros (kind-is 2 s)
+    write-is : Kind bytes 2 → given ≡ Access.Write r v
+    write-is s = is-write k r z v ts no-zeros no-more (kind-is 2 s)
 
   holds-record : Holds e bytes (inputOf e bytes)
   unfolding inputOf heldIn unpack
@@ -192,12 +265,12 @@ module _ (e : Edition) (bytes : List ℕ) (p : Parts e bytes) where
       record {
         malformed = λ s. ap (carried e) (is-bad s);
         nothing = λ f s. ap (carried e) (nothing-is f s);
-        read = λ f s. (carry e (part e bytes 1), (part e bytes 1, p .register, holds-means e (part e bytes 1)), ap (carried e) (read-is f s));
-        write = λ f s.
-            (carry e (part e bytes 1), part e bytes 3, (part e bytes 1, p .register, holds-means e (part e bytes 1)), p .value, ap (carried e) (write-is f s));
+        read = λ f s. (carry e r, (r, p .register, holds-means e r), ap (carried e) (read-is f s));
+        write = λ f s. (carry e r, v, (r, p .register, holds-means e r), p .value, ap (carried e) (write-is f s));
         positive = p .positive;
         negative = p .negative;
-        asks = refl;
+        word = p .word;
+        answers = p .answers;
       }
 
 pub holds-reader : Reader inputOf

@@ -17,7 +17,7 @@ use Rattle.trace_sentences.specs.Words.{WordIs, InRange, Words}
 
 -- ── signed numbers ──
 
-abbrev value-of : ℤ → ℕ
+abbrev pub value-of : ℤ → ℕ
 value-of (pos n) = n
 value-of (negsuc n) = 0
 

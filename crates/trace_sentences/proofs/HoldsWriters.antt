@@ -11,18 +11,21 @@ use borrow.Author.Tests.{lt-ltb, le-ltb}
 use lib.IntN.{ℤ, pos, negℤ}
 use lib.ListN.{getD, length, take, drop, replicate, length-append, length-drop}
 use lib.Seq.{take-at, drop-append-add, getD-append-add, getD-drop}
+use lib.Pow.{pow-pos}
+use Rattle.bits.specs.Bits.{bit}
 use Rattle.bits.specs.Fields.{Fit, none, one}
 use Rattle.bits.specs.Index.{placeIn}
+use Rattle.bits.proofs.BitLaws.{bit-mod}
 use Rattle.bits.proofs.FieldLaws.{unpack-fits}
 use Rattle.rules.specs.Access.{malformed}
 use Rattle.rules.specs.Answer.{firstOf, number}
 use Rattle.trace_rules.specs.Edition.{newest}
-use Rattle.trace_rules.specs.Record.{inputOf, heldIn, recordOf, recordable, wireWords, noAsks}
+use Rattle.trace_rules.specs.Record.{inputOf, heldIn, recordOf, recordable, wireWords}
 use Rattle.trace_rules.specs.Writer.{Wired, recordsOf, anyUnrecordable, writeVerdict, write, Written}
 use Rattle.rules.specs.declared.Access.{Access}
 use Rattle.rules.specs.declared.Access.the-variants.{Malformed}
 use Rattle.rules.specs.declared.Answer.{Answer}
-use Rattle.trace_rules.specs.declared.Edition.the-variants.{Alerts248}
+use Rattle.trace_rules.specs.declared.Edition.the-variants.{Pings}
 use Rattle.rules.specs.declared.Input.{Input}
 use Rattle.rules.specs.declared.Refusal.{Refusal}
 use Rattle.rules.specs.declared.Refusal.the-variants.{NoRecord, ShortBuffer}
@@ -57,6 +60,7 @@ wired x a =
     record {
       positive = fit-words 4 (x .sample .alerts .pos) (a .positive) (a .positive-word);
       negative = fit-words 4 (x .sample .alerts .neg) (a .negative) (a .negative-word);
+      word = omega (arith, a .word);
     }
 
 -- ── what some record holds ──
@@ -72,8 +76,8 @@ module _ (x : Input) (w : Wired x) (t : recordable newest (x .access) ≡ true) 
   read-back : inputOf newest bytes ≡ shown newest x
   read-back = own-numbers bytes ∙ input-record newest x w t
 
-  holds-read : Holds Alerts248 bytes (inputOf newest bytes)
-  holds-read = holds-reader Alerts248 bytes (record-length newest x) (up-to-255 bytes (record-byte newest x))
+  holds-read : Holds Pings bytes (inputOf newest bytes)
+  holds-read = holds-reader Pings bytes (record-length newest x) (up-to-255 bytes (record-byte newest x))
 
   held-in : HeldIn bytes (x .access)
   held-in =
@@ -94,22 +98,29 @@ module _ (x : Input) (w : Wired x) (t : recordable newest (x .access) ≡ true) 
         negative = λ i l.
             let m : i < 248 = omega arith in
             sym (holds-read .negative .wire i m) ∙ ap (λ (y : Input). placeIn (y .sample .alerts .neg) i) read-back ∙ s .negative i m;
+        word = λ i l.
+            let m : i < 32 = omega arith in
+            sym (holds-read .word .bits i m) ∙ ap (λ (n : ℕ). bit n (31 - i)) (ap (λ (y : Input). y .sample .word) read-back ∙ s .word);
+        answers = λ i l.
+            let m : i < 4 = omega arith in
+            sym (holds-read .answers .line i m) ∙ ap (λ (n : ℕ). bit n i) (ap (λ (y : Input). y .sample .answers) read-back ∙ s .answers)
+            ∙ bit-mod 4 (x .sample .answers) i m;
       }
 
 abbrev quiet : Access → Input
-quiet a = record { access = a; sample = record { alerts = record { pos = wireWords 248 0; neg = wireWords 248 0 }; asks = noAsks } }
+quiet a = record { access = a; sample = record { alerts = record { pos = wireWords 248 0; neg = wireWords 248 0 }; word = 0; answers = 0 } }
 
 -- a well-formed record holds no malformed access
-pub formed : (bytes : List ℕ) (x : Input) → ¬ Bad (form Alerts248) bytes → Holds Alerts248 bytes x → (k : ℕ) → k < 4 → Kind bytes k → malformed (x .access) ≡ false
+pub formed : (bytes : List ℕ) (x : Input) → ¬ Bad (form Pings) bytes → Holds Pings bytes x → (k : ℕ) → k < 4 → Kind bytes k → malformed (x .access) ≡ false
 formed bytes x f h =
     by-phase (λ k. Kind bytes k → malformed (x .access) ≡ false) (λ s. ap malformed (h .nothing f s)) (λ s. ap malformed (h .read f s .2))
     (λ s. ap malformed (h .write f s .4)) (λ s. absurd (f (inl s)))
 
 held-recordable : (bytes : List ℕ) (a : Access) → HeldIn bytes a → recordable newest a ≡ true
 held-recordable bytes a p =
-    let h = holds-reader Alerts248 bytes (p .size) (p .byte) in
-    let k = some-kind Alerts248 bytes (p .size) (p .byte) in
-    let e : inputOf newest bytes .access ≡ a = same-access Alerts248 bytes (k .0) (k .1) (inputOf newest bytes) (p .held .0) h (p .held .1) ∙ p .held .2 in
+    let h = holds-reader Pings bytes (p .size) (p .byte) in
+    let k = some-kind Pings bytes (p .size) (p .byte) in
+    let e : inputOf newest bytes .access ≡ a = same-access Pings bytes (k .0) (k .1) (inputOf newest bytes) (p .held .0) h (p .held .1) ∙ p .held .2 in
     let o : inputOf newest bytes .access ≡ heldIn newest bytes .access = ap (λ (y : Input). y .access) (own-numbers bytes) in
     ap (recordable newest) (sym e ∙ o)
     ∙ read-recordable newest bytes (ap malformed (sym o) ∙ formed bytes (inputOf newest bytes) (p .well-formed) h (k .0) (k .1 .size) (k .1))
@@ -122,7 +133,7 @@ some-record : (a : Access) → ((bytes : List ℕ) → ¬ HeldIn bytes a) → re
 some-record a f = go (recordable newest a) refl
   where
     go : (b : Bool) → recordable newest a ≡ b → b ≡ false
-    go true e = absurd (f (recordOf newest (quiet a)) (held-in (quiet a) (record { positive = unpack-fits _ _; negative = unpack-fits _ _ }) e))
+    go true e = absurd (f (recordOf newest (quiet a)) (held-in (quiet a) (record { positive = unpack-fits _ _; negative = unpack-fits _ _; word = pow-pos 32 }) e))
     go false e = refl
 
 -- ── the lists ──
@@ -155,15 +166,15 @@ module _ where
       go false t = refl
 
   -- record i
-  at-record : (xs : List Input) (rest : List ℕ) (i : ℕ) → i < length xs → take 70 (drop (i * 70) (recordsOf newest xs ++ rest)) ≡ recordOf newest (entry xs i)
+  at-record : (xs : List Input) (rest : List ℕ) (i : ℕ) → i < length xs → take 75 (drop (i * 75) (recordsOf newest xs ++ rest)) ≡ recordOf newest (entry xs i)
   unfolding recordsOf
   at-record [] rest i l = absurd (not-suc-le-zero l)
   at-record (x ∷ xs) rest zero l =
-      ap (take 70) (append-assoc (recordOf newest x) (recordsOf newest xs) rest) ∙ take-at (recordOf newest x) (recordsOf newest xs ++ rest) 70 (record-length newest x)
+      ap (take 75) (append-assoc (recordOf newest x) (recordsOf newest xs) rest) ∙ take-at (recordOf newest x) (recordsOf newest xs ++ rest) 75 (record-length newest x)
   at-record (x ∷ xs) rest (suc i) l =
-      let e : suc i * 70 ≡ length (recordOf newest x) + i * 70 = omega (arith, record-length newest x) in
-      ap (take 70) (ap (drop (suc i * 70)) (append-assoc (recordOf newest x) (recordsOf newest xs) rest)
-      ∙ ap (λ (n : ℕ). drop n (recordOf newest x ++ (recordsOf newest xs ++ rest))) e ∙ drop-append-add (recordOf newest x) (recordsOf newest xs ++ rest) (i * 70))
+      let e : suc i * 75 ≡ length (recordOf newest x) + i * 75 = omega (arith, record-length newest x) in
+      ap (take 75) (ap (drop (suc i * 75)) (append-assoc (recordOf newest x) (recordsOf newest xs) rest)
+      ∙ ap (λ (n : ℕ). drop n (recordOf newest x ++ (recordsOf newest xs ++ rest))) e ∙ drop-append-add (recordOf newest x) (recordsOf newest xs ++ rest) (i * 75))
       ∙ at-record xs rest i (le-of-suc-le-suc l)
 
   each-recordable : (xs : List Input) → ¬ Case10 xs → (i : ℕ) → i < length xs → recordable newest (entry xs i .access) ≡ true
@@ -188,29 +199,29 @@ module _ (xs : List Input) (buffer : List ℕ) where
 
   verdict-11 : ¬ Case10 xs → Case11 xs buffer → writeVerdict newest xs buffer ≡ Verdict.Refused ShortBuffer
   unfolding writeVerdict firstOf
-  verdict-11 f c = rw (none-ten xs f, lt-ltb (length buffer) (length xs * 70) c)
+  verdict-11 f c = rw (none-ten xs f, lt-ltb (length buffer) (length xs * 75) c)
 
   accepted : ¬ Case10 xs → ¬ Case11 xs buffer → writeVerdict newest xs buffer ≡ Verdict.Accepted
   unfolding writeVerdict firstOf
-  accepted f g = let l : length xs * 70 ≤ length buffer = omega arith in rw (none-ten xs f, le-ltb (length buffer) (length xs * 70) l)
+  accepted f g = let l : length xs * 75 ≤ length buffer = omega arith in rw (none-ten xs f, le-ltb (length buffer) (length xs * 75) l)
 
   abbrev all : List ℕ
-  all = recordsOf newest xs ++ drop (length xs * 70) buffer
+  all = recordsOf newest xs ++ drop (length xs * 75) buffer
 
-  wrote : ((i : ℕ) → i < length xs → Arrays (entry xs i)) → ¬ Case10 xs → ¬ Case11 xs buffer → Wrote xs buffer (pos (length xs * 70)) all
+  wrote : ((i : ℕ) → i < length xs → Arrays (entry xs i)) → ¬ Case10 xs → ¬ Case11 xs buffer → Wrote xs buffer (pos (length xs * 75)) all
   wrote a f g =
       record {
         answer = refl;
         records = λ i l.
-            subst (RecordOf (entry xs i)) (sym (at-record xs (drop (length xs * 70) buffer) i l))
+            subst (RecordOf (entry xs i)) (sym (at-record xs (drop (length xs * 75) buffer) i l))
             (record-of (entry xs i) (wired (entry xs i) (a i l)) (each-recordable xs f i l));
         later = λ j l.
-            let e : length (recordsOf newest xs) + (j - length xs * 70) ≡ j = omega (arith, records-length newest xs) in
-            let d : length xs * 70 + (j - length xs * 70) ≡ j = omega arith in
-            ap (λ (n : ℕ). getD all n 0) (sym e) ∙ getD-append-add (recordsOf newest xs) (drop (length xs * 70) buffer) (j - length xs * 70) 0
-            ∙ getD-drop (length xs * 70) buffer (j - length xs * 70) 0 ∙ ap (λ (n : ℕ). getD buffer n 0) d;
-        lent = length-append (recordsOf newest xs) (drop (length xs * 70) buffer)
-            ∙ (let p = records-length newest xs in let q = length-drop (length xs * 70) buffer in let r : length xs * 70 ≤ length buffer = omega arith in omega arith);
+            let e : length (recordsOf newest xs) + (j - length xs * 75) ≡ j = omega (arith, records-length newest xs) in
+            let d : length xs * 75 + (j - length xs * 75) ≡ j = omega arith in
+            ap (λ (n : ℕ). getD all n 0) (sym e) ∙ getD-append-add (recordsOf newest xs) (drop (length xs * 75) buffer) (j - length xs * 75) 0
+            ∙ getD-drop (length xs * 75) buffer (j - length xs * 75) 0 ∙ ap (λ (n : ℕ). getD buffer n 0) d;
+        lent = length-append (recordsOf newest xs) (drop (length xs * 75) buffer)
+            ∙ (let p = records-length newest xs in let q = length-drop (length xs * 75) buffer in let r : length xs * 75 ≤ length buffer = omega arith in omega arith);
       }
 
 pub holds-writer : Writer (λ xs buffer. write newest xs buffer .answer) (λ xs buffer. write newest xs buffer .buffer)
@@ -222,5 +233,5 @@ holds-writer xs buffer a =
       writes = λ f g.
           let v = accepted xs buffer f g in
           subst (λ (z : ℤ). Wrote xs buffer z (write newest xs buffer .buffer)) (sym (write-answer newest xs buffer v))
-          (subst (λ (bs : List ℕ). Wrote xs buffer (pos (length xs * 70)) bs) (sym (write-accepted newest xs buffer v)) (wrote xs buffer a f g));
+          (subst (λ (bs : List ℕ). Wrote xs buffer (pos (length xs * 75)) bs) (sym (write-accepted newest xs buffer v)) (wrote xs buffer a f g));
     }

@@ -11,5 +11,6 @@ pub mod HoldsWriters
 pub mod OnlyWriters
 pub mod RoundTrips
 pub mod Library
+pub mod FirstBytes
 pub mod RefutedRecords
 pub mod RefutedBatches

@@ -31,9 +31,9 @@ use Rattle.trace_sentences.specs.Library.{Library, Satisfies, off, Call,
 use Rattle.trace_sentences.specs.RecordBits.{form}
 use Rattle.trace_sentences.specs.Replays.{Replays}
 use Rattle.trace_sentences.proofs.HoldsWriters.{holds-writer}
-use Rattle.trace_sentences.proofs.OnlyBatches.{SameBatch, dec-valid}
+use Rattle.trace_sentences.proofs.OnlyBatches.{SameBatch, dec-valid, dec-7}
 use Rattle.trace_sentences.proofs.OnlyWriters.{only-writer}
-use Rattle.trace_sentences.proofs.BytePlaces.{dec-or, dec-and, dec-not}
+use Rattle.trace_sentences.proofs.BytePlaces.{dec-and, dec-not}
 use Rattle.trace_sentences.proofs.Replays.{holds-replays, only-replays, sized-next}
 
 -- ── the rules ──
@@ -101,7 +101,7 @@ module _ (l : Library) (s : Satisfies l) where
 
   sized-batch : (e : Edition) (h : Handler) (bytes out : List ℕ) → Sized h → Sized (l .batch-state e h bytes out)
   sized-batch e h bytes out z =
-      go (dec-or (dec-not (dec-valid h)) (decLt (form e .alerts) (h .n))) (dec-not (ℕ-discrete (length bytes % form e .bytes) 0)) (decLt (length out) (count e bytes))
+      go (dec-7 e h) (dec-not (ℕ-discrete (length bytes % form e .bytes) 0)) (decLt (length out) (count e bytes))
     where
       walk : (n : ℕ) (x : ℕ → Input) (g : Handler) (a : ℤ) (ws : List ℕ) (r : Ran (p .tick) (p .word) n x h out g a ws) (i : ℕ) → i ≤ n → Sized (r .states i)
       walk n x g a ws r zero k = subst Sized (sym (r .first)) z

@@ -3,7 +3,7 @@
 -- Assumes nothing.
 use Prim.Native.Nat.{ℕ, zero, suc, _+_, _*_, _%_, _≤_, _<_}
 use mathlib.Core.Path.{_≡_, refl, sym, ap₂, _∙_, subst}
-use mathlib.Core.Logic.{_≢_, inl, _↔_}
+use mathlib.Core.Logic.{inl, _↔_}
 use mathlib.Core.Bool.{Bool, true, false, false≢true}
 use mathlib.Core.List.{List, [], _∷_}
 use native.Mathlib.Omega.{arith}
@@ -21,7 +21,7 @@ use Rattle.sentences.specs.Valid.{Valid}
 use Rattle.sentences.proofs.HoldsValid.{holds-valid}
 use Rattle.trace_sentences.specs.BatchTicks.{Case7, Case8, Case9, count, recordOf, Refuses, Ran, BatchIs}
 use Rattle.trace_sentences.specs.RecordBits.{form}
-use Rattle.trace_sentences.proofs.BytePlaces.{dec-or, dec-not}
+use Rattle.trace_sentences.proofs.BytePlaces.{dec-or, dec-and, dec-not}
 
 -- ── one state, answer and list ──
 
@@ -74,6 +74,14 @@ dec-valid h = go (valid h) (holds-valid h)
     go true s = yes (s .0 refl)
     go false s = no (λ v. false≢true (s .1 v))
 
+dec-false : (b : Bool) → Dec (b ≡ false)
+dec-false true = no (λ e. false≢true (sym e))
+dec-false false = yes refl
+
+pub dec-7 : (e : Edition) (h : Handler) → Dec (Case7 e h)
+dec-7 e h =
+    dec-or (dec-not (dec-valid h)) (dec-or (decLt (form e .alerts) (h .n)) (dec-and (dec-false (form e .timer)) (ℕ-discrete (h .timer .enable) 1)))
+
 -- ── the records ──
 
 length-record : (e : Edition) (bytes : List ℕ) (i : ℕ) → 0 < form e .bytes → i < count e bytes → length (recordOf e bytes i) ≡ form e .bytes
@@ -100,8 +108,7 @@ module _ (tick tock : Handler → Input → Ticked) (word term : Ticked → ℕ)
       → ((bs : List ℕ) → length bs ≡ form e .bytes → ((i : ℕ) → getD bs i 0 ≤ 255) → read e bs ≡ load e bs)
       → ((i : ℕ) → getD bytes i 0 ≤ 255) → SameBatch g k a b ws vs
   same-batch P c p d f =
-      go (dec-valid h) (dec-or (dec-not (dec-valid h)) (decLt (form e .alerts) (h .n))) (dec-not (ℕ-discrete (length bytes % form e .bytes) 0))
-      (decLt (length out) (count e bytes))
+      go (dec-valid h) (dec-7 e h) (dec-not (ℕ-discrete (length bytes % form e .bytes) 0)) (decLt (length out) (count e bytes))
     where
       go : Dec (Valid h) → Dec (Case7 e h) → Dec (Case8 e bytes) → Dec (Case9 e bytes out) → SameBatch g k a b ws vs
       go v (yes x) y z = same-refuses 7 h out g k a b ws vs (r .refused-7 x) (s .refused-7 x)

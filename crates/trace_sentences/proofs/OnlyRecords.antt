@@ -10,22 +10,31 @@ use lib.ListN.{getD, length}
 use Rattle.bits.specs.Bits.{field}
 use Rattle.bits.specs.Fields.{ofBytes}
 use Rattle.bits.specs.Index.{placeIn}
+use Rattle.bits.proofs.BitLaws.{bit-ext}
 use Rattle.rules.specs.declared.Access.{Access}
 use Rattle.trace_rules.specs.declared.Edition.{Edition}
-use Rattle.trace_rules.specs.declared.Edition.the-variants.{Alerts64, Alerts248}
+use Rattle.trace_rules.specs.declared.Edition.the-variants.{Alerts64, Alerts248, Pings}
 use Rattle.rules.specs.declared.Input.{Input}
 use Rattle.sentences.proofs.SentenceCases.{by-phase}
 use Rattle.sentences.proofs.OnlySamples.{same-words}
-use Rattle.trace_sentences.specs.RecordBits.{form, Kind, Bad, Carried, Means, Names, WiresAre, Holds, Reader}
+use Rattle.trace_sentences.specs.RecordBits.{form, Kind, Bad, Kept, Carried, Means, Names, WiresAre, AnswersAre, Holds, Reader}
 use Rattle.trace_sentences.proofs.BytePlaces.{field-stands, one-stands, dec-some, dec-stands, dec-or, dec-and}
 
 -- ── register numbers ──
+
+same-kept : (r p q : ℕ) → Kept r p → Kept r q → p ≡ q
+same-kept r p q x y = go (decLt r 4) (decLt r 7)
+  where
+    go : Dec (r < 4) → Dec (r < 7) → p ≡ q
+    go (yes a) b = x .below a ∙ sym (y .below a)
+    go (no a) (yes b) = let h : 4 ≤ r = omega arith in let l : r ≤ 6 = omega arith in x .timer h l ∙ sym (y .timer h l)
+    go (no a) (no b) = let h : 7 ≤ r = omega arith in x .above h ∙ sym (y .above h)
 
 same-carried : (r p q : ℕ) → Carried r p → Carried r q → p ≡ q
 same-carried r p q x y = go (decLt r 64) (decLt r 128) (decLt r 192) (decLt r 256) (decLt r 320) (decLt r 384)
   where
     go : Dec (r < 64) → Dec (r < 128) → Dec (r < 192) → Dec (r < 256) → Dec (r < 320) → Dec (r < 384) → p ≡ q
-    go (yes a) b c d e f = x .low a ∙ sym (y .low a)
+    go (yes a) b c d e f = same-kept r p q (x .low a) (y .low a)
     go (no a) (yes b) c d e f =
         let i : r - 64 < 64 = omega arith in let j : r ≡ 64 + (r - 64) = omega arith in x .regwen (r - 64) i j ∙ sym (y .regwen (r - 64) i j)
     go (no a) (no b) (yes c) d e f =
@@ -40,7 +49,8 @@ same-carried r p q x y = go (decLt r 64) (decLt r 128) (decLt r 192) (decLt r 25
 
 same-means : (e : Edition) (r p q : ℕ) → Means e r p → Means e r q → p ≡ q
 same-means Alerts64 r p q x y = same-carried r p q x y
-same-means Alerts248 r p q x y = x ∙ sym y
+same-means Alerts248 r p q x y = same-kept r p q x y
+same-means Pings r p q x y = x ∙ sym y
 
 same-names : (e : Edition) (bytes : List ℕ) (p q : ℕ) → Names e bytes p → Names e bytes q → p ≡ q
 same-names e bytes p q (r, s, m) (u, t, n) =
@@ -56,6 +66,11 @@ same-wires bytes s n ws vs x y = same-words ws vs (x .words) (y .words) (x .word
     go i l (yes a) = x .wire i a ∙ sym (y .wire i a)
     go i l (no a) = let b : n ≤ i = omega arith in x .past i b l ∙ sym (y .past i b l)
 
+-- ── answers ──
+
+pub same-answers : (bytes : List ℕ) (n w a b : ℕ) → AnswersAre bytes n w a → AnswersAre bytes n w b → a ≡ b
+same-answers bytes n w a b x y = bit-ext w a b (x .size) (y .size) (λ l h. x .line l h ∙ sym (y .line l h))
+
 -- ── the access ──
 
 module _ (e : Edition) (bytes : List ℕ) (k : ℕ) (s : Kind bytes k) (x y : Input) (a : Holds e bytes x) (b : Holds e bytes y) where
@@ -66,8 +81,9 @@ module _ (e : Edition) (bytes : List ℕ) (k : ℕ) (s : Kind bytes k) (x y : In
   dec-bad =
       dec-or (dec-kind 3)
       (dec-or (dec-some bytes (form e .zeros-at) (form e .zero-bits))
+      (dec-or (dec-some bytes (form e .more-zeros-at) (form e .more-zero-bits))
       (dec-or (dec-and (dec-kind 1) (dec-some bytes (form e .value-at) 32))
-      (dec-and (dec-kind 0) (dec-or (dec-some bytes (form e .register-at) (form e .register-bits)) (dec-some bytes (form e .value-at) 32)))))
+      (dec-and (dec-kind 0) (dec-or (dec-some bytes (form e .register-at) (form e .register-bits)) (dec-some bytes (form e .value-at) 32))))))
 
   by-kind : ¬ Bad (form e) bytes → (j : ℕ) → j < 4 → Kind bytes j → x .access ≡ y .access
   by-kind f =
@@ -96,7 +112,8 @@ module _ (e : Edition) (bytes : List ℕ) (k : ℕ) (s : Kind bytes k) (x y : In
             pos = same-wires bytes (form e .positive-at) (form e .alerts) (x .sample .alerts .pos) (y .sample .alerts .pos) (a .positive) (b .positive) i;
             neg = same-wires bytes (form e .negative-at) (form e .alerts) (x .sample .alerts .neg) (y .sample .alerts .neg) (a .negative) (b .negative) i;
           };
-          asks = (a .asks ∙ sym (b .asks)) i;
+          word = one-stands bytes (form e .word-at) (form e .word-bits) (x .sample .word) (y .sample .word) (a .word) (b .word) i;
+          answers = same-answers bytes (form e .answers-at) (form e .answer-bits) (x .sample .answers) (y .sample .answers) (a .answers) (b .answers) i;
         };
       }
 
@@ -104,6 +121,7 @@ module _ (e : Edition) (bytes : List ℕ) (k : ℕ) (s : Kind bytes k) (x y : In
 pub some-kind : (e : Edition) (bytes : List ℕ) → length bytes ≡ form e .bytes → ((i : ℕ) → getD bytes i 0 ≤ 255) → (k : ℕ) × Kind bytes k
 some-kind Alerts64 bytes l b = (field 190 2 (ofBytes bytes), field-stands bytes b 0 2 190 (omega arith))
 some-kind Alerts248 bytes l b = (field 558 2 (ofBytes bytes), field-stands bytes b 0 2 558 (omega arith))
+some-kind Pings bytes l b = (field 598 2 (ofBytes bytes), field-stands bytes b 0 2 598 (omega arith))
 
 -- two readers that satisfy the sentences are one
 pub only-reader : (f g : Edition → List ℕ → Input) → Reader f → Reader g → (e : Edition) (bytes : List ℕ) → length bytes ≡ form e .bytes

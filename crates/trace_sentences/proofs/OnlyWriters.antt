@@ -16,30 +16,31 @@ use Rattle.trace_rules.specs.Edition.{newest}
 use Rattle.trace_rules.specs.Record.{inputOf, recordOf}
 use Rattle.trace_rules.specs.Writer.{anyUnrecordable}
 use Rattle.rules.specs.declared.Access.{Access}
-use Rattle.trace_rules.specs.declared.Edition.the-variants.{Alerts248}
+use Rattle.trace_rules.specs.declared.Edition.the-variants.{Pings}
 use Rattle.rules.specs.declared.Input.{Input}
 use Rattle.trace_laws.proofs.RecordLaws.{record-input}
 use Rattle.trace_laws.proofs.WriterLaws.{own-numbers}
 use Rattle.sentences.proofs.OnlySamples.{same-words}
-use Rattle.trace_sentences.specs.RecordBits.{bitAt, WiresAre, Holds}
+use Rattle.trace_sentences.specs.RecordBits.{bitAt, Stands, WiresAre, AnswersAre, Holds}
 use Rattle.trace_sentences.specs.Writers.{HeldIn, RecordOf, entry, Case10, Case11, Refuses, Wrote, WriteIs, Arrays, Writer}
+use Rattle.trace_sentences.proofs.BytePlaces.{one-stands}
 use Rattle.trace_sentences.proofs.HoldsRecords.{holds-reader}
 use Rattle.trace_sentences.proofs.HoldsWriters.{formed, ten, is-ten}
-use Rattle.trace_sentences.proofs.OnlyRecords.{same-access, some-kind}
+use Rattle.trace_sentences.proofs.OnlyRecords.{same-answers, same-access, some-kind}
 
 -- ── one record of an access and sample ──
 
 module _ (bytes : List ℕ) (a : Access) (p : HeldIn bytes a) where
-  holds-read : Holds Alerts248 bytes (inputOf newest bytes)
-  holds-read = holds-reader Alerts248 bytes (p .size) (p .byte)
+  holds-read : Holds Pings bytes (inputOf newest bytes)
+  holds-read = holds-reader Pings bytes (p .size) (p .byte)
 
   read-access : inputOf newest bytes .access ≡ a
-  read-access = let k = some-kind Alerts248 bytes (p .size) (p .byte) in same-access Alerts248 bytes (k .0) (k .1) (inputOf newest bytes) (p .held .0) holds-read (p .held .1) ∙ p .held .2
+  read-access = let k = some-kind Pings bytes (p .size) (p .byte) in same-access Pings bytes (k .0) (k .1) (inputOf newest bytes) (p .held .0) holds-read (p .held .1) ∙ p .held .2
 
   -- writing what was read gives the same bytes
   written-back : recordOf newest (inputOf newest bytes) ≡ bytes
   written-back =
-      let k = some-kind Alerts248 bytes (p .size) (p .byte) in
+      let k = some-kind Pings bytes (p .size) (p .byte) in
       let o = own-numbers bytes in
       ap (recordOf newest) o
       ∙ record-input newest bytes (p .size) (λ i. let l : getD bytes i 0 ≤ 255 = p .byte i in omega arith)
@@ -51,6 +52,13 @@ same-bits b c s ws vs x y e = same-words ws vs (x .words) (y .words) (x .word) (
     go : (i : ℕ) → i < 256 → Dec (i < 248) → placeIn ws i ≡ placeIn vs i
     go i l (yes m) = x .wire i m ∙ e i m ∙ sym (y .wire i m)
     go i l (no f) = let m : 248 ≤ i = omega arith in x .past i m l ∙ sym (y .past i m l)
+
+-- the word, and the answers
+same-word : (b c : List ℕ) (v u : ℕ) → Stands b 560 32 v → Stands c 560 32 u → ((i : ℕ) → i < 32 → bitAt b (560 + i) ≡ bitAt c (560 + i)) → v ≡ u
+same-word b c v u x y e = one-stands c 560 32 v u (record { size = x .size; bits = λ i l. x .bits i l ∙ e i l }) y
+
+same-lines : (b c : List ℕ) (v u : ℕ) → AnswersAre b 596 4 v → AnswersAre c 596 4 u → ((l : ℕ) → l < 4 → bitAt b (596 + l) ≡ bitAt c (596 + l)) → v ≡ u
+same-lines b c v u x y e = same-answers c 596 4 v u (record { line = λ l h. x .line l h ∙ e l h; size = x .size }) y
 
 pub same-record : (x : Input) (b c : List ℕ) → RecordOf x b → RecordOf x c → b ≡ c
 same-record x b c r s =
@@ -64,7 +72,8 @@ same-record x b c r s =
           pos = same-bits b c 64 (inputOf newest b .sample .alerts .pos) (inputOf newest c .sample .alerts .pos) (h .positive) (k .positive) (λ j l. r .positive j l ∙ sym (s .positive j l)) i;
           neg = same-bits b c 312 (inputOf newest b .sample .alerts .neg) (inputOf newest c .sample .alerts .neg) (h .negative) (k .negative) (λ j l. r .negative j l ∙ sym (s .negative j l)) i;
         };
-        asks = (h .asks ∙ sym (k .asks)) i;
+        word = same-word b c (inputOf newest b .sample .word) (inputOf newest c .sample .word) (h .word) (k .word) (λ j l. r .word j l ∙ sym (s .word j l)) i;
+        answers = same-lines b c (inputOf newest b .sample .answers) (inputOf newest c .sample .answers) (h .answers) (k .answers) (λ j l. r .answers j l ∙ sym (s .answers j l)) i;
       };
     } in
     sym (written-back b (x .access) (r .access)) ∙ ap (recordOf newest) y ∙ written-back c (x .access) (s .access)
@@ -79,28 +88,28 @@ module _ (xs : List Input) (buffer : List ℕ) (a b : ℤ) (left kept : List ℕ
   pub same-refuses : (m : ℕ) → Refuses m buffer a left → Refuses m buffer b kept → SameWrite a b left kept
   same-refuses m x y = record { answer = x .answer ∙ sym (y .answer); buffer = x .bytes ∙ sym (y .bytes) }
 
-  -- byte j is in record j / 70
-  in-record : (bs : List ℕ) (j : ℕ) → getD bs j 0 ≡ getD (take 70 (drop (j / 70 * 70) bs)) (j % 70) 0
+  -- byte j is in record j / 75
+  in-record : (bs : List ℕ) (j : ℕ) → getD bs j 0 ≡ getD (take 75 (drop (j / 75 * 75) bs)) (j % 75) 0
   in-record bs j =
-      let e : j / 70 * 70 + j % 70 ≡ j = omega arith in
-      let l : j % 70 < 70 = omega arith in
-      sym (getD-take 70 (drop (j / 70 * 70) bs) (j % 70) 0 l ∙ getD-drop (j / 70 * 70) bs (j % 70) 0 ∙ ap (λ (n : ℕ). getD bs n 0) e)
+      let e : j / 75 * 75 + j % 75 ≡ j = omega arith in
+      let l : j % 75 < 75 = omega arith in
+      sym (getD-take 75 (drop (j / 75 * 75) bs) (j % 75) 0 l ∙ getD-drop (j / 75 * 75) bs (j % 75) 0 ∙ ap (λ (n : ℕ). getD bs n 0) e)
 
   same-wrote : Wrote xs buffer a left → Wrote xs buffer b kept → SameWrite a b left kept
   same-wrote x y =
       record {
         answer = x .answer ∙ sym (y .answer);
-        buffer = ext-getD 0 left kept (x .lent ∙ sym (y .lent)) (λ j l. go j (decLt j (length xs * 70)));
+        buffer = ext-getD 0 left kept (x .lent ∙ sym (y .lent)) (λ j l. go j (decLt j (length xs * 75)));
       }
     where
-      go : (j : ℕ) → Dec (j < length xs * 70) → getD left j 0 ≡ getD kept j 0
+      go : (j : ℕ) → Dec (j < length xs * 75) → getD left j 0 ≡ getD kept j 0
       go j (yes m) =
-          let l : j / 70 < length xs = omega arith in
+          let l : j / 75 < length xs = omega arith in
           in-record left j
-          ∙ ap (λ (bs : List ℕ). getD bs (j % 70) 0)
-          (same-record (entry xs (j / 70)) (take 70 (drop (j / 70 * 70) left)) (take 70 (drop (j / 70 * 70) kept)) (x .records (j / 70) l) (y .records (j / 70) l))
+          ∙ ap (λ (bs : List ℕ). getD bs (j % 75) 0)
+          (same-record (entry xs (j / 75)) (take 75 (drop (j / 75 * 75) left)) (take 75 (drop (j / 75 * 75) kept)) (x .records (j / 75) l) (y .records (j / 75) l))
           ∙ sym (in-record kept j)
-      go j (no f) = let m : length xs * 70 ≤ j = omega arith in x .later j m ∙ sym (y .later j m)
+      go j (no f) = let m : length xs * 75 ≤ j = omega arith in x .later j m ∙ sym (y .later j m)
 
   dec-10 : Dec (Case10 xs)
   dec-10 = go (anyUnrecordable newest xs) (ten xs) (is-ten xs)
@@ -110,7 +119,7 @@ module _ (xs : List Input) (buffer : List ℕ) (a b : ℤ) (left kept : List ℕ
       go false f g = no (λ c. false≢true (g c))
 
   pub same-write : WriteIs xs buffer a left → WriteIs xs buffer b kept → SameWrite a b left kept
-  same-write x y = go dec-10 (decLt (length buffer) (length xs * 70))
+  same-write x y = go dec-10 (decLt (length buffer) (length xs * 75))
     where
       go : Dec (Case10 xs) → Dec (Case11 xs buffer) → SameWrite a b left kept
       go (yes c) d = same-refuses 10 (x .refused-10 c) (y .refused-10 c)

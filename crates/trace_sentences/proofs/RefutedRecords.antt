@@ -1,31 +1,33 @@
 -- Wrong words and wrong readers of records that the sentences refuse, as theorems: what satisfies the sentences is the rules' definition (`only`,
 -- `holds`), and these differ from it somewhere.
 -- Assumes nothing.
-use Prim.Native.Nat.{ℕ, zero, suc, _-_, _≤_}
+use Prim.Native.Nat.{ℕ, zero, suc, _+_, _-_, _*_, _/_, _%_, _≤_}
 use mathlib.Core.Path.{_≡_, refl, sym, ap, _∙_}
 use mathlib.Core.Bool.{Bool, true, false, false≢true, cond, _&&_, _||_}
-use mathlib.Core.List.{List, [], _∷_}
+use mathlib.Core.List.{List, [], _∷_, _++_}
 use native.Mathlib.Omega.{arith}
-use borrow.Author.Tests.{leb-true}
-use lib.Dec.{eqb, leb}
-use lib.ListN.{getD, length, take, replicate}
-use Rattle.bits.specs.Bits.{bit, bitsOf}
+use borrow.Author.Tests.{leb-true, eq-eqb}
+use lib.Dec.{eqb, leb, ltb}
+use lib.ListN.{getD, length, take, drop, replicate}
+use Rattle.bits.specs.Bits.{bit, bitsOf, field}
 use Rattle.bits.specs.Fields.{pack, unpack, ofBytes}
 use Rattle.bits.proofs.IndexLaws.{and-true}
 use Rattle.rules.specs.Access.{malformed}
 use Rattle.rules.specs.Answer.{number, refusalNumber}
+use Rattle.rules.specs.Map.{numberOf}
 use Rattle.rules.specs.State.{newHandler}
 use Rattle.rules.specs.Tick.{noOutput}
 use Rattle.rules.specs.declared.Access.{Access}
+use Rattle.rules.specs.declared.Access.the-variants.{Nothing, Read, Write, Malformed}
 use Rattle.rules.specs.declared.Answer.{Answer}
 use Rattle.rules.specs.declared.Input.{Input}
 use Rattle.rules.specs.declared.Refusal.the-variants.{Differs}
 use Rattle.rules.specs.declared.Ticked.{Ticked}
 use Rattle.trace_rules.specs.Edition.{carried64, carried248}
-use Rattle.trace_rules.specs.Record.{layout, accessIn, accessOf, noAsks, carried, heldIn, inputOf, registerOf}
+use Rattle.trace_rules.specs.Record.{layout, accessIn, accessOf, otherWay, carried, heldIn, inputOf, registerOf}
 use Rattle.trace_rules.specs.Word.{wordBy, wordOf}
 use Rattle.trace_rules.specs.declared.Edition.{Edition}
-use Rattle.trace_rules.specs.declared.Edition.the-variants.{Alerts64, Alerts248}
+use Rattle.trace_rules.specs.declared.Edition.the-variants.{Alerts64, Alerts248, Pings}
 use Rattle.trace_sentences.specs.RecordBits.{form, Reader}
 use Rattle.trace_sentences.specs.Words.{Words}
 use Rattle.trace_sentences.proofs.HoldsRecords.{holds-reader}
@@ -109,6 +111,7 @@ no-read-with-value = other-access _ Alerts248 (0x40 ∷ 0 ∷ 0 ∷ 0 ∷ 0 ∷ 
 -- a record of 70 bytes with 10 register bits and 20 zero bits
 abbrev shifted : Edition → List ℕ → Input
 shifted Alerts64 bytes = inputOf Alerts64 bytes
+shifted Pings bytes = inputOf Pings bytes
 shifted Alerts248 bytes =
     let fs = unpack (2 ∷ 10 ∷ 20 ∷ 32 ∷ 248 ∷ 248 ∷ []) (ofBytes bytes) in
     record { access = accessIn (take 4 fs) []; sample = inputOf Alerts248 bytes .sample }
@@ -130,7 +133,7 @@ no-number-as-it-is = other-access heldIn Alerts64 (0x44 ∷ replicate 23 0) refl
 abbrev swapped : Edition → List ℕ → Input
 swapped e bytes =
     let s = inputOf e bytes .sample .alerts in
-    record { access = inputOf e bytes .access; sample = record { alerts = record { pos = s .neg; neg = s .pos }; asks = noAsks } }
+    record { access = inputOf e bytes .access; sample = record { alerts = record { pos = s .neg; neg = s .pos }; word = inputOf e bytes .sample .word; answers = inputOf e bytes .sample .answers } }
 
 -- alert 0's positive wire is 1
 pub no-negative-wires-first : ¬ Reader swapped
@@ -139,13 +142,92 @@ no-negative-wires-first r =
     let e = only-reader swapped inputOf r holds-reader Alerts64 (0 ∷ 0 ∷ 0 ∷ 0 ∷ 0 ∷ 0 ∷ 0 ∷ 0 ∷ 0x80 ∷ replicate 15 0) refl (up-to-255 (0 ∷ 0 ∷ 0 ∷ 0 ∷ 0 ∷ 0 ∷ 0 ∷ 0 ∷ 0x80 ∷ replicate 15 0) refl) in
     let d = ap (λ (x : Input). getD (x .sample .alerts .pos) 0 0) e in omega (arith, d)
 
--- request (viii): a record that asks for alert 0's ping
-abbrev asking : Edition → List ℕ → Input
-asking e bytes =
-    record { access = inputOf e bytes .access; sample = record { alerts = inputOf e bytes .sample .alerts; asks = 9223372036854775808 ∷ 0 ∷ 0 ∷ 0 ∷ [] } }
+-- ── request (ix) ──
 
-pub no-asking : ¬ Reader asking
-unfolding are-bytes
-no-asking r =
-    let h = r Alerts248 (replicate 70 0) refl (up-to-255 (replicate 70 0) refl) in
-    let d = ap (λ (ws : List ℕ). getD ws 0 0) (h .asks) in omega (arith, d)
+-- one that numbers registers in its own way
+abbrev named : (ℕ → ℕ) → Access → Access
+named f Nothing = Access.Nothing
+named f (Read r) = Access.Read (f r)
+named f (Write r v) = Access.Write (f r) v
+named f Malformed = Access.Malformed
+
+abbrev readAs : (Edition → ℕ → ℕ) → Edition → List ℕ → Input
+readAs f e bytes = record { access = named (f e) (heldIn e bytes .access); sample = inputOf e bytes .sample }
+
+-- an older record that reaches the timer's registers, of 24 bytes, and of 70: register 5 is read
+abbrev reaching24 : Edition → ℕ → ℕ
+reaching24 Alerts64 r = cond (ltb r 64) r (carried64 r)
+reaching24 Alerts248 r = carried248 r
+reaching24 Pings r = r
+
+pub no-timeout-in-24 : ¬ Reader (readAs reaching24)
+unfolding inputOf heldIn unpack pack accessOf carried64 numberOf are-bytes
+no-timeout-in-24 = other-access (readAs reaching24) Alerts64 (0x40 ∷ 0x50 ∷ replicate 22 0) refl refl (reads 3) refl refl
+
+abbrev reaching70 : Edition → ℕ → ℕ
+reaching70 Alerts64 r = carried64 r
+reaching70 Alerts248 r = r
+reaching70 Pings r = r
+
+pub no-timeout-in-70 : ¬ Reader (readAs reaching70)
+unfolding inputOf heldIn unpack pack accessOf carried248 numberOf are-bytes
+no-timeout-in-70 = other-access (readAs reaching70) Alerts248 (0x40 ∷ 0x28 ∷ replicate 68 0) refl refl (reads 3) refl refl
+
+-- nobody looks at the four zero bits
+abbrev unchecked : Edition → List ℕ → Input
+unchecked e bytes = record { access = carried e (accessIn (take 4 (unpack (layout e) (ofBytes bytes))) []); sample = inputOf e bytes .sample }
+
+pub no-four-zero-bits-ignored : ¬ Reader unchecked
+unfolding inputOf heldIn unpack pack accessOf are-bytes
+no-four-zero-bits-ignored = other-access unchecked Pings (replicate 74 0 ++ (0x10 ∷ [])) refl refl malformed refl refl
+
+-- a reader that finds another word, or other answers, in the last five bytes of a record than the rules do
+abbrev last-5 : ℕ → ℕ → ℕ → ℕ → ℕ → List ℕ
+last-5 a b c d f = replicate 70 0 ++ (a ∷ b ∷ c ∷ d ∷ f ∷ [])
+
+other-number : (read : Edition → List ℕ → Input) (e : Edition) (bytes : List ℕ) → length bytes ≡ form e .bytes → are-bytes bytes ≡ true
+    → (f : Input → ℕ) → eqb (f (read e bytes)) (f (inputOf e bytes)) ≡ false → ¬ Reader read
+other-number read e bytes l b f d r =
+    let s : f (read e bytes) ≡ f (inputOf e bytes) = ap f (only-reader read inputOf r holds-reader e bytes l (up-to-255 bytes b)) in
+    false≢true (sym d ∙ eq-eqb (f (read e bytes)) (f (inputOf e bytes)) s)
+
+abbrev sampleBy : (ℕ → ℕ → ℕ → ℕ) → (ℕ → ℕ → ℕ → ℕ) → Edition → List ℕ → Input
+sampleBy word answers e bytes =
+    let ts = drop 6 (unpack (layout e) (ofBytes bytes)) in
+    record {
+      access = inputOf e bytes .access;
+      sample =
+          record {
+            alerts = inputOf e bytes .sample .alerts;
+            word = word (getD ts 0 0) (getD ts 1 0) (getD ts 2 0);
+            answers = answers (getD ts 0 0) (getD ts 1 0) (getD ts 2 0);
+          };
+    }
+
+-- line 3 first
+pub no-line-3-first : ¬ Reader (sampleBy (λ w z a. w) (λ w z a. a))
+unfolding inputOf heldIn otherWay unpack pack bit bitsOf are-bytes
+no-line-3-first = other-number _ Pings (last-5 0 0 0 0 8) refl refl (λ x. x .sample .answers) refl
+
+-- the word's low half first
+pub no-low-half-first : ¬ Reader (sampleBy (λ w z a. w % 65536 * 65536 + w / 65536) (λ w z a. otherWay a))
+unfolding inputOf heldIn unpack pack are-bytes
+no-low-half-first = other-number _ Pings (last-5 0 1 0 0 0) refl refl (λ x. x .sample .word) refl
+
+-- zero bits that are not zero silence the word, or the answers
+pub no-silenced-word : ¬ Reader (sampleBy (λ w z a. cond (eqb z 0) w 0) (λ w z a. otherWay a))
+unfolding inputOf heldIn unpack pack are-bytes
+no-silenced-word = other-number _ Pings (last-5 0 0 0 1 0x10) refl refl (λ x. x .sample .word) refl
+
+pub no-silenced-answers : ¬ Reader (sampleBy (λ w z a. w) (λ w z a. cond (eqb z 0) (otherWay a) 0))
+unfolding inputOf heldIn otherWay unpack pack bit bitsOf are-bytes
+no-silenced-answers = other-number _ Pings (last-5 0 0 0 0 0x18) refl refl (λ x. x .sample .answers) refl
+
+-- an older record that has a word
+abbrev worded : Edition → List ℕ → Input
+worded e bytes =
+    record { access = inputOf e bytes .access; sample = record { alerts = inputOf e bytes .sample .alerts; word = field 8 32 (ofBytes bytes); answers = inputOf e bytes .sample .answers } }
+
+pub no-older-word : ¬ Reader worded
+unfolding inputOf heldIn unpack pack are-bytes
+no-older-word = other-number worded Alerts248 (replicate 68 0 ++ (1 ∷ 0 ∷ [])) refl refl (λ x. x .sample .word) refl

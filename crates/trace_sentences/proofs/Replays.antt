@@ -16,7 +16,7 @@ use Rattle.trace_rules.specs.Word.{wordOf}
 use Rattle.rules.specs.declared.Alerts.{Alerts}
 use Rattle.rules.specs.declared.Answer.{Answer}
 use Rattle.trace_rules.specs.declared.Edition.{Edition}
-use Rattle.trace_rules.specs.declared.Edition.the-variants.{Alerts64, Alerts248}
+use Rattle.trace_rules.specs.declared.Edition.the-variants.{Alerts64, Alerts248, Pings}
 use Rattle.rules.specs.declared.Field.{Field}
 use Rattle.rules.specs.declared.Handler.{Handler}
 use Rattle.rules.specs.declared.Input.{Input}
@@ -108,6 +108,7 @@ Good h = Valid h × Sized h
 some : (e : Edition) → 0 < form e .bytes
 some Alerts64 = omega arith
 some Alerts248 = omega arith
+some Pings = omega arith
 
 module _ (state other : Edition → Handler → List ℕ → List ℕ → Handler) (answer reply : Edition → Handler → List ℕ → List ℕ → ℤ)
     (list words : Edition → Handler → List ℕ → List ℕ → List ℕ) (p : Replays state answer list) (q : Replays other reply words) where

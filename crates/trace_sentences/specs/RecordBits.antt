@@ -4,12 +4,12 @@ use Prim.Native.Nat.{ℕ, _+_, _-_, _/_, _%_, _^_, _≤_, _<_}
 use mathlib.Core.Path.{_≡_}
 use mathlib.Core.Logic.{_⊎_}
 use mathlib.Core.Bool.{Bool, true, false}
-use mathlib.Core.List.{List, [], _∷_}
+use mathlib.Core.List.{List}
 use lib.ListN.{getD, length}
 use Rattle.bits.specs.Bits.{bit}
 use Rattle.rules.specs.declared.Access.{Access}
 use Rattle.trace_rules.specs.declared.Edition.{Edition}
-use Rattle.trace_rules.specs.declared.Edition.the-variants.{Alerts64, Alerts248}
+use Rattle.trace_rules.specs.declared.Edition.the-variants.{Alerts64, Alerts248, Pings}
 use Rattle.rules.specs.declared.Input.{Input}
 
 -- ── the forms, one row an edition: where each part begins, counted in bits from the record's first ──
@@ -24,12 +24,85 @@ pub record Form : Type 0 where
   pub positive-at : ℕ
   pub negative-at : ℕ
   pub alerts : ℕ
+  -- request (ix): what is behind the wires, and whether the edition has the ping timer
+  pub word-at : ℕ
+  pub word-bits : ℕ
+  pub more-zeros-at : ℕ
+  pub more-zero-bits : ℕ
+  pub answers-at : ℕ
+  pub answer-bits : ℕ
+  pub timer : Bool
+
+-- "A record is 24 bytes: 2 bits kind .., 10 bits register, 20 zero bits, 32 bits value, 64 positive wires with alert 0 first, 64 negative wires"
+abbrev formOf64 : Form
+formOf64 =
+    record {
+      bytes = 24;
+      register-at = 2;
+      register-bits = 10;
+      zeros-at = 12;
+      zero-bits = 20;
+      value-at = 32;
+      positive-at = 64;
+      negative-at = 128;
+      alerts = 64;
+      word-at = 192;
+      word-bits = 0;
+      more-zeros-at = 192;
+      more-zero-bits = 0;
+      answers-at = 192;
+      answer-bits = 0;
+      timer = false;
+    }
+
+-- request (iii): "The new record has an 11-bit register, 19 zero bits, 31 bytes for each wire set: 70 bytes in all"
+abbrev formOf248 : Form
+formOf248 =
+    record {
+      bytes = 70;
+      register-at = 2;
+      register-bits = 11;
+      zeros-at = 13;
+      zero-bits = 19;
+      value-at = 32;
+      positive-at = 64;
+      negative-at = 312;
+      alerts = 248;
+      word-at = 560;
+      word-bits = 0;
+      more-zeros-at = 560;
+      more-zero-bits = 0;
+      answers-at = 560;
+      answer-bits = 0;
+      timer = false;
+    }
+
+-- request (ix): "Records grow to 75 bytes by the word, four zero bits and four answer bits, line 0 first"
+abbrev formOfPings : Form
+formOfPings =
+    record {
+      bytes = 75;
+      register-at = 2;
+      register-bits = 11;
+      zeros-at = 13;
+      zero-bits = 19;
+      value-at = 32;
+      positive-at = 64;
+      negative-at = 312;
+      alerts = 248;
+      word-at = 560;
+      word-bits = 32;
+      more-zeros-at = 592;
+      more-zero-bits = 4;
+      answers-at = 596;
+      answer-bits = 4;
+      timer = true;
+    }
 
 abbrev pub form : Edition → Form
--- "A record is 24 bytes: 2 bits kind .., 10 bits register, 20 zero bits, 32 bits value, 64 positive wires with alert 0 first, 64 negative wires"
-form Alerts64 = record { bytes = 24; register-at = 2; register-bits = 10; zeros-at = 12; zero-bits = 20; value-at = 32; positive-at = 64; negative-at = 128; alerts = 64 }
--- request (iii): "The new record has an 11-bit register, 19 zero bits, 31 bytes for each wire set: 70 bytes in all"
-form Alerts248 = record { bytes = 70; register-at = 2; register-bits = 11; zeros-at = 13; zero-bits = 19; value-at = 32; positive-at = 64; negative-at = 312; alerts = 248 }
+form Alerts64 = formOf64
+form Alerts248 = formOf248
+form Pings = formOfPings
 
 -- ── the words of the sentences ──
 
@@ -50,18 +123,27 @@ Some bytes n w = (i : ℕ) × (i < w) × (bitAt bytes (n + i) ≡ true)
 abbrev pub Kind : List ℕ → ℕ → Type 0
 Kind bytes k = Stands bytes 0 2 k
 
--- "Malformed: kind 3, a nonzero bit among the 20, a read with a value, kind 0 with a register or value"
+-- "Malformed: kind 3, a nonzero bit among the 20, a read with a value, kind 0 with a register or value"; request (ix), a reading: a nonzero bit among the
+-- "four zero bits" too
 abbrev pub Bad : Form → List ℕ → Type 0
 Bad f bytes =
     Kind bytes 3
     ⊎ (Some bytes (f .zeros-at) (f .zero-bits)
+    ⊎ (Some bytes (f .more-zeros-at) (f .more-zero-bits)
     ⊎ ((Kind bytes 1 × Some bytes (f .value-at) 32)
-    ⊎ (Kind bytes 0 × (Some bytes (f .register-at) (f .register-bits) ⊎ Some bytes (f .value-at) 32))))
+    ⊎ (Kind bytes 0 × (Some bytes (f .register-at) (f .register-bits) ⊎ Some bytes (f .value-at) 32)))))
+
+-- request (ix): "Add registers 4 .., 5 .. and 6"; "older editions keep their words": in them these three are as unassigned as they were, and all others are
+-- as they are. A reading: 3 stands for what is unassigned, which is assigned to nothing in any edition
+pub record Kept (r q : ℕ) : Type 0 where
+  pub below : r < 4 → q ≡ r
+  pub timer : 4 ≤ r → r ≤ 6 → q ≡ 3
+  pub above : 7 ≤ r → q ≡ r
 
 -- request (iii): "their register numbers carried over, numbers unassigned then still refused with 1": document 01's number r is now q
 pub record Carried (r q : ℕ) : Type 0 where
-  -- the numbers below 64 as they are
-  pub low : r < 64 → q ≡ r
+  -- the numbers below 64 as they are, but for the timer's
+  pub low : r < 64 → Kept r q
   -- "64+i, 128+i, 192+i, 256+i": "Alert blocks move to 256, 512, 768 and 1024"
   pub regwen : (i : ℕ) → i < 64 → r ≡ 64 + i → q ≡ 256 + i
   pub en : (i : ℕ) → i < 64 → r ≡ 128 + i → q ≡ 512 + i
@@ -69,12 +151,13 @@ pub record Carried (r q : ℕ) : Type 0 where
   pub cause : (i : ℕ) → i < 64 → r ≡ 256 + i → q ≡ 1024 + i
   -- "320+16k": "classes to 1280+16k"
   pub classes : (o : ℕ) → o < 64 → r ≡ 320 + o → q ≡ 1280 + o
-  -- all others were unassigned; a reading: 3 stands for them, which is assigned to nothing in any edition
+  -- all others were unassigned
   pub none : 384 ≤ r → q ≡ 3
 
 abbrev pub Means : Edition → ℕ → ℕ → Type 0
 Means Alerts64 r q = Carried r q
-Means Alerts248 r q = q ≡ r
+Means Alerts248 r q = Kept r q
+Means Pings r q = q ≡ r
 
 -- the register that the record names
 abbrev pub Names : Edition → List ℕ → ℕ → Type 0
@@ -87,6 +170,13 @@ pub record WiresAre (bytes : List ℕ) (s n : ℕ) (ws : List ℕ) : Type 0 wher
   pub past : (i : ℕ) → n ≤ i → i < 256 → bit (getD ws (i / 64) 0) (63 - i % 64) ≡ false
   pub words : length ws ≡ 4
   pub word : (v : ℕ) → v < 4 → getD ws v 0 ≤ 18446744073709551615
+
+-- the w answers from bit n on: in a sample line l has bit l
+pub record AnswersAre (bytes : List ℕ) (n w a : ℕ) : Type 0 where
+  -- "four answer bits, line 0 first"
+  pub line : (l : ℕ) → l < w → bit a l ≡ bitAt bytes (n + l)
+  -- and no bit above them
+  pub size : a < 2 ^ w
 
 -- ── the sentences: x is the access and sample of the record's bytes ──
 
@@ -103,8 +193,9 @@ pub record Holds (e : Edition) (bytes : List ℕ) (x : Input) : Type 0 where
   -- "64 positive wires with alert 0 first, 64 negative wires"
   pub positive : WiresAre bytes (form e .positive-at) (form e .alerts) (x .sample .alerts .pos)
   pub negative : WiresAre bytes (form e .negative-at) (form e .alerts) (x .sample .alerts .neg)
-  -- request (viii): "the caller asks for pings, traces and the installer for none"
-  pub asks : x .sample .asks ≡ 0 ∷ 0 ∷ 0 ∷ 0 ∷ []
+  -- request (ix): "by the word, four zero bits and four answer bits", of a malformed record too; in a form without them no number but 0 has its bits
+  pub word : Stands bytes (form e .word-at) (form e .word-bits) (x .sample .word)
+  pub answers : AnswersAre bytes (form e .answers-at) (form e .answer-bits) (x .sample .answers)
 
 -- a reader of records: of as many bytes as the form says, each a byte
 abbrev pub Reader : (Edition → List ℕ → Input) → Type 0

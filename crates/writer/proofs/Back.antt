@@ -23,12 +23,12 @@ use Rattle.writer.proofs.EntryKinds.{held}
 use Rattle.writer.proofs.StoreLaws.{words-fit}
 
 module _ (l : Lent) where
-  -- every number of the lists has the 64 bits of its wires
-  all-wired : ((i : ℕ) → getD (l .positive) i 0 < 2 ^ 64) → ((i : ℕ) → getD (l .negative) i 0 < 2 ^ 64) → AllWired (listOf l)
+  -- every number of the lists has the 64 bits of its wires, and the 32 of an entropy word
+  all-wired : ((i : ℕ) → getD (l .positive) i 0 < 2 ^ 64) → ((i : ℕ) → getD (l .negative) i 0 < 2 ^ 64) → ((i : ℕ) → getD (l .entropy) i 0 < 2 ^ 32) → AllWired (listOf l)
   unfolding listOf
-  all-wired p q =
+  all-wired p q w =
       each-wired (length (l .kinds)) (inputAt l)
-      (λ i. record { positive = words-fit words (wordAt (l .positive) i) (λ v. p (i * words + v)); negative = words-fit words (wordAt (l .negative) i) (λ v. q (i * words + v)) })
+      (λ i. record { positive = words-fit words (wordAt (l .positive) i) (λ v. p (i * words + v)); negative = words-fit words (wordAt (l .negative) i) (λ v. q (i * words + v)); word = w i })
 
   -- an accepted list has its numbers
   numbers-back : (buffer : List ℕ) → writeVerdict newest (listOf l) buffer ≡ Verdict.Accepted → Numbers l
@@ -59,6 +59,6 @@ module _ (l : Lent) where
         ∙ rw (written-read bytes f, n)
 
     -- all that a call's contract says
-    pub contract : ((i : ℕ) → getD (l .positive) i 0 < 2 ^ 64) → ((i : ℕ) → getD (l .negative) i 0 < 2 ^ 64)
+    pub contract : ((i : ℕ) → getD (l .positive) i 0 < 2 ^ 64) → ((i : ℕ) → getD (l .negative) i 0 < 2 ^ 64) → ((i : ℕ) → getD (l .entropy) i 0 < 2 ^ 32)
         → Wrote l buffer r left × (ReadBack l buffer left × WrittenBack l buffer left)
-    contract p q = (w, (read-back (all-wired p q), written-back))
+    contract p q o = (w, (read-back (all-wired p q o), written-back))

@@ -13,13 +13,14 @@ use Rattle.bits.specs.Index.{each, eachFrom}
 use Rattle.bits.proofs.ByteLaws.{length-bytes}
 use Rattle.bits.proofs.FieldLaws.{pack-lt}
 use Rattle.bits.proofs.IndexLaws.{length-each}
-use Rattle.bits.proofs.PackLaws.{pack-append, pack-two, unpack-parts, total-bytes}
-use Rattle.trace_rules.specs.Edition.{newest, alerts}
-use Rattle.trace_rules.specs.Record.{head, wires, wiresOf, accessOf, headFields, recordOf}
+use Rattle.bits.proofs.PackLaws.{pack-append, fit-append, pack-two, unpack-parts, total-bytes}
+use Rattle.trace_rules.specs.Edition.{newest, alerts, tail}
+use Rattle.trace_rules.specs.Record.{head, wires, wiresOf, otherWay, accessOf, headFields, recordOf}
 use Rattle.rules.specs.State.{words}
 use Rattle.rules.specs.declared.Input.{Input}
+use Rattle.trace_laws.proofs.OtherWay.{other-lt}
 use Rattle.trace_laws.proofs.WireLaws.{wires-lt}
-use Rattle.writer.specs.EntryParts.{inputIn, accessWord, wordBytes, setBytes}
+use Rattle.writer.specs.EntryParts.{inputIn, accessWord, wordBytes, setBytes, pingBytes}
 
 -- one run of stores behind another
 pub sets-append : (l : List ℕ) (i : ℕ) (xs ys : List ℕ) → sets (sets l i xs) (i + length xs) ys ≡ sets l i (xs ++ ys)
@@ -163,35 +164,79 @@ put-set l m n at f h p q =
     let t : List ℕ = toBytes 7 (f 3 / 2 ^ 8) in
     q ∙ ap₂ (λ (o : List ℕ) (k : ℕ). sets o (at + k) t) p (sym (length-words f h 3)) ∙ sets-append l at (wordBytes 3 f) t
 
--- ── a record: the access and two wire sets ──
+-- ── the word and the answers ──
 
-module _ (k r v : ℕ) (f g : ℕ → ℕ) (p : (i : ℕ) → f i < 2 ^ 64) (q : (i : ℕ) → g i < 2 ^ 64) where
+module _ (w a : ℕ) (h : w < 2 ^ 32) where
+  abbrev pingFields : List ℕ
+  pingFields = w ∷ 0 ∷ otherWay a ∷ []
+
+  pings-fit : Fit (tail newest) pingFields
+  pings-fit = one h (one (pow-pos 4) (one (other-lt a) none))
+
+  ping-bytes : toBytes 5 (pack (tail newest) pingFields) ≡ pingBytes w a
+  unfolding pack unpack
+  ping-bytes =
+      let l : otherWay a < 2 ^ 4 = other-lt a in
+      let n : w * 2 ^ 8 + (0 * 2 ^ 4 + (otherWay a * 2 ^ 0 + 0)) ≡ w * 2 ^ 8 + otherWay a = omega arith in
+      let b : otherWay a / 2 ^ 0 % 2 ^ 8 ≡ otherWay a = omega arith in
+      ap (toBytes 5) n ∙ unpack-parts (replicate 4 8) (replicate 1 8) w (otherWay a) h (omega arith) ∙ ap (λ (x : ℕ). toBytes 4 w ++ (x ∷ [])) b
+
+-- four bytes, and the byte behind them
+pub put-pings : (l m : List ℕ) (i w a x : ℕ) → m ≡ sets l i (toBytes 4 w) → x ≡ otherWay a → set m (i + 4) x ≡ sets l i (pingBytes w a)
+unfolding unpack
+put-pings l m i w a x e f =
+    ap₂ (λ (k : List ℕ) (y : ℕ). sets k (i + 4) (y ∷ [])) e f ∙ sets-append l i (toBytes 4 w) (otherWay a ∷ [])
+
+-- ── a record: the access, two wire sets, the word and the answers ──
+
+module _ (k r v : ℕ) (f g : ℕ → ℕ) (w a : ℕ) (p : (i : ℕ) → f i < 2 ^ 64) (q : (i : ℕ) → g i < 2 ^ 64) (u : w < 2 ^ 32) where
   abbrev word : ℕ
   word = accessWord (accessOf k r v)
 
   abbrev entry : Input
-  entry = inputIn k r v (each words f) (each words g)
+  entry = inputIn k r v (each words f) (each words g) w a
 
-  record-parts : word < 2 ^ 64 → recordOf newest entry ≡ toBytes 8 word ++ (setBytes f ++ setBytes g)
+  abbrev both : List ℕ
+  both = set-wires f p ∷ set-wires g q ∷ []
+
+  both-fit : Fit (wires newest) both
+  both-fit = one (set-lt f p) (one (set-lt g q) none)
+
+  both-bytes : toBytes 62 (pack (wires newest) both) ≡ setBytes f ++ setBytes g
+  both-bytes =
+      let b : ℕ = set-wires f p in
+      let c : ℕ = set-wires g q in
+      ap (toBytes 62) (pack-two 248 248 b c) ∙ unpack-parts (replicate 31 8) (replicate 31 8) b c (set-lt f p) (set-lt g q)
+      ∙ ap₂ (λ (l m : List ℕ). l ++ m) (set-bytes f p) (set-bytes g q)
+
+  record-parts : word < 2 ^ 64 → recordOf newest entry ≡ toBytes 8 word ++ ((setBytes f ++ setBytes g) ++ pingBytes w a)
   unfolding recordOf accessWord
   record-parts h =
-      let a : ℕ = set-wires f p in
-      let b : ℕ = set-wires g q in
-      ap (toBytes 70) (pack-append (head newest) (wires newest) (headFields (accessOf k r v)) (a ∷ b ∷ []) refl)
-      ∙ unpack-parts (replicate 8 8) (replicate 62 8) word (pack (wires newest) (a ∷ b ∷ [])) h (pack-lt (one (set-lt f p) (one (set-lt g q) none)))
+      let rest : ℕ = pack (wires newest ++ tail newest) (both ++ pingFields w a u) in
+      ap (toBytes 75) (pack-append (head newest) (wires newest ++ tail newest) (headFields (accessOf k r v)) (both ++ pingFields w a u) refl)
+      ∙ unpack-parts (replicate 8 8) (replicate 67 8) word rest h (pack-lt (fit-append both-fit (pings-fit w a u)))
       ∙ ap (λ (l : List ℕ). toBytes 8 word ++ l)
-      (ap (toBytes 62) (pack-two 248 248 a b) ∙ unpack-parts (replicate 31 8) (replicate 31 8) a b (set-lt f p) (set-lt g q)
-      ∙ ap₂ (λ (l m : List ℕ). l ++ m) (set-bytes f p) (set-bytes g q))
+      (ap (toBytes 67) (pack-append (wires newest) (tail newest) both (pingFields w a u) refl)
+      ∙ unpack-parts (replicate 62 8) (replicate 5 8) (pack (wires newest) both) (pack (tail newest) (pingFields w a u)) (pack-lt both-fit) (pack-lt (pings-fit w a u))
+      ∙ ap₂ (λ (l m : List ℕ). l ++ m) both-bytes (ping-bytes w a u))
 
-  pub put-parts : (l m n o : List ℕ) (i a : ℕ) → a < 2 ^ 64 → a ≡ word → m ≡ sets l i (toBytes 8 a) → n ≡ sets m (i + 8) (setBytes f)
-      → o ≡ sets n (i + 39) (setBytes g) → o ≡ sets l i (recordOf newest entry)
+  length-both : length (setBytes f ++ setBytes g) ≡ 62
+  length-both = ap length (sym both-bytes) ∙ length-bytes 62 (pack (wires newest) both)
+
+  pub put-parts : (l m n o s : List ℕ) (i b : ℕ) → b < 2 ^ 64 → b ≡ word → m ≡ sets l i (toBytes 8 b) → n ≡ sets m (i + 8) (setBytes f)
+      → o ≡ sets n (i + 39) (setBytes g) → s ≡ sets o (i + 70) (pingBytes w a) → s ≡ sets l i (recordOf newest entry)
   unfolding unpack
-  put-parts l m n o i a h e x y z =
-      let b : word < 2 ^ 64 = omega arith in
-      let w : List ℕ = toBytes 8 word in
+  put-parts l m n o s i b h e x y z t =
+      let c : word < 2 ^ 64 = omega arith in
+      let first : List ℕ = toBytes 8 word in
+      let sets-both : List ℕ = setBytes f ++ setBytes g in
       let j : i + 39 ≡ i + 8 + length (setBytes f) = let k : length (setBytes f) ≡ 31 = length-set-bytes f p in omega arith in
+      let d : i + 70 ≡ i + 8 + length sets-both = let k : length (setBytes f ++ setBytes g) ≡ 62 = length-both in omega arith in
+      let wired : o ≡ sets (sets l i first) (i + 8) sets-both =
       z ∙ ap (λ (k : List ℕ). sets k (i + 39) (setBytes g)) (y ∙ ap (λ (k : List ℕ). sets k (i + 8) (setBytes f)) (x ∙ ap (λ (k : ℕ). sets l i (toBytes 8 k)) e))
-      ∙ ap (λ (k : ℕ). sets (sets (sets l i w) (i + 8) (setBytes f)) k (setBytes g)) j
-      ∙ sets-append (sets l i w) (i + 8) (setBytes f) (setBytes g)
-      ∙ sets-append l i w (setBytes f ++ setBytes g)
-      ∙ ap (sets l i) (sym (record-parts b))
+      ∙ ap (λ (k : ℕ). sets (sets (sets l i first) (i + 8) (setBytes f)) k (setBytes g)) j
+      ∙ sets-append (sets l i first) (i + 8) (setBytes f) (setBytes g) in
+      t ∙ ap₂ (λ (k : List ℕ) (n : ℕ). sets k n (pingBytes w a)) wired d
+      ∙ sets-append (sets l i first) (i + 8) sets-both (pingBytes w a)
+      ∙ sets-append l i first (sets-both ++ pingBytes w a)
+      ∙ ap (sets l i) (sym (record-parts c))

@@ -9,7 +9,7 @@ use Rattle.bits.specs.Fields.{pack, toBytes}
 use Rattle.bits.specs.Index.{anyTo}
 use Rattle.rules.specs.Answer.{firstOf}
 use Rattle.trace_rules.specs.Edition.{newest, recordBytes}
-use Rattle.trace_rules.specs.Record.{head, accessOf, noAsks, headFields, recordable}
+use Rattle.trace_rules.specs.Record.{head, accessOf, otherWay, headFields, recordable}
 use Rattle.rules.specs.State.{words}
 use Rattle.rules.specs.declared.Access.{Access}
 use Rattle.rules.specs.declared.Input.{Input}
@@ -17,12 +17,12 @@ use Rattle.rules.specs.declared.Refusal.the-variants.{NoRecord, ShortBuffer}
 use Rattle.rules.specs.declared.Verdict.{Verdict}
 use Rattle.writer.specs.Lent.{Lent}
 
--- the access and sample of an entry's three numbers and its words
-abbrev pub inputIn : ℕ → ℕ → ℕ → List ℕ → List ℕ → Input
-inputIn kind register value positive negative =
+-- the access and sample of an entry's numbers and its words of wires
+abbrev pub inputIn : ℕ → ℕ → ℕ → List ℕ → List ℕ → ℕ → ℕ → Input
+inputIn kind register value positive negative word answers =
     record {
       access = accessOf kind register value;
-      sample = record { alerts = record { pos = positive; neg = negative }; asks = noAsks };
+      sample = record { alerts = record { pos = positive; neg = negative }; word = word; answers = answers };
     }
 
 -- the first 64 bits of a record: kind, register, zero bits, value
@@ -37,6 +37,10 @@ wordBytes (suc n) f = wordBytes n f ++ toBytes 8 (f n)
 -- the bytes of a wire set of four words: three of them whole, and seven bytes of the last
 abbrev pub setBytes : (ℕ → ℕ) → List ℕ
 setBytes f = wordBytes 3 f ++ toBytes 7 (f 3 / 2 ^ 8)
+
+-- the bytes behind the wires: the entropy word, and a byte of four zero bits and the answers, line 0 first
+abbrev pub pingBytes : ℕ → ℕ → List ℕ
+pingBytes word answers = toBytes 4 word ++ (otherWay answers ∷ [])
 
 -- entry i has an access that no well-formed record holds
 abbrev pub unrecordableAt : List ℕ → List ℕ → List ℕ → ℕ → Bool
@@ -53,5 +57,7 @@ pub record Ready (l : Lent) (buffer : List ℕ) : Type 0 where
   pub values-long : length (l .kinds) ≤ length (l .values)
   pub positive-long : length (l .kinds) * words ≤ length (l .positive)
   pub negative-long : length (l .kinds) * words ≤ length (l .negative)
+  pub entropy-long : length (l .kinds) ≤ length (l .entropy)
+  pub answers-long : length (l .kinds) ≤ length (l .answers)
   pub each-recordable : anyTo (unrecordableAt (l .kinds) (l .registers) (l .values)) (length (l .kinds)) ≡ false
   pub room : length (l .kinds) * recordBytes newest ≤ length buffer

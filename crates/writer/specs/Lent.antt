@@ -1,4 +1,4 @@
--- How a list of accesses and samples is lent: five lists of numbers, of which entry i is tick i's. Records hold no asks, and there is no list of them.
+-- How a list of accesses and samples is lent: seven lists of numbers, of which entry i is tick i's.
 -- Assumes nothing.
 use Prim.Native.Nat.{ℕ, _+_, _*_, _≤_, _<_}
 use mathlib.Core.Path.{_≡_}
@@ -9,7 +9,7 @@ use lib.IntN.{ℤ}
 use lib.ListN.{getD, length, take, drop}
 use Rattle.bits.specs.Index.{each}
 use Rattle.trace_rules.specs.Edition.{newest, recordBytes}
-use Rattle.trace_rules.specs.Record.{accessOf, noAsks, kindOf, registerOf, valueOf, inputsOf}
+use Rattle.trace_rules.specs.Record.{accessOf, kindOf, registerOf, valueOf, inputsOf}
 use Rattle.rules.specs.State.{words}
 use Rattle.trace_rules.specs.Writer.{Written, WellFormed, AllSame, writeVerdict, writeOf, write}
 use Rattle.rules.specs.declared.Input.{Input}
@@ -23,10 +23,21 @@ pub record Lent : Type 0 where
   -- the words of 64 of each: alert 0 is the highest bit of the first
   pub positive : List ℕ
   pub negative : List ℕ
+  -- request (ix): the entropy word of each, and the lines whose ping is answered, line 0 lowest; bits from 4 up are not in its record
+  pub entropy : List ℕ
+  pub answers : List ℕ
 
-abbrev pub lent : List ℕ → List ℕ → List ℕ → List ℕ → List ℕ → Lent
-lent kinds registers values positive negative =
-    record { kinds = kinds; registers = registers; values = values; positive = positive; negative = negative }
+abbrev pub lent : List ℕ → List ℕ → List ℕ → List ℕ → List ℕ → List ℕ → List ℕ → Lent
+lent kinds registers values positive negative entropy answers =
+    record {
+      kinds = kinds;
+      registers = registers;
+      values = values;
+      positive = positive;
+      negative = negative;
+      entropy = entropy;
+      answers = answers;
+    }
 
 -- word v of entry i, and the entry's words
 abbrev pub wordAt : List ℕ → ℕ → ℕ → ℕ
@@ -39,7 +50,12 @@ abbrev pub inputAt : Lent → ℕ → Input
 inputAt l i =
     record {
       access = accessOf (getD (l .kinds) i 0) (getD (l .registers) i 0) (getD (l .values) i 0);
-      sample = record { alerts = record { pos = wordsAt (l .positive) i; neg = wordsAt (l .negative) i }; asks = noAsks };
+      sample =
+          record {
+            alerts = record { pos = wordsAt (l .positive) i; neg = wordsAt (l .negative) i };
+            word = getD (l .entropy) i 0;
+            answers = getD (l .answers) i 0;
+          };
     }
 
 unfoldable pub listOf : Lent → List Input
@@ -49,7 +65,9 @@ abbrev pub even : Lent → Bool
 even l =
     eqb (length (l .registers)) (length (l .kinds))
     && (eqb (length (l .values)) (length (l .kinds))
-    && (eqb (length (l .positive)) (length (l .kinds) * words) && eqb (length (l .negative)) (length (l .kinds) * words)))
+    && (eqb (length (l .positive)) (length (l .kinds) * words)
+    && (eqb (length (l .negative)) (length (l .kinds) * words)
+    && (eqb (length (l .entropy)) (length (l .kinds)) && eqb (length (l .answers)) (length (l .kinds))))))
 
 -- lists of unequal lengths name a tick that lacks a part, which no record holds: 10
 unfoldable pub writeLent : Lent → List ℕ → Written
@@ -68,7 +86,8 @@ Numbers l =
     × (registerOf (inputAt l i .access) ≡ getD (l .registers) i 0)
     × (valueOf (inputAt l i .access) ≡ getD (l .values) i 0)
 
--- reading what was written gives the same accesses and the same 248 pairs of wires, and no asks as in the list, for every list that is not refused
+-- reading what was written gives the same accesses, the same 248 pairs of wires, the same words and the same answers of the four lines, for every
+-- list that is not refused
 abbrev pub ReadBack : Lent → List ℕ → List ℕ → Type 0
 ReadBack l buffer left =
     even l ≡ true → writeVerdict newest (listOf l) buffer ≡ Verdict.Accepted

@@ -6,7 +6,7 @@ ghost use lib.Seq.{sets};
 ghost use Rattle.bits.specs.Fields.{toBytes};
 
 // Four bytes.
-fn put_half(out: &mut [u8], at: usize, x: u32)
+pub fn put_half(out: &mut [u8], at: usize, x: u32)
     requires { ⌜ at + 4 ≤ length (now out) ⌝ }
     ensures { λ _. ⌜ now (out .exit) ≡ sets (now (out .entry)) at (toBytes 4 x) ⌝ }
 {

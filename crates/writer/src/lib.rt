@@ -1,5 +1,5 @@
-// Request (ii): a trace writer for a list of accesses and samples, lent as five lists of numbers: entry i is tick i's, and has WORDS words of
-// positive and of negative wires.
+// Request (ii): a trace writer for a list of accesses and samples, lent as seven lists of numbers: entry i is tick i's, and has WORDS words
+// of positive and of negative wires.
 mod bytes;
 mod recordable;
 mod records;
@@ -11,7 +11,7 @@ use answers::signed;
 use rules::Answer;
 use rules::Refusal;
 use rules::Verdict;
-use trace::edition::ALERTS_248_BYTES;
+use trace::edition::PINGS_BYTES;
 ghost use mathlib.Core.Path.{_≡_};
 ghost use Rattle.writer.specs.Lent.{lent, Wrote, ReadBack, WrittenBack};
 ghost use Rattle.writer.specs.EntryParts.{inOrder};
@@ -37,21 +37,40 @@ pub fn write(
     values: &[u32],
     positive: &[u64],
     negative: &[u64],
+    entropy: &[u32],
+    answers: &[u8],
     out: &mut [u8],
 ) -> i64
-    ensures { λ r. ⌜ Wrote (lent (now (kinds .entry)) (now (registers .entry)) (now (values .entry)) (now (positive .entry)) (now (negative .entry))) (now (out .entry)) r (now (out .exit)) ⌝ }
-    ensures readback { λ r. ⌜ ReadBack (lent (now (kinds .entry)) (now (registers .entry)) (now (values .entry)) (now (positive .entry)) (now (negative .entry))) (now (out .entry)) (now (out .exit)) ⌝ }
-    ensures writtenback { λ r. ⌜ WrittenBack (lent (now (kinds .entry)) (now (registers .entry)) (now (values .entry)) (now (positive .entry)) (now (negative .entry))) (now (out .entry)) (now (out .exit)) ⌝ }
+    ensures { λ r. ⌜ Wrote (lent (now (kinds .entry)) (now (registers .entry)) (now (values .entry)) (now (positive .entry)) (now (negative .entry)) (now (entropy .entry)) (now (answers .entry))) (now (out .entry)) r (now (out .exit)) ⌝ }
+    ensures readback { λ r. ⌜ ReadBack (lent (now (kinds .entry)) (now (registers .entry)) (now (values .entry)) (now (positive .entry)) (now (negative .entry)) (now (entropy .entry)) (now (answers .entry))) (now (out .entry)) (now (out .exit)) ⌝ }
+    ensures writtenback { λ r. ⌜ WrittenBack (lent (now (kinds .entry)) (now (registers .entry)) (now (values .entry)) (now (positive .entry)) (now (negative .entry)) (now (entropy .entry)) (now (answers .entry))) (now (out .entry)) (now (out .exit)) ⌝ }
 {
-    if are_uneven(kinds, registers, values, positive, negative) {
+    if are_uneven(
+        kinds,
+        registers,
+        values,
+        positive,
+        negative,
+        entropy,
+        answers,
+    ) {
         signed(Answer::Refused(Refusal::NoRecord))
     } else {
         let count = kinds.len();
-        let short = out.len() / ALERTS_248_BYTES < count;
+        let short = out.len() / PINGS_BYTES < count;
         match verdict_of(any_unrecordable(kinds, registers, values), short) {
             Verdict::Accepted => {
-                put_all(kinds, registers, values, positive, negative, out);
-                (count * ALERTS_248_BYTES) as i64
+                put_all(
+                    kinds,
+                    registers,
+                    values,
+                    positive,
+                    negative,
+                    entropy,
+                    answers,
+                    out,
+                );
+                (count * PINGS_BYTES) as i64
             }
             Verdict::Refused(m) => signed(Answer::Refused(m)),
         }

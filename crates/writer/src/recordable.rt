@@ -27,12 +27,17 @@ pub fn are_uneven(
     values: &[u32],
     positive: &[u64],
     negative: &[u64],
+    entropy: &[u32],
+    answers: &[u8],
 ) -> bool
-    ensures { λ r. ⌜ r ≡ not (even (lent (now (kinds .entry)) (now (registers .entry)) (now (values .entry)) (now (positive .entry)) (now (negative .entry)))) ⌝ }
+    ensures { λ r. ⌜ r ≡ not (even (lent (now (kinds .entry)) (now (registers .entry)) (now (values .entry)) (now (positive .entry)) (now (negative .entry)) (now (entropy .entry)) (now (answers .entry)))) ⌝ }
 {
     let count = kinds.len();
     let even = (registers.len() == count)
-        & ((values.len() == count) & (has_words(positive, count) & has_words(negative, count)));
+        & ((values.len() == count)
+            & (has_words(positive, count)
+                & (has_words(negative, count)
+                    & ((entropy.len() == count) & (answers.len() == count)))));
     !even
 }
 

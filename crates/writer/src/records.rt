@@ -1,9 +1,11 @@
 // Records in the lent buffer, of accesses and samples that well-formed records hold.
+use crate::bytes::put_half;
 use crate::bytes::put_seven;
 use crate::bytes::put_word;
 use rules::WORDS;
-use trace::edition::ALERTS_248_BYTES;
 use trace::edition::ALERTS_248_REGISTER_AT;
+use trace::edition::PINGS_BYTES;
+use trace::word::four;
 ghost use mathlib.Core.Path.{_≡_};
 ghost use mathlib.Core.Bool.{true};
 ghost use mathlib.Core.List.{_++_};
@@ -15,7 +17,7 @@ ghost use Rattle.trace_rules.specs.Record.{accessOf, recordOf, recordable};
 ghost use Rattle.rules.specs.State.{words};
 ghost use Rattle.trace_rules.specs.Writer.{recordsOf};
 ghost use Rattle.writer.specs.Lent.{lent, wordAt, wordsAt, listOf};
-ghost use Rattle.writer.specs.EntryParts.{inputIn, accessWord, wordBytes, setBytes, Ready};
+ghost use Rattle.writer.specs.EntryParts.{inputIn, accessWord, wordBytes, setBytes, pingBytes, Ready};
 
 // 2 bits kind, 11 bits register, 19 zero bits, 32 bits value.
 fn first_word(kind: u8, register: u16, value: u32) -> u64
@@ -49,7 +51,16 @@ fn put_wires(out: &mut [u8], at: usize, list: &[u64], i: usize)
     put_seven(out, at + 24, list[i * WORDS + WHOLE]);
 }
 
-// The record of entry i: the access, the positive wires with alert 0 first, the negative wires.
+// Behind the wires: the entropy word, four zero bits and the answers of the four lines, line 0 first.
+fn put_pings(out: &mut [u8], at: usize, word: u32, answers: u8)
+    requires { ⌜ at + 5 ≤ length (now out) ⌝ }
+    ensures { λ _. ⌜ now (out .exit) ≡ sets (now (out .entry)) at (pingBytes word answers) ⌝ }
+{
+    put_half(out, at, word);
+    out[at + 4] = four(answers) as u8;
+}
+
+// The record of entry i: the access, the positive wires with alert 0 first, the negative wires, the word and the answers.
 fn put_record(
     out: &mut [u8],
     at: usize,
@@ -58,14 +69,17 @@ fn put_record(
     value: u32,
     positive: &[u64],
     negative: &[u64],
+    word: u32,
+    answers: u8,
     i: usize,
 )
     requires { ⌜ (at + recordBytes newest ≤ length (now out)) × (recordable newest (accessOf kind register value) ≡ true) × (i * words + words ≤ length (now positive)) × (i * words + words ≤ length (now negative)) ⌝ }
-    ensures { λ _. ⌜ now (out .exit) ≡ sets (now (out .entry)) at (recordOf newest (inputIn kind register value (wordsAt (now (positive .entry)) i) (wordsAt (now (negative .entry)) i))) ⌝ }
+    ensures { λ _. ⌜ now (out .exit) ≡ sets (now (out .entry)) at (recordOf newest (inputIn kind register value (wordsAt (now (positive .entry)) i) (wordsAt (now (negative .entry)) i) word answers)) ⌝ }
 {
     put_word(out, at, first_word(kind, register, value));
     put_wires(out, at + 8, positive, i);
     put_wires(out, at + 39, negative, i);
+    put_pings(out, at + 70, word, answers);
 }
 
 // The records of all entries, from the start of the buffer.
@@ -75,21 +89,25 @@ pub fn put_all(
     values: &[u32],
     positive: &[u64],
     negative: &[u64],
+    entropy: &[u32],
+    answers: &[u8],
     out: &mut [u8],
 )
-    requires { ⌜ Ready (lent (now kinds) (now registers) (now values) (now positive) (now negative)) (now out) ⌝ }
-    ensures { λ _. ⌜ now (out .exit) ≡ recordsOf newest (listOf (lent (now (kinds .entry)) (now (registers .entry)) (now (values .entry)) (now (positive .entry)) (now (negative .entry)))) ++ drop (length (now (kinds .entry)) * recordBytes newest) (now (out .entry)) ⌝ }
+    requires { ⌜ Ready (lent (now kinds) (now registers) (now values) (now positive) (now negative) (now entropy) (now answers)) (now out) ⌝ }
+    ensures { λ _. ⌜ now (out .exit) ≡ recordsOf newest (listOf (lent (now (kinds .entry)) (now (registers .entry)) (now (values .entry)) (now (positive .entry)) (now (negative .entry)) (now (entropy .entry)) (now (answers .entry)))) ++ drop (length (now (kinds .entry)) * recordBytes newest) (now (out .entry)) ⌝ }
 {
     let mut i = 0;
     while i < kinds.len() {
         put_record(
             out,
-            i * ALERTS_248_BYTES,
+            i * PINGS_BYTES,
             kinds[i],
             registers[i],
             values[i],
             positive,
             negative,
+            entropy[i],
+            answers[i],
             i,
         );
         i += 1;

@@ -1,5 +1,6 @@
 //! Reads N and trace records from standard input and prints one word a line.
-//! A first byte of 255 says that N comes next and the records are new.
+//! A first byte of 255 says that N comes next and the records are those of the
+//! second edition, and one of 254 the same of the third.
 //!
 //! The paper names no exit status: it is 0 after `cut` and `refused` too, and
 //! only a failure to read or write gives another.
@@ -9,6 +10,8 @@ use std::io::{self, Read, Write};
 
 /// The first byte of an input with records of the second edition.
 const SECOND: u8 = 255;
+/// The first byte of an input with records of the third edition.
+const THIRD: u8 = 254;
 /// Records taken in one block.
 const BLOCK: usize = 8192;
 
@@ -27,6 +30,7 @@ fn main() -> io::Result<()> {
 fn opening(input: &mut impl Read) -> io::Result<Option<(Edition, Handler)>> {
     let (edition, n) = match byte(input)? {
         Some(SECOND) => (Edition::Second, byte(input)?),
+        Some(THIRD) => (Edition::Third, byte(input)?),
         n => (Edition::First, n),
     };
     // A missing N counts as a refused one.
@@ -61,7 +65,7 @@ fn replay(
         let got = fill(input, &mut bytes)?;
         let records = got / size;
         // Never refused: whole records, enough words, a state calls produced,
-        // no more alerts than the edition allows.
+        // no more alerts than the edition allows, and no timer on without words.
         batch(handler, edition, &bytes[..records * size], &mut words);
         text.clear();
         for word in &words[..records] {

@@ -2,43 +2,40 @@
 //! numbers, and wires.
 #![allow(dead_code)] // no test file uses all of it
 
+pub mod pinged;
 pub mod policy;
 pub mod records;
 pub mod shadowed;
+pub mod timer;
 pub mod waves;
 
 use reference::{Access, Handler, Sample, Ticked, Wires};
 
-/// Every alert at rest: (0,1). No ping is asked for.
+/// Every alert at rest: (0,1). The word is 0 and no ping is answered.
 pub const REST: Sample = Sample {
     pos: [0; 4],
     neg: [u64::MAX; 4],
-    asks: [0; 4],
+    word: 0,
+    answers: 0,
 };
 /// Alert 0 at (1,0), the others at rest.
 pub const ALERT0: Sample = Sample {
     pos: [1 << 63, 0, 0, 0],
     neg: [!(1 << 63), u64::MAX, u64::MAX, u64::MAX],
-    asks: [0; 4],
+    word: 0,
+    answers: 0,
 };
 /// Numbers of alerts on both sides of every word, and the most.
 pub const COUNTS: [u64; 10] = [1, 63, 64, 65, 127, 128, 191, 192, 247, 248];
 
-/// A sample of these wires in which no ping is asked for.
+/// A sample of these wires with the word 0 and no answer.
 pub fn sampled(pos: Wires, neg: Wires) -> Sample {
     Sample {
         pos,
         neg,
-        asks: [0; 4],
+        word: 0,
+        answers: 0,
     }
-}
-
-/// The sample, with a ping asked for at these places.
-pub fn asking(mut sample: Sample, places: &[usize]) -> Sample {
-    for place in places {
-        sample.asks[place / 64] |= 1 << (63 - place % 64);
-    }
-    sample
 }
 
 /// A sample with this place at this pair.
@@ -134,7 +131,7 @@ impl Numbers {
         std::array::from_fn(|_| self.next())
     }
 
-    /// Any wires; no ping is asked for.
+    /// Any wires, with the word 0 and no answer.
     pub fn sample(&mut self) -> Sample {
         sampled(self.wires(), self.wires())
     }

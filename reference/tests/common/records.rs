@@ -1,25 +1,31 @@
-//! Records of both editions, packed by hand, and a handler that is run by
+//! Records of all editions, packed by hand, and a handler that is run by
 //! them alone.
 
 use super::{new, ALERT0, PAUSE, REST};
 use reference::{batch, Access, Edition, Handler, Outcome, Sample};
 
-/// Both editions, the older first.
-pub const EDITIONS: [Edition; 2] = [Edition::First, Edition::Second];
+/// All editions, the oldest first.
+pub const EDITIONS: [Edition; 3] = [Edition::First, Edition::Second, Edition::Third];
 
-/// A record from its first 32 bits, its value and its wires. It has no place
-/// for pings, so none may be asked for.
+/// A record from its first 32 bits, its value and its sample. An older one has
+/// no place for a word and answers, so they must be 0.
 pub fn pack(edition: Edition, head: u32, value: u32, sample: Sample) -> Vec<u8> {
     let wire_bytes = match edition {
         Edition::First => 8,
-        Edition::Second => 31,
+        Edition::Second | Edition::Third => 31,
     };
-    assert_eq!(sample.asks, [0; 4]);
     let mut bytes = head.to_be_bytes().to_vec();
     bytes.extend(value.to_be_bytes());
     for set in [sample.pos, sample.neg] {
         let all: Vec<u8> = set.iter().flat_map(|word| word.to_be_bytes()).collect();
         bytes.extend(&all[..wire_bytes]);
+    }
+    if edition == Edition::Third {
+        bytes.extend(sample.word.to_be_bytes());
+        // Four zero bits, then line 0's answer bit to line 3's.
+        bytes.push(sample.answers.reverse_bits() >> 4);
+    } else {
+        assert_eq!((sample.word, sample.answers), (0, 0));
     }
     bytes
 }
@@ -28,7 +34,7 @@ pub fn pack(edition: Edition, head: u32, value: u32, sample: Sample) -> Vec<u8> 
 pub fn record(edition: Edition, access: Access, sample: Sample) -> Vec<u8> {
     let shift = match edition {
         Edition::First => 20,
-        Edition::Second => 19,
+        Edition::Second | Edition::Third => 19,
     };
     let (kind, register, value) = match access {
         Access::None => (0, 0, 0),
@@ -101,7 +107,7 @@ impl Bench {
     fn number(&self, old: u16) -> u16 {
         match self.edition {
             Edition::First => old,
-            Edition::Second => renumbered(old).unwrap(),
+            Edition::Second | Edition::Third => renumbered(old).unwrap(),
         }
     }
 

@@ -2,14 +2,14 @@
 //! leave its stages alone.
 
 use super::{read, write};
-use reference::Handler;
+use reference::{Handler, Stages};
 
 /// A shadowed register: its number and its largest value.
 pub type Row = (u16, u32);
 
 /// The shadowed registers of a handler of `n` alerts.
 pub fn shadowed(n: u64) -> Vec<Row> {
-    let mut rows = Vec::new();
+    let mut rows = vec![(5, 0xFFFF)];
     for j in 0..7 {
         rows.extend([(24 + j, 1), (32 + j, 3)]);
     }
@@ -26,6 +26,7 @@ pub fn shadowed(n: u64) -> Vec<Row> {
 /// The REGWEN that guards a shadowed register.
 pub fn guard(number: u16) -> u16 {
     match number {
+        5 => 4,
         24..=30 => 16 + (number - 24),
         32..=38 => 16 + (number - 32),
         512..=759 => 256 + (number - 512),
@@ -39,6 +40,7 @@ pub fn stage(h: &Handler, number: u16) -> u64 {
     let (at, stages) = (usize::from(number), &h.stages);
     let class = &stages.classes[at % 64 / 16];
     match at {
+        5 => h.timer.stage.into(),
         24..=30 => stages.locals.en[at - 24].into(),
         32..=38 => stages.locals.class[at - 32].into(),
         512..=759 => stages.alerts.en[at - 512].into(),
@@ -74,4 +76,9 @@ pub fn stage_all(h: &mut Handler) -> Vec<(Row, u32)> {
     }
     assert_eq!(open(h), rows.len());
     rows
+}
+
+/// Drops all stages by hand.
+pub fn drop_all(h: &mut Handler) {
+    (h.stages, h.timer.stage) = (Stages::new(), 0);
 }

@@ -1,7 +1,8 @@
 //! Waves: what one alert's wires do and what its pairs show, a character a
 //! tick. `1` is the pair (1,0), `0` is (0,1), `x` is (0,0) and `X` is (1,1).
 
-use super::{asking, configure, new, tick, with, REST};
+use super::timer::due;
+use super::{configure, new, tick, with, REST};
 use reference::wires::wire;
 use reference::{Access, Handler, Pairs};
 
@@ -53,15 +54,15 @@ pub fn shown(acks: &str, pings: &str, events: &str) -> Shown {
     }
 }
 
-/// Runs alert i through a wave. `asks` has a `?` in each tick that asks for a
-/// ping. An event shows as `e`: cause, count and interrupt come together.
-pub fn play(h: &mut Handler, i: usize, wires: &str, asks: &str) -> Shown {
-    assert_eq!(wires.len(), asks.len());
+/// Runs alert i through a wave. `pings` has a `?` in each tick in which a ping
+/// is due, if none is open. An event shows as `e`: cause, count and interrupt come together.
+pub fn play(h: &mut Handler, i: usize, wires: &str, pings: &str) -> Shown {
+    assert_eq!(wires.len(), pings.len());
     let mut shown = shown("", "", "");
-    for (wave, asks) in wires.chars().zip(asks.chars()) {
-        let mut sample = with(REST, i, pair(wave));
-        if asks == '?' {
-            sample = asking(sample, &[i]);
+    for (wave, ping) in wires.chars().zip(pings.chars()) {
+        let sample = with(REST, i, pair(wave));
+        if ping == '?' && !h.receivers[i].open {
+            due(h, i);
         }
         (h.alerts[i].cause, h.intr_state, h.classes[0].accum_cnt) = (0, 0, 0);
         let ticked = tick(h, Access::None, sample);
@@ -77,16 +78,16 @@ pub fn play(h: &mut Handler, i: usize, wires: &str, asks: &str) -> Shown {
     shown
 }
 
-/// Runs a wave that asks for no pings from reset, at several alerts.
+/// Runs a wave with no pings from reset, at several alerts.
 pub fn check(wires: &str, acks: &str, events: &str) {
     let quiet = "0".repeat(wires.len());
-    check_asking(wires, &".".repeat(wires.len()), acks, &quiet, events);
+    check_pings(wires, &".".repeat(wires.len()), acks, &quiet, events);
 }
 
 /// Runs a wave from reset, at several alerts.
-pub fn check_asking(wires: &str, asks: &str, acks: &str, pings: &str, events: &str) {
+pub fn check_pings(wires: &str, due: &str, acks: &str, pings: &str, events: &str) {
     for (n, i) in ALERTS {
-        let reached = play(&mut counting(n, i), i, wires, asks);
+        let reached = play(&mut counting(n, i), i, wires, due);
         assert_eq!(reached, shown(acks, pings, events), "{wires} of {i}");
     }
 }

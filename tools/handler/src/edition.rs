@@ -1,23 +1,40 @@
 //! The editions of a trace: what is known of each one's form.
-use crate::registers::{Map, MAP, MAP_64};
+use crate::registers::{Map, MAP, MAP_248, MAP_64};
 
 /// The form of a trace, named by what it brings. A record is 2 bits kind, the register, zero bits to 32, 32 bits
-/// value, then the positive and the negative wires, alert 0 first.
+/// value, then the positive and the negative wires, alert 0 first, and then what the edition has behind them.
 #[derive(Clone, Copy, Debug, PartialEq, Eq)]
 pub enum Edition {
     /// Document 01's: N up to 64, N first.
     Alerts64,
     /// That of 248 alerts: a first byte of 255, then N.
     Alerts248,
+    /// That of the ping timer: a first byte of 254, then N. Behind the wires are 32 bits entropy word, four zero bits and
+    /// four answer bits, line 0 first.
+    Pings,
 }
 
 use Edition::*;
 
 impl Edition {
     /// All, the oldest first.
-    pub const ALL: [Edition; 2] = [Alerts64, Alerts248];
+    pub const ALL: [Edition; 3] = [Alerts64, Alerts248, Pings];
     /// The one that is written.
-    pub const NEWEST: Edition = Alerts248;
+    pub const NEWEST: Edition = Pings;
+
+    /// The name by which it is asked for: two editions may have as many bytes. `./tarravane --version` reads these lines.
+    pub const fn name(self) -> &'static str {
+        match self {
+            Alerts64 => "24",
+            Alerts248 => "70",
+            Pings => "pings",
+        }
+    }
+
+    /// The edition of this name.
+    pub fn named(name: &str) -> Option<Edition> {
+        Edition::ALL.into_iter().find(|it| it.name() == name)
+    }
 
     /// The edition of a trace that begins with this byte.
     pub fn of(first: u8) -> Edition {
@@ -30,12 +47,26 @@ impl Edition {
         match self {
             Alerts64 => None,
             Alerts248 => Some(255),
+            Pings => Some(254),
         }
     }
 
     /// The bytes of a record.
     pub const fn bytes(self) -> usize {
-        8 + 2 * self.wire_bytes()
+        8 + 2 * self.wire_bytes() + self.tail_bytes()
+    }
+
+    /// The bytes behind the wires.
+    pub const fn tail_bytes(self) -> usize {
+        match self {
+            Alerts64 | Alerts248 => 0,
+            Pings => 5,
+        }
+    }
+
+    /// Do its records reach the ping timer: its registers, its word and its answers?
+    pub const fn has_timer(self) -> bool {
+        self.registers().timer
     }
 
     /// The most alerts: a record has a positive and a negative wire of each.
@@ -52,7 +83,7 @@ impl Edition {
     pub const fn register_bits(self) -> u32 {
         match self {
             Alerts64 => 10,
-            Alerts248 => 11,
+            Alerts248 | Pings => 11,
         }
     }
 
@@ -65,14 +96,30 @@ impl Edition {
     pub const fn registers(self) -> Map {
         match self {
             Alerts64 => MAP_64,
-            Alerts248 => MAP,
+            Alerts248 => MAP_248,
+            Pings => MAP,
         }
     }
 }
 
-// `./tarravane --version` names the editions from these lines, one for each.
 const _: () = {
-    assert!(Edition::ALL.len() == 2);
+    assert!(Edition::ALL.len() == 3);
     assert!(Alerts64.bytes() == 24);
     assert!(Alerts248.bytes() == 70);
+    assert!(Pings.bytes() == 75);
 };
+
+#[test]
+fn an_edition_goes_by_its_name_and_its_first_byte() {
+    for edition in Edition::ALL {
+        assert_eq!(Edition::named(edition.name()), Some(edition));
+        assert_eq!(edition.has_timer(), edition == Pings);
+    }
+    for other in ["", "75", "Pings", "240", "alerts"] {
+        assert_eq!(Edition::named(other), None, "{other}");
+    }
+    for first in 0..254 {
+        assert_eq!(Edition::of(first), Alerts64, "{first}");
+    }
+    assert_eq!((Edition::of(254), Edition::of(255)), (Pings, Alerts248));
+}

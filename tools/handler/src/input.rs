@@ -50,15 +50,18 @@ impl Wires {
 pub struct Sample {
     /// The alerts' wires.
     pub alerts: Wires,
-    /// The alerts whose ping the caller asks for, in the wires' order of bits. Places at N and above count for nothing.
-    pub asks: [u64; WORDS],
+    /// The entropy word: by it the ping timer draws the next turn where one ends. It must be unpredictable.
+    pub word: u32,
+    /// The lines whose ping is answered, line 0 at the lowest bit. Bits from 4 up count for nothing.
+    pub answers: u32,
 }
 
 impl Sample {
     /// Every input at rest.
     pub const AT_REST: Sample = Sample {
         alerts: Wires::REST,
-        asks: [0; WORDS],
+        word: 0,
+        answers: 0,
     };
 
     /// These wires of the alerts, and every other input at rest.
@@ -74,9 +77,10 @@ impl Sample {
 fn wires_stand_where_the_header_has_them() {
     use crate::layout::offset_of;
     use std::mem::size_of;
-    assert!(size_of::<Sample>() == 96);
+    assert!(size_of::<Sample>() == 72);
     assert!(offset_of!(Sample, alerts) == 0);
-    assert!(offset_of!(Sample, asks) == 64);
+    assert!(offset_of!(Sample, word) == 64);
+    assert!(offset_of!(Sample, answers) == 68);
     assert!(offset_of!(Wires, neg) == 32);
 }
 

@@ -1,5 +1,7 @@
 //! Where a field stands, for the tests of the layout: `std::mem::offset_of` is younger than Rust 1.63.
-use crate::{Class, ClassStages, Handler, Output, Receivers, Sample, Stages, Wires};
+use crate::{
+    Class, ClassStages, Handler, Links, Output, Receivers, Sample, Stages, Timer, Turn, Wires,
+};
 
 /// A type with a value, whose fields have places.
 pub trait Laid {
@@ -33,6 +35,24 @@ impl Laid for ClassStages {
 impl Laid for Receivers {
     fn some() -> Receivers {
         Receivers::NEW
+    }
+}
+
+impl Laid for Links {
+    fn some() -> Links {
+        Handler::some().links
+    }
+}
+
+impl Laid for Turn {
+    fn some() -> Turn {
+        Turn::NEW
+    }
+}
+
+impl Laid for Timer {
+    fn some() -> Timer {
+        Timer::NEW
     }
 }
 

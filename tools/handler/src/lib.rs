@@ -19,6 +19,7 @@ mod output;
 mod receivers;
 pub mod registers;
 mod state;
+mod timer;
 mod word;
 mod writer;
 
@@ -33,10 +34,11 @@ pub use output::Output;
 pub use receivers::{Place, Receivers};
 pub use state::{
     AlertStages, Alerts, Class, ClassStages, Handler, Interrupts, Links, LocalStages, Locals,
-    Stages, ALERTS, CLASSES, LOCALS, PHASES, WORDS,
+    Stages, ALERTS, CLASSES, LINES, LOCALS, PHASES, WORDS,
 };
+pub use timer::{Timer, Turn, Whose};
 pub use word::Word;
-pub use writer::{record, record_numbers};
+pub use writer::{record, record_numbers, Lists};
 
 /// What a tick gives.
 #[derive(Clone, Copy, Debug, PartialEq, Eq)]
@@ -81,8 +83,8 @@ impl Handler {
         }
     }
 
-    /// A tick for each record of the edition, a word for each; records ask for no pings. Refusals 7, 8 and 9 leave state and
-    /// list unchanged; 7 also where the handler has more alerts than the edition.
+    /// A tick for each record of the edition, a word for each. Refusals 7, 8 and 9 leave state and list unchanged; 7 also
+    /// where the handler has more alerts than the edition, and where its ping timer is on and the edition is an older one.
     pub fn batch(self, edition: Edition, bytes: &[u8], out: &mut [Word]) -> (Handler, Answer) {
         let given = library::batch(self, edition, bytes, out);
         (given.handler, Answer(given.answer))

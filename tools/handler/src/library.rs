@@ -1,10 +1,11 @@
 //! The functions of `libtarravane.a`. The only unsafe lines of the tools. Their names there carry the layout's number: these
-//! structs are of layout 2, and a library of another one does not link.
+//! structs are of layout 3, and a library of another one does not link.
 use crate::edition::Edition;
 use crate::input::Sample;
 use crate::output::Output;
 use crate::state::{Handler, WORDS};
 use crate::word::Word;
+use crate::writer::Lists;
 
 #[repr(C)]
 pub struct Made {
@@ -42,13 +43,13 @@ pub struct Installed {
 }
 
 extern "C" {
-    #[link_name = "tarravane_new_layout_2"]
+    #[link_name = "tarravane_new_layout_3"]
     fn tarravane_new(n: usize) -> Made;
-    #[link_name = "tarravane_tick_layout_2"]
+    #[link_name = "tarravane_tick_layout_3"]
     fn tarravane_tick(h: Handler, kind: u8, register: u16, value: u32, sample: Sample) -> Answered;
-    #[link_name = "tarravane_hear_layout_2"]
+    #[link_name = "tarravane_hear_layout_3"]
     fn tarravane_hear(h: Handler, kind: u8, register: u16, value: u32, sample: Sample) -> Heard;
-    #[link_name = "tarravane_batch_24_layout_2"]
+    #[link_name = "tarravane_batch_24_layout_3"]
     fn tarravane_batch_24(
         h: Handler,
         bytes: *const u8,
@@ -56,7 +57,7 @@ extern "C" {
         out: *mut Word,
         words: usize,
     ) -> Batched;
-    #[link_name = "tarravane_batch_70_layout_2"]
+    #[link_name = "tarravane_batch_70_layout_3"]
     fn tarravane_batch_70(
         h: Handler,
         bytes: *const u8,
@@ -64,7 +65,15 @@ extern "C" {
         out: *mut Word,
         words: usize,
     ) -> Batched;
-    #[link_name = "tarravane_record_layout_2"]
+    #[link_name = "tarravane_batch_pings_layout_3"]
+    fn tarravane_batch_pings(
+        h: Handler,
+        bytes: *const u8,
+        length: usize,
+        out: *mut Word,
+        words: usize,
+    ) -> Batched;
+    #[link_name = "tarravane_record_layout_3"]
     fn tarravane_record(
         kinds: *const u8,
         kinds_length: usize,
@@ -76,10 +85,14 @@ extern "C" {
         positive_length: usize,
         negative: *const u64,
         negative_length: usize,
+        entropy: *const u32,
+        entropy_length: usize,
+        answers: *const u8,
+        answers_length: usize,
         bytes: *mut u8,
         length: usize,
     ) -> i64;
-    #[link_name = "tarravane_install_layout_2"]
+    #[link_name = "tarravane_install_layout_3"]
     fn tarravane_install(h: Handler, lifecycle: u8) -> Installed;
 }
 
@@ -110,31 +123,29 @@ pub fn batch(h: Handler, edition: Edition, bytes: &[u8], out: &mut [Word]) -> Ba
         match edition {
             Edition::Alerts64 => tarravane_batch_24(h, from, length, to, words),
             Edition::Alerts248 => tarravane_batch_70(h, from, length, to, words),
+            Edition::Pings => tarravane_batch_pings(h, from, length, to, words),
         }
     }
 }
 
-pub fn record(
-    kinds: &[u8],
-    registers: &[u16],
-    values: &[u32],
-    positive: &[u64],
-    negative: &[u64],
-    out: &mut [u8],
-) -> i64 {
+pub fn record(lists: Lists, out: &mut [u8]) -> i64 {
     // Safe: each slice is as long as said, not null and aligned; the one that is written is apart from the others.
     unsafe {
         tarravane_record(
-            kinds.as_ptr(),
-            kinds.len(),
-            registers.as_ptr(),
-            registers.len(),
-            values.as_ptr(),
-            values.len(),
-            positive.as_ptr(),
-            positive.len(),
-            negative.as_ptr(),
-            negative.len(),
+            lists.kinds.as_ptr(),
+            lists.kinds.len(),
+            lists.registers.as_ptr(),
+            lists.registers.len(),
+            lists.values.as_ptr(),
+            lists.values.len(),
+            lists.positive.as_ptr(),
+            lists.positive.len(),
+            lists.negative.as_ptr(),
+            lists.negative.len(),
+            lists.entropy.as_ptr(),
+            lists.entropy.len(),
+            lists.answers.as_ptr(),
+            lists.answers.len(),
             out.as_mut_ptr(),
             out.len(),
         )

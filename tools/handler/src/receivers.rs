@@ -1,7 +1,8 @@
 //! The alerts' receivers: the handshake on each alert's wires, and its pings.
 use crate::state::WORDS;
 
-/// The receivers of the alerts: alert i has bit 63 - i % 64 of word i / 64 in each. Any bits are a receiver.
+/// The receivers of the alerts: alert i has bit 63 - i % 64 of word i / 64 in each. Any bits are a receiver; refusal 7 looks at
+/// `pending` alone.
 #[repr(C)]
 #[derive(Clone, Copy, Debug, PartialEq, Eq)]
 pub struct Receivers {
@@ -11,7 +12,7 @@ pub struct Receivers {
     pub busy: [u64; WORDS],
     /// The level of its ping pair: 1 for (1,0), 0 for (0,1).
     pub level: [u64; WORDS],
-    /// A ping is open: asked for and not answered yet.
+    /// A ping is open: sent, not answered and not failed yet. Only the turn's may be.
     pub pending: [u64; WORDS],
 }
 

@@ -11,7 +11,8 @@ mod register;
 mod setting;
 
 pub use field::Field;
-pub use map::{Map, INTR_BITS, INTR_ENABLE, INTR_STATE, INTR_TEST, MAP, MAP_64};
+pub use map::{Map, INTR_BITS, INTR_ENABLE, INTR_STATE, INTR_TEST, MAP, MAP_248, MAP_64};
+pub use map::{PING_ENABLE, PING_REGWEN, PING_TIMEOUT, PING_TIMEOUT_BITS};
 pub use papers::Naming;
 pub use register::{Register, LETTERS};
 pub use setting::Setting;

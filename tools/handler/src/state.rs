@@ -1,5 +1,6 @@
 //! The state, in the library's layout (`include/tarravane.h`). Integers alone: any bytes are a value, refusal 7 judges them.
 use crate::receivers::Receivers;
+use crate::timer::{Timer, Turn};
 
 /// The most alerts that a handler is made for.
 pub const ALERTS: usize = 248;
@@ -11,6 +12,8 @@ pub const LOCALS: usize = 7;
 pub const CLASSES: usize = 4;
 /// Escalation phases of a class.
 pub const PHASES: usize = 4;
+/// Escalation lines.
+pub const LINES: usize = 4;
 
 /// The registers of a class's block.
 #[repr(C)]
@@ -42,6 +45,19 @@ pub struct Class {
 pub struct Links {
     /// The alerts' receivers.
     pub receivers: Receivers,
+    /// The ping timer's turn.
+    pub turn: Turn,
+    /// The lines whose ping is open, line 0 at the lowest bit. Bits from 4 up are not looked at.
+    pub lines: u32,
+}
+
+impl Links {
+    /// Those of a new handler.
+    pub const NEW: Links = Links {
+        receivers: Receivers::NEW,
+        turn: Turn::NEW,
+        lines: 0,
+    };
 }
 
 /// The registers of the alerts; entry i is alert i's. Entries at n and above are no registers, and no call changes them.
@@ -127,6 +143,8 @@ pub struct Stages {
     pub alerts: AlertStages,
     /// The local alerts'.
     pub locals: LocalStages,
+    /// PING_TIMEOUT_CYC
+    pub timeout: u64,
 }
 
 impl Stages {
@@ -146,6 +164,7 @@ impl Stages {
             en: [0; LOCALS],
             class: [0; LOCALS],
         },
+        timeout: 0,
     };
 }
 
@@ -165,6 +184,8 @@ pub struct Handler {
     pub locals: Locals,
     /// The interrupt registers.
     pub interrupts: Interrupts,
+    /// The ping timer's registers.
+    pub timer: Timer,
     /// What waits for a second write.
     pub stages: Stages,
 }
@@ -178,14 +199,19 @@ fn fields_stand_where_the_header_has_them() {
     assert!(offset_of!(Class, state) == 32);
     assert!(size_of::<ClassStages>() == 48);
     assert!(offset_of!(ClassStages, ctrl) == 40);
-    assert!(size_of::<Stages>() == 744);
+    assert!(size_of::<Stages>() == 752);
     assert!(offset_of!(Stages, alerts) == 192);
     assert!(offset_of!(Stages, locals) == 688);
-    assert!(size_of::<Handler>() == 2048);
+    assert!(offset_of!(Stages, timeout) == 744);
+    assert!(size_of::<Links>() == 136);
+    assert!(offset_of!(Links, turn) == 128);
+    assert!(offset_of!(Links, lines) == 132);
+    assert!(size_of::<Handler>() == 2072);
     assert!(offset_of!(Handler, links) == 8);
-    assert!(offset_of!(Handler, classes) == 136);
-    assert!(offset_of!(Handler, alerts) == 280);
-    assert!(offset_of!(Handler, locals) == 1272);
-    assert!(offset_of!(Handler, interrupts) == 1300);
-    assert!(offset_of!(Handler, stages) == 1304);
+    assert!(offset_of!(Handler, classes) == 144);
+    assert!(offset_of!(Handler, alerts) == 288);
+    assert!(offset_of!(Handler, locals) == 1280);
+    assert!(offset_of!(Handler, interrupts) == 1308);
+    assert!(offset_of!(Handler, timer) == 1312);
+    assert!(offset_of!(Handler, stages) == 1320);
 }

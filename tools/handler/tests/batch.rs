@@ -1,9 +1,9 @@
-//! A batch of either edition is its ticks, and what it refuses it leaves.
+//! A batch of any edition is its ticks, and what it refuses it leaves.
 use handler::registers::Map;
-use handler::registers::{Field, Setting, INTR_ENABLE};
+use handler::registers::{Field, Setting, INTR_ENABLE, PING_ENABLE, PING_REGWEN};
 use handler::{Access, Answer, Edition, Handler, Refusal, Sample, Ticked, Wires, Word};
 use harness::configure::configure;
-use harness::record::record;
+use harness::record::{pack, record, Head, Tail, NONE, WRITE};
 
 const RAISE: Wires = {
     let mut wires = Wires::REST;
@@ -37,6 +37,9 @@ fn accesses(map: Map) -> [(u64, u16, u32); TICKS] {
     let all: Vec<_> = writes.into_iter().map(write).chain(others).collect();
     all.try_into().expect("as many ticks")
 }
+
+/// Kind bits of a read.
+const READ: u64 = 1;
 
 /// The ticks, and the one in which alert 0 rises.
 const TICKS: usize = 11;
@@ -126,5 +129,58 @@ fn an_old_batch_refuses_a_handler_of_more_than_64_alerts() {
         }
         assert_eq!(words, [Word(7)]);
         assert_eq!(h.batch(Edition::Alerts248, &[], &mut []).1, Answer(0));
+    }
+}
+
+#[test]
+fn an_older_batch_refuses_a_timer_that_is_on() {
+    let mut words = [Word(7); 1];
+    for n in [1, 64, 248] {
+        let on = Access::Write(PING_ENABLE, 1);
+        let h = made(n).tick(on, Sample::AT_REST).handler;
+        for older in [Edition::Alerts64, Edition::Alerts248] {
+            for length in [0, 1, older.bytes(), 2 * older.bytes()] {
+                let given = h.batch(older, &[0; 140][..length], &mut words);
+                assert_eq!(given, (h, Answer(-7)));
+            }
+        }
+        assert_eq!(words, [Word(7)]);
+        assert_eq!(h.batch(Edition::Pings, &[], &mut []), (h, Answer(0)));
+    }
+}
+
+/// 4, 5 and 6 are no registers of older records; the newest one hands its word and its answers to the timer.
+#[test]
+fn the_newest_records_alone_reach_the_timer() {
+    let wires = (Wires::REST.pos, Wires::REST.neg);
+    let mut words = [Word(7); 1];
+    for edition in Edition::ALL {
+        for register in PING_REGWEN..=PING_ENABLE {
+            let bytes = record(edition, READ, register.into(), 0, wires);
+            assert_eq!(made(1).batch(edition, &bytes, &mut words).1, Answer(0));
+            let refusal = (edition != Edition::Pings).then_some(Refusal(1));
+            assert_eq!(words[0].refusal(), refusal);
+        }
+    }
+    let on = pack(
+        Edition::Pings,
+        Head::new(WRITE, PING_ENABLE, 1),
+        wires,
+        Tail::new(0xFF12_0000, 0),
+    );
+    let (mut h, _) = made(1).batch(Edition::Pings, &on, &mut words);
+    assert_eq!((h.links.turn.alert, h.links.turn.count), (0x12, 0));
+    h.links.turn.number = 5;
+    for answers in 0..16 {
+        let answered = pack(
+            Edition::Pings,
+            Head::new(NONE, 0, 0),
+            wires,
+            Tail::new(9, answers),
+        );
+        let (after, _) = h.batch(Edition::Pings, &answered, &mut words);
+        let closed = answers & 4 != 0;
+        assert_eq!(after.links.lines, if closed { 0 } else { 4 }, "{answers}");
+        assert_eq!(after.links.turn.number, if closed { 6 } else { 5 });
     }
 }

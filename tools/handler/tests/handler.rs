@@ -1,6 +1,10 @@
 //! The wrapper asks the library and loses nothing on the way.
-use handler::registers::{Field, Setting, INTR_ENABLE, MAP};
-use handler::{Access, Answer, Handler, Output, Receivers, Refusal, Sample, Stages, ALERTS};
+use handler::registers::{
+    Field, Setting, INTR_ENABLE, MAP, PING_ENABLE, PING_REGWEN, PING_TIMEOUT,
+};
+use handler::{
+    Access, Answer, Handler, Links, Output, Receivers, Refusal, Sample, Stages, Timer, ALERTS,
+};
 use harness::configure::configure as writes;
 
 const REST: Sample = Sample::AT_REST;
@@ -35,7 +39,7 @@ fn a_handler_is_made_for_1_to_248_alerts() {
     for n in [1, 64, 65, 247, 248] {
         let h = made(n);
         assert_eq!(h, Handler { n, ..made(1) });
-        assert_eq!(h.links.receivers, Receivers::NEW);
+        assert_eq!((h.links, h.timer), (Links::NEW, Timer::NEW));
         assert_eq!(h.alerts.regwen, [1; ALERTS]);
         assert_eq!(h.alerts.class, [0; ALERTS]);
         assert_eq!(h.stages, Stages::NONE);
@@ -96,6 +100,23 @@ fn a_stage_stands_in_its_field() {
     assert_eq!((h.stages.alerts.en[247], h.alerts.en[247]), (0, 1));
     let class = Access::Write(MAP.local(Field::Class, 6), 3);
     assert_eq!(fresh.tick(class, REST).handler.stages.locals.class[6], 4);
+    let timeout = Access::Write(PING_TIMEOUT, 65535);
+    assert_eq!(fresh.tick(timeout, REST).handler.stages.timeout, 65536);
+}
+
+#[test]
+fn the_timers_registers_stand_in_their_fields() {
+    let h = configure(made(1), PING_TIMEOUT, 0xBEEF);
+    assert_eq!((h.timer.timeout, h.timer.is_on()), (0xBEEF, false));
+    let h = configure(h, PING_ENABLE, 1);
+    assert_eq!((h.timer.enable, h.timer.is_on()), (1, true));
+    let h = configure(h, PING_REGWEN, 0);
+    assert_eq!(h.timer.regwen, 0);
+    for (register, value) in [(PING_TIMEOUT, 0xBEEF), (PING_ENABLE, 1), (PING_REGWEN, 0)] {
+        assert_eq!(h.tick(Access::Read(register), REST).answer, Answer(value));
+        let locked = h.tick(Access::Write(register, 1), REST).answer;
+        assert_eq!(locked.value(), Err(Refusal::LOCKED));
+    }
 }
 
 #[test]
@@ -146,7 +167,12 @@ fn a_damaged_state_is_refused_and_unchanged() {
     last.alerts.cause[247] = 2;
     let mut stage = made(248);
     stage.stages.alerts.class[247] = 5;
-    for h in [one, last, stage, Handler { n: 249, ..made(1) }] {
+    let mut ping = made(248);
+    ping.links.receivers.pending[3] = 1 << 8;
+    let mut line = made(248);
+    line.links.lines = 1;
+    let over = Handler { n: 249, ..made(1) };
+    for h in [one, last, stage, ping, line, over] {
         let t = h.tick(Access::Nothing, raised(0));
         assert_eq!(t.answer.value(), Err(Refusal(7)));
         assert_eq!(t.handler, h);

@@ -1,7 +1,8 @@
-//! The wrapper hands over asks, and gives back pairs and what is heard, each alert at its own bit.
+//! The wrapper hands over words and answers, and gives back pairs and what is heard, each alert at its own bit.
 use handler::registers::{Field, MAP};
 use handler::{
-    Access, Answer, Handler, Heard, Output, Place, Receivers, Refusal, Sample, Wires, ALERTS, WORDS,
+    Access, Answer, Handler, Heard, Output, Place, Receivers, Refusal, Sample, Turn, Whose, Wires,
+    ALERTS, LINES, WORDS,
 };
 use harness::configure::configure;
 
@@ -25,11 +26,18 @@ fn high(i: usize) -> Wires {
     }
 }
 
-fn asking(i: usize) -> Sample {
-    Sample {
-        asks: one(i),
-        ..REST
-    }
+/// A timer that is on, at this turn.
+fn at_turn(number: u8, alert: usize, timeout: u32) -> Handler {
+    let (mut h, _) = Handler::new(ALERTS);
+    (h.alerts.en[alert], h.alerts.regwen[alert]) = (1, 0);
+    (h.locals.en[0], h.locals.en[1]) = (1, 1);
+    (h.timer.enable, h.timer.timeout) = (1, timeout);
+    h.links.turn = Turn {
+        number,
+        alert: alert as u8,
+        count: 0,
+    };
+    h
 }
 
 /// The handler after ticks without access.
@@ -66,8 +74,8 @@ fn a_rise_is_acknowledged_in_the_next_tick() {
 #[test]
 fn a_ping_shows_at_once_and_stays() {
     for i in ALERTS_TRIED {
-        let (h, _) = Handler::new(ALERTS);
-        let t = h.tick(Access::Nothing, asking(i));
+        let h = at_turn(0, i, 0);
+        let t = h.tick(Access::Nothing, REST);
         let pinged = Output {
             ping: high(i),
             ..Output::AT_REST
@@ -79,7 +87,37 @@ fn a_ping_shows_at_once_and_stays() {
             ..Receivers::NEW
         };
         assert_eq!(t.handler.links.receivers, open);
-        assert_eq!(t.handler.tick(Access::Nothing, asking(i)), t);
+        let next = t.handler.tick(Access::Nothing, REST);
+        assert_eq!((next.output, next.handler.links.receivers), (pinged, open));
+        assert_eq!(next.handler.links.turn.count, 1);
+    }
+}
+
+#[test]
+fn a_line_is_answered_at_its_own_bit() {
+    for e in 0..LINES {
+        let h = at_turn(2 * e as u8 + 1, 0, 3);
+        assert_eq!(h.links.turn.whose(), Whose::Line(e));
+        let open = after(h, &[REST]);
+        assert_eq!(open.links.lines, 1 << e);
+        for bits in 0..64 {
+            let sample = Sample {
+                answers: bits,
+                word: 0xAB_CDEF,
+                ..REST
+            };
+            let given = open.tick(Access::Nothing, sample).handler;
+            let answered = bits >> e & 1 == 1;
+            assert_eq!(given.links.lines, if answered { 0 } else { 1 << e });
+            let next = Turn {
+                number: (2 * e as u8 + 2) % 8,
+                alert: 0xAB,
+                count: 0xCDEF,
+            };
+            assert_eq!(given.links.turn == next, answered, "{e} {bits}");
+        }
+        let last = after(h, &[REST; 3]);
+        assert_eq!(last.hear(Access::Nothing, REST).locals, 2);
     }
 }
 
@@ -104,9 +142,16 @@ fn what_is_heard_is_told() {
             answers: one(i),
             ..SILENT
         };
-        let pinged = after(h, &[asking(i)]);
+        let pinged = at_turn(0, i, 1);
         assert_eq!(pinged.hear(Access::Nothing, rise), answered);
-        assert_eq!(h.hear(Access::Nothing, asking(i)), SILENT);
+        assert_eq!(pinged.hear(Access::Nothing, REST), SILENT);
+        let open = after(pinged, &[REST]);
+        assert_eq!(open.hear(Access::Nothing, rise), answered);
+        let failed = Heard {
+            locals: 1,
+            ..SILENT
+        };
+        assert_eq!(open.hear(Access::Nothing, REST), failed);
         assert_eq!(
             after(h, &[rise]).hear(Access::Nothing, rise),
             SILENT,

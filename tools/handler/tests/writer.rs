@@ -1,6 +1,6 @@
 //! The writer's wrapper hands over each part of each input, and what it is refused.
 use handler::{record, Access, Answer, Edition, Input, Refusal, Sample, Wires, WORDS};
-use harness::record::record as packed;
+use harness::record::{pack, record as packed, Head, Tail, NONE};
 
 const EDITION: Edition = Edition::NEWEST;
 const RECORD: usize = EDITION.bytes();
@@ -39,6 +39,27 @@ fn a_record_for_each_input() {
     let mut out = vec![7; 4 * RECORD + 5];
     assert_eq!(record(&inputs, &mut out).bytes(), Ok(4 * RECORD));
     assert_eq!(out, wanted);
+}
+
+#[test]
+fn words_and_answers_stand_behind_the_wires() {
+    for answers in 0..64 {
+        let sample = Sample {
+            alerts: Wires { pos: SOME, neg: NO },
+            word: 0x89AB_CDEF,
+            answers,
+        };
+        let access = Access::Nothing;
+        let mut out = [7; RECORD];
+        assert_eq!(
+            record(&[Input { access, sample }], &mut out).bytes(),
+            Ok(RECORD)
+        );
+        let tail = Tail::new(0x89AB_CDEF, answers & 15);
+        let head = Head::new(NONE, 0, 0);
+        assert_eq!(out[..], pack(EDITION, head, (SOME, NO), tail)[..]);
+        assert_eq!(out[70..74], [0x89, 0xAB, 0xCD, 0xEF]);
+    }
 }
 
 #[test]

@@ -20,7 +20,7 @@ use handler::Wires;
 /// fewer.
 pub const fn records(load: Load) -> usize {
     match load {
-        Load::Quiet => 1_000_000,
+        Load::Quiet | Load::Pinged => 1_000_000,
         _ => 100_000,
     }
 }

@@ -5,12 +5,14 @@ mod found;
 mod input;
 mod odd;
 mod receivers;
+mod timer;
 mod twin;
 
 pub use found::Found;
-pub use input::{access, asks, record, register, sample, wires};
+pub use input::{access, aimed, answers, record, register, sample, wires, word};
 pub use odd::Odd;
 pub use receivers::bit;
+pub use timer::told_apart;
 pub use twin::{
     handler_of, reference_access, reference_edition, reference_of, reference_sample, with_spare,
 };

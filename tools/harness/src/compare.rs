@@ -10,7 +10,7 @@ mod locking;
 mod program;
 mod shadowed;
 
-pub use case::{damage, generated, Case, DEFAULT_SEED, DEFAULT_TRACES};
+pub use case::{damage, generated, in_turn, Case, DEFAULT_SEED, DEFAULT_TRACES};
 pub use coverage::{Coverage, ANSWERS};
 pub use difference::Difference;
 pub use expected::expected;

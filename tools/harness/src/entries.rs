@@ -8,6 +8,6 @@ mod row;
 mod spoil;
 
 pub use buffer::Buffer;
-pub use lent::{Entries, Lent};
+pub use lent::{Entries, Lent, LISTS};
 pub use row::Row;
 pub use spoil::{Way, WAYS};

@@ -3,9 +3,11 @@
 mod damage;
 mod edges;
 mod ends;
+mod entropy;
 mod handshake;
 mod kind;
 mod long;
+mod pings;
 mod play;
 mod profile;
 mod refused;
@@ -29,7 +31,7 @@ use handler::Edition;
 fn counts(edition: Edition) -> &'static [u8] {
     match edition {
         Edition::Alerts64 => &[1, 2, 7, 8, 9, 63, 64],
-        Edition::Alerts248 => &[1, 9, 64, 65, 127, 128, 191, 192, 247, 248],
+        Edition::Alerts248 | Edition::Pings => &[1, 9, 64, 65, 127, 128, 191, 192, 247, 248],
     }
 }
 
@@ -66,10 +68,11 @@ pub fn trace(edition: Edition, kind: Kind, seed: u64) -> Vec<u8> {
         Kind::Ends => ends::ends(edition, rng),
         Kind::Edges => edges::edges(edition, rng),
         Kind::Handshake => handshake::handshakes(edition, rng),
+        Kind::Pings => pings::pings(edition, rng),
         Kind::Full => long::long(edition, rng, seed),
         Kind::Noise => damage::noise(edition, rng),
         Kind::Damaged => {
-            let inner = Kind::at(rng.below(9));
+            let inner = Kind::of(edition, rng.below(9));
             let whole = trace(edition, inner, rng.bits());
             damage::damaged(rng, whole)
         }

@@ -1,6 +1,7 @@
-//! Words that a program gave once for traces of 24-byte and of 70-byte records,
-//! kept as one checksum a trace: every later program gives the same. `golden.txt`
-//! has those of the program of request (viii), since which alerts shake hands.
+//! Words that a program gave once for traces of every edition, kept as one
+//! checksum a trace: every later program gives the same. `golden.txt` has those
+//! of the program of request (viii), since which alerts shake hands, for records
+//! of 24 and 70 bytes, and those of request (ix) for traces with the ping timer.
 
 mod entry;
 mod set;

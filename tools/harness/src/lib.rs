@@ -19,4 +19,5 @@ pub mod report;
 pub mod rng;
 pub mod spoil;
 pub mod states;
+pub mod turns;
 pub mod write;

@@ -9,52 +9,49 @@ const PLACES: [&str; 4] = ["ready", "acknowledged", "first pause", "second pause
 /// The pairs of wires, as they are counted.
 const PAIRS: [&str; 4] = ["(0,0)", "(0,1)", "(1,0)", "(1,1)"];
 
+/// How an alert's ping stands in a tick.
+const NONE: usize = 0;
+const OPEN: usize = 1;
+const OPENS: usize = 2;
+
 /// Ticks of single alerts below N.
 #[derive(Default)]
 pub struct Met {
-    /// By place, by whether a ping is open, by whether one is asked for, and
-    /// by the pair of wires.
-    pub cases: [[[[u64; 4]; 2]; 2]; 4],
-    /// Ticks in which pings of several alerts opened.
-    pub several: u64,
-    /// Pings asked for at N and above.
-    pub above: u64,
+    /// By place, by the ping (none, open before the tick, opens in it), and by
+    /// the pair of wires.
+    pub cases: [[[u64; 4]; 3]; 4],
 }
 
 impl Met {
-    /// Takes in a tick: the handler before it, and its sample.
-    pub fn tick(&mut self, before: &Handler, sample: &Sample) {
-        let mut opened = 0;
-        for (i, receiver) in before.receivers.iter().enumerate() {
-            let asked = wire(&sample.asks, i);
-            if i as u64 >= before.n {
-                self.above += u64::from(asked);
-                continue;
-            }
-            let open = receiver.open;
+    /// Takes in a tick: the handler before and after it, and its sample.
+    pub fn tick(&mut self, before: &Handler, after: &Handler, sample: &Sample) {
+        for i in 0..before.n as usize {
+            let [was, is] = [before, after].map(|handler| handler.receivers[i]);
+            // A ping that opens changes its level.
+            let ping = match (was.open, was.ping != is.ping) {
+                (true, _) => OPEN,
+                (false, true) => OPENS,
+                (false, false) => NONE,
+            };
             let pair = 2 * usize::from(wire(&sample.pos, i)) + usize::from(wire(&sample.neg, i));
-            let cases = &mut self.cases[receiver.place as usize];
-            cases[usize::from(open)][usize::from(asked)][pair] += 1;
-            opened += u64::from(asked && !open);
+            self.cases[was.place as usize][ping][pair] += 1;
         }
-        self.several += u64::from(opened > 1);
     }
 
     /// The least count of all cases.
     pub fn least(&self) -> u64 {
-        let cases = self.cases.iter().flatten().flatten().flatten();
+        let cases = self.cases.iter().flatten().flatten();
         cases.copied().min().unwrap_or(0)
     }
 
     /// The ticks in a place with this pair of wires, whatever the pings.
     pub fn at(&self, place: usize, pair: usize) -> u64 {
-        let cases = self.cases[place].iter().flatten();
-        cases.map(|pairs| pairs[pair]).sum()
+        self.cases[place].iter().map(|pairs| pairs[pair]).sum()
     }
 
-    /// The ticks in a place with a ping asked for, by whether one was open.
-    fn asked(&self, place: usize) -> [u64; 2] {
-        [0, 1].map(|open| self.cases[place][open][1].iter().sum())
+    /// The ticks in a place with a ping that was open, and with one that opens.
+    fn pinged(&self, place: usize) -> [u64; 2] {
+        [OPEN, OPENS].map(|ping| self.cases[place][ping].iter().sum())
     }
 }
 
@@ -67,18 +64,18 @@ impl fmt::Display for Met {
                 write!(out, " {wires} {}", self.at(place, pair))?;
             }
         }
-        let asked = [0, 1, 2, 3].map(|place| self.asked(place));
-        if asked == [[0; 2]; 4] {
+        let pinged = [0, 1, 2, 3].map(|place| self.pinged(place));
+        if pinged == [[0; 2]; 4] {
             return writeln!(out);
         }
-        write!(out, "\npings asked for, and while open:")?;
-        for (name, [closed, open]) in PLACES.iter().zip(asked) {
-            write!(out, " {name} {closed}, {open};")?;
+        write!(out, "\npings of alerts, open and opening:")?;
+        for (at, (name, [open, opens])) in PLACES.iter().zip(pinged).enumerate() {
+            write!(
+                out,
+                "{} {name} {open}, {opens}",
+                if at > 0 { ";" } else { "" }
+            )?;
         }
-        writeln!(
-            out,
-            " several opened at once {}, at N and above {}",
-            self.several, self.above
-        )
+        writeln!(out)
     }
 }

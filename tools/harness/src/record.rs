@@ -1,4 +1,4 @@
-//! Packs trace records of either edition. Written apart from the reference and
+//! Packs trace records of every edition. Written apart from the reference and
 //! from the proved writer, so that a slip in one of them is not repeated here.
 
 use handler::{Edition, ALERTS, WORDS};
@@ -28,6 +28,33 @@ pub const fn largest(edition: Edition) -> u16 {
 pub fn wires_of(mut side: Side) -> Side {
     side[WORDS - 1] &= u64::MAX << (64 * WORDS - ALERTS);
     side
+}
+
+/// What a record has behind its wires, where its edition has that.
+#[derive(Clone, Copy, Debug, Default, PartialEq, Eq)]
+pub struct Tail {
+    /// The entropy word, 32 bits.
+    pub word: u32,
+    /// The last byte: 4 bits that are zero in a good record, then the answers,
+    /// line 0 first.
+    pub last: u8,
+}
+
+impl Tail {
+    /// The word, and the answers with line 0 at the lowest bit; bits from 4 up
+    /// are left out.
+    pub fn new(word: u32, answers: u32) -> Tail {
+        let last = (0..4).map(|e| (answers >> e & 1) << (3 - e)).sum::<u32>();
+        Tail {
+            word,
+            last: last as u8,
+        }
+    }
+
+    fn bytes(self) -> [u8; 5] {
+        let [a, b, c, d] = self.word.to_be_bytes();
+        [a, b, c, d, self.last]
+    }
 }
 
 /// The first 32 bits and the value of a record.
@@ -73,20 +100,19 @@ impl Head {
 }
 
 /// The record's bytes.
-pub fn pack(edition: Edition, head: Head, wires: (Side, Side)) -> Vec<u8> {
+pub fn pack(edition: Edition, head: Head, wires: (Side, Side), tail: Tail) -> Vec<u8> {
     let value = u64::from(head.rest) << 32 | u64::from(head.value);
-    record(
-        edition,
-        head.kind.into(),
-        head.register.into(),
-        value,
-        wires,
-    )
+    let (kind, register) = (head.kind.into(), head.register.into());
+    let mut record = record(edition, kind, register, value, wires);
+    let before = edition.bytes() - edition.tail_bytes();
+    let rest = tail.bytes();
+    record[before..].copy_from_slice(&rest[..edition.tail_bytes()]);
+    record
 }
 
-/// The bytes of kind, register, value and positive and negative wires. The
-/// value may run into the zero bits before it, and the register into the kind,
-/// for records that are not well formed.
+/// The bytes of kind, register, value and positive and negative wires, and
+/// zeros behind them. The value may run into the zero bits before it, and the
+/// register into the kind, for records that are not well formed.
 pub fn record(
     edition: Edition,
     kind: u64,
@@ -101,5 +127,6 @@ pub fn record(
         let bytes = side.into_iter().flat_map(u64::to_be_bytes);
         record.extend(bytes.take(edition.wire_bytes()));
     }
+    record.resize(edition.bytes(), 0);
     record
 }

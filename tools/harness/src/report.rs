@@ -49,7 +49,8 @@ pub fn times(out: &mut impl Write, equal: &mut bool) -> io::Result<()> {
     }
     writeln!(out, "{TITLE}")?;
     for (load, name) in LOADS {
-        for edition in Edition::ALL {
+        let editions = Edition::ALL.into_iter();
+        for edition in editions.filter(|edition| load.is_of(*edition)) {
             let timed = time(edition, load, name, records(load));
             *equal &= timed.equal;
             writeln!(out, "{timed}")?;

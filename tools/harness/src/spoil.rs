@@ -1,12 +1,14 @@
 //! States that no call gives, and some that are only unlikely.
 
 mod fit;
+mod pings;
 mod place;
 mod receiver;
 mod slot;
 mod way;
 
 pub use fit::{fit, fit_thresholds};
+pub use pings::fit_turn;
 pub use place::Place;
 pub use receiver::Bit;
 pub use way::{Way, WAYS};
@@ -14,11 +16,12 @@ pub use way::{Way, WAYS};
 use crate::rng::Rng;
 use fit::fit_stages;
 use handler::{Handler, ALERTS, CLASSES};
+use pings::open_pings;
 
 /// Changes a state in this way.
 pub fn spoil(way: Way, places: &[Place], rng: &mut Rng, state: &mut Handler) {
     // Half of the damage goes to states that no trace comes to.
-    let kept = matches!(way, Way::Kept | Way::Staged | Way::Threshold);
+    let kept = matches!(way, Way::Kept | Way::Staged | Way::Threshold | Way::Turn);
     if way == Way::Fitted || (!kept && rng.once_in(2)) {
         fit(places, rng, state);
     }
@@ -27,6 +30,8 @@ pub fn spoil(way: Way, places: &[Place], rng: &mut Rng, state: &mut Handler) {
         Way::Kept | Way::Fitted => {}
         Way::Staged => fit_stages(places, rng, state),
         Way::Threshold => fit_thresholds(rng, state),
+        Way::Turn => fit_turn(rng, state),
+        Way::Pings => open_pings(rng, state),
         Way::Random => random(places, rng, state),
         Way::Flip => flip(places, rng, state),
         Way::Flips => (0..2 + rng.below(4)).for_each(|_| flip(places, rng, state)),

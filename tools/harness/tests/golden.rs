@@ -62,7 +62,7 @@ fn another_program_is_different() {
     assert_eq!(given.status.code(), Some(1));
     let said = String::from_utf8(given.stdout).unwrap();
     assert!(
-        said.contains("DIFFERENT: trace mixed seed 1 of 24 bytes: the program gives other words")
+        said.contains("DIFFERENT: trace mixed seed 1 of edition 24: the program gives other words")
     );
 }
 

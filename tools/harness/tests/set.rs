@@ -7,7 +7,7 @@ use harness::compare::{
 };
 use harness::generate::{Kind, KINDS};
 use harness::opened::opened;
-use harness::record::{pack, Head, READ, WRITE};
+use harness::record::{pack, Head, Tail, READ, WRITE};
 
 fn reached(cases: impl Iterator<Item = Case>) -> Coverage {
     let mut coverage = Coverage::default();
@@ -75,8 +75,29 @@ fn has_every_family_of_handshakes(coverage: &Coverage) {
         assert!(count > 1000, "{family}: {count}");
     }
     assert!(of.enabled > 200, "enabled midway: {}", of.enabled);
-    // A trace asks for no pings.
-    assert_eq!((of.met.several, of.met.above), (0, 0));
+}
+
+/// What the ping timer meets: each line and edge, each way in which a turn ends.
+fn has_every_family_of_pings(coverage: &Coverage) {
+    let of = &coverage.turns;
+    assert!(of.begun > 200 && of.on > 100_000 && of.alerts > 10_000);
+    assert!(of.lines.iter().all(|count| *count > 5000), "{of:?}");
+    assert!(of.again.iter().all(|count| *count > 200), "{of:?}");
+    assert!(of.none.iter().all(|count| *count > 1000), "{of:?}");
+    assert!(of.by_access.iter().all(|count| *count > 20), "{of:?}");
+    let ends = of
+        .answered
+        .iter()
+        .flatten()
+        .chain(of.failed.iter().flatten());
+    assert!(ends.clone().all(|count| *count > 300), "{of:?}");
+    assert!(of.other_line > 5000 && of.stray > 5000, "{of:?}");
+    assert!(of.changed.iter().all(|count| *count > 200), "{of:?}");
+    assert!(of.waiting > 5000, "{of:?}");
+    // Both ends of 16 bits.
+    assert!(of.far > 2 && of.longest == u16::MAX, "{of:?}");
+    // Every place of the handshake, with a ping that is open and one that opens.
+    assert!(coverage.handshakes.met.least() > 10);
 }
 
 /// Each family of locks at 65534 and 65535 is there.
@@ -108,7 +129,7 @@ fn reaches_every_alert_and_register(edition: Edition, coverage: &Coverage) {
     let own = coverage
         .registers
         .iter()
-        .filter(|at| at.0 == edition.bytes());
+        .filter(|at| at.0 == edition.name());
     assert_eq!(own.map(|at| at.1).collect::<Vec<_>>(), assigned);
 }
 
@@ -175,6 +196,19 @@ fn the_default_set_of_new_records_reaches_all() {
     each_alone(&coverage, &[0, 63, 64, 127, 128, 191, 192, 247]);
 }
 
+#[test]
+fn the_default_set_of_records_with_pings_reaches_all() {
+    let coverage = default_set(Edition::Pings);
+    reaches_every_state_refusal_and_line(&coverage);
+    reaches_every_alert_and_register(Edition::Pings, &coverage);
+    has_every_family_of_shadow_writes(&coverage);
+    has_every_family_of_thresholds(&coverage);
+    has_every_family_of_handshakes(&coverage);
+    has_every_family_of_pings(&coverage);
+    makes_every_move(&coverage);
+    each_alone(&coverage, &[0, 63, 64, 127, 128, 191, 192, 247]);
+}
+
 /// The numbers of accesses in sweeps of all the edition's alerts, refused or not.
 #[test]
 fn sweeps_go_to_both_ends_of_every_block() {
@@ -237,7 +271,8 @@ fn the_same_seed_gives_the_same_bytes() {
 fn records_are_packed_as_the_paper_shows() {
     let hex = |edition, head| {
         let neg = std::array::from_fn(|w| u64::from(w == 0) << 63);
-        let record = pack(edition, head, ([0; WORDS], neg));
+        let tail = Tail::new(0x1234_5678, 0xF4 | 1);
+        let record = pack(edition, head, ([0; WORDS], neg), tail);
         let digits = record.iter().map(|byte| format!("{byte:02x}"));
         digits.collect::<String>()
     };
@@ -259,6 +294,8 @@ fn records_are_packed_as_the_paper_shows() {
     let head = Head::new(WRITE, 1281, 0x393D);
     let wanted = format!("a80800000000393d{}80{}", "00".repeat(31), "00".repeat(30));
     assert_eq!(hex(Edition::Alerts248, head), wanted);
+    // Lines 0 and 2 are answered: bits 3 and 1 of the last byte.
+    assert_eq!(hex(Edition::Pings, head), wanted + "123456780a");
 }
 
 #[test]
@@ -272,7 +309,8 @@ fn a_record_is_taken_apart_as_it_was_packed() {
                 ..Head::new(3, 1, 2)
             },
         ] {
-            let record = pack(edition, head, (Wires::REST.pos, Wires::REST.neg));
+            let wires = (Wires::REST.pos, Wires::REST.neg);
+            let record = pack(edition, head, wires, Tail::new(u32::MAX, 15));
             assert_eq!(record.len(), edition.bytes());
             assert_eq!(Head::of(edition, &record), head);
         }

@@ -1,10 +1,11 @@
 //! Slips that look right, each put into a copy of the reference by replacing
 //! one piece of its text: the default set must find every one of them.
 
-use copied::{library, program, Slip};
+use copied::{library, program, Slip, REFERENCE};
 use handler::Edition;
-use harness::compare::{compare_all, generated, Case, Coverage, DEFAULT_SEED, DEFAULT_TRACES};
+use harness::compare::{compare_all, in_turn, Coverage, DEFAULT_SEED, DEFAULT_TRACES};
 use list::slips;
+use std::fs;
 use std::path::{Path, PathBuf};
 use std::thread;
 
@@ -19,17 +20,17 @@ fn build(number: usize, slip: &Slip) -> PathBuf {
 
 /// Which trace of the default set finds the slip, if one does.
 fn finder(replay: &Path) -> Option<String> {
-    let old = generated(Edition::Alerts64, DEFAULT_SEED).take(DEFAULT_TRACES as usize);
     // In turn, since a slip may show in one edition alone.
-    let cases = old.flat_map(|case| Edition::ALL.map(|edition| Case { edition, ..case }));
+    let traces = Edition::ALL.len() * DEFAULT_TRACES as usize;
+    let cases = in_turn(Edition::ALL.to_vec(), DEFAULT_SEED).take(traces);
     let found = compare_all(replay, cases, &mut Coverage::default()).unwrap()?;
     let (kind, seed) = (found.case.kind.name(), found.case.seed);
-    let bytes = found.case.edition.bytes();
+    let edition = found.case.edition.name();
     let records = found
         .case
         .records
         .map_or(String::new(), |r| format!(" record {r}"));
-    Some(format!("{kind} seed {seed} of {bytes} bytes{records}"))
+    Some(format!("{kind} seed {seed} of edition {edition}{records}"))
 }
 
 /// The slip's name, where the default set does not find it.
@@ -41,6 +42,23 @@ fn missed(number: usize, slip: &Slip) -> Option<&'static str> {
         }
         None => Some(slip.name),
     }
+}
+
+/// Whether the right text of a slip is found exactly once.
+fn stands(slip: &Slip) -> bool {
+    let folders = ["", "bin"].map(|folder| Path::new(REFERENCE).join(folder));
+    let mut files = folders.iter().map(|folder| folder.join(slip.file));
+    let text = files.find_map(|file| fs::read_to_string(file).ok());
+    text.map_or(false, |text| text.matches(slip.right).count() == 1)
+}
+
+#[test]
+fn every_slip_has_its_place() {
+    let lost: Vec<&str> = slips()
+        .filter(|slip| !stands(slip))
+        .map(|slip| slip.name)
+        .collect();
+    assert!(lost.is_empty(), "not once in its file: {lost:?}");
 }
 
 /// On every core: each slip is a program of its own.

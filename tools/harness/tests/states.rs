@@ -3,16 +3,16 @@
 
 use handler::registers::Setting;
 use handler::{Access, Answer, Edition, Handler, Output, Sample, Ticked, Word, ALERTS};
-use harness::bench::{load, start, time, time_boot, LOADS};
+use harness::bench::{load, start, time, time_boot, Load, LOADS};
 use harness::calls::{handler_of, reference_of, with_spare, Found};
 use harness::compare::ANSWERS;
 use harness::rng::Rng;
-use harness::spoil::{Place, WAYS};
+use harness::spoil::{Bit, Place, WAYS};
 use harness::states::{try_all, Subject, Summary, PROVED};
 
 thread_local! {
     /// A configured state of all alerts.
-    static START: Handler = handler_of(&start(Edition::NEWEST));
+    static START: Handler = handler_of(&start(Edition::NEWEST, Load::Quiet));
 }
 
 /// The same of n alerts.
@@ -21,13 +21,17 @@ fn state(n: usize) -> Handler {
 }
 
 /// What a tick of the library answers; a batch of no records says the same, an
-/// old one only of up to 64 alerts.
+/// older one only where the ping timer is off, and the oldest only of up to 64
+/// alerts.
 fn answer(state: &Handler) -> i64 {
     let given = state.tick(Access::Nothing, Sample::AT_REST);
     let (after, answer) = state.batch(Edition::NEWEST, &[], &mut []);
     assert_eq!((given.answer, after), (answer, *state));
-    let old = if state.n > 64 { Answer(-7) } else { answer };
-    assert_eq!(state.batch(Edition::Alerts64, &[], &mut []), (*state, old));
+    for older in [Edition::Alerts64, Edition::Alerts248] {
+        let refused = state.n > older.alerts() || state.timer.is_on();
+        let old = if refused { Answer(-7) } else { answer };
+        assert_eq!(state.batch(older, &[], &mut []), (*state, old));
+    }
     if answer.0 == -7 {
         assert_eq!(given.handler, *state);
         assert_eq!(given.output, Output::AT_REST);
@@ -62,9 +66,10 @@ fn every_register_and_stage_over_its_field_gives_7() {
             tried += 1;
         }
     }
-    // Both interrupt registers, 4 of 12 in a class, all of the sources, and
-    // all stages: 7 of a class, 2 of a source.
-    assert_eq!(tried, 5 * (2 + 16 + 4 * 255 + 28 + 2 * 255));
+    // Both interrupt registers, two of the ping timer's, 4 of 12 in a class,
+    // all of the sources, and all stages: the timeout's, 7 of a class, 2 of a
+    // source.
+    assert_eq!(tried, 5 * (2 + 2 + 16 + 4 * 255 + 1 + 28 + 2 * 255));
 }
 
 #[test]
@@ -77,6 +82,9 @@ fn a_flipped_bit_over_a_field_gives_7() {
                 place.set(&mut h, value ^ (1 << bit));
                 let over = match place {
                     Place::N => h.n > ALERTS,
+                    // The timer is off: no ping may be open.
+                    Place::Receivers(Bit::Pending, word) => 64 * word + (63 - bit as usize) < n,
+                    Place::Lines => bit < 4,
                     Place::Receivers(..) => false,
                     // All classes are Idle: the six other states are not one
                     // bit away or want a count, and a count another state.
@@ -135,7 +143,7 @@ fn only_n_over_248_gives_7() {
 fn both_sides_hold_the_same_state() {
     let mut rng = Rng::new(7);
     let places = Place::all();
-    assert_eq!(places.len(), 3 + 16 + 4 * (12 + 7) + (4 + 2) * 255);
+    assert_eq!(places.len(), 3 + 8 + 16 + 4 * (12 + 7) + (4 + 2) * 255);
     let mut h = state(248);
     for _ in 0..100 {
         let values: Vec<u64> = places.iter().map(|_| rng.bits()).collect();
@@ -154,10 +162,10 @@ fn both_sides_hold_the_same_state() {
 #[test]
 fn every_way_gives_what_it_is_for() {
     let mut summary = Summary::default();
-    assert!(try_all(&PROVED, 1, 20_000, &mut summary).is_none());
-    assert_eq!(summary.refused() + summary.accepted(), 20_000);
+    assert!(try_all(&PROVED, 1, 30_000, &mut summary).is_none());
+    assert_eq!(summary.refused() + summary.accepted(), 30_000);
     for ((_, name), [refused, accepted]) in WAYS.iter().zip(summary.ways) {
-        let never = ["kept", "fitted", "staged", "threshold", "above"].contains(name);
+        let never = ["kept", "fitted", "staged", "threshold", "turn", "above"].contains(name);
         assert_eq!(refused == 0, never, "{name}");
         // Random bytes in every field do not keep the rule.
         assert_eq!(accepted == 0, ["random", "count"].contains(name), "{name}");
@@ -167,10 +175,22 @@ fn every_way_gives_what_it_is_for() {
         assert!([0, 7, 8, 9].iter().all(|number| batches[*number] > 100));
     }
     assert!(summary.over > 1000);
-    // Every place with pings open and asked for, on every pair of wires.
-    assert!(summary.met.least() > 200);
-    assert!(summary.met.several > 1000 && summary.met.above > 1000);
-    assert!(summary.heard.iter().all(|count| *count > 1000));
+    assert!(summary.older > 1000);
+    // Every place with pings that are open and that open, on every pair of
+    // wires.
+    assert!(summary.met.least() > 0, "{}", summary.met);
+    assert!(summary.heard[0] > 1000 && summary.heard[2] > 1000);
+    assert!(summary.heard[1] > 100);
+    let turns = &summary.turns;
+    assert!(turns.on > 3000 && turns.begun > 10 && turns.alerts > 100);
+    assert!(turns.lines.iter().all(|count| *count > 30), "{turns:?}");
+    assert!(turns.none.iter().all(|count| *count > 10), "{turns:?}");
+    let ended = turns.answered.iter().flatten();
+    let ended = ended.chain(turns.failed.iter().flatten());
+    assert!(ended.clone().all(|count| *count > 20), "{turns:?}");
+    assert!(turns.far > 50 && turns.other_line > 100, "{turns:?}");
+    let rare = [&turns.again[..], &turns.by_access[..1], &turns.changed].concat();
+    assert!(rare.iter().all(|count| *count > 0), "{turns:?}");
 }
 
 /// What is found with a wrong subject.
@@ -319,9 +339,23 @@ fn an_old_batch_that_runs_on_65_alerts_is_found() {
 }
 
 #[test]
+fn an_older_batch_that_runs_with_the_timer_on_is_found() {
+    fn batch(h: Handler, e: Edition, bytes: &[u8], out: &mut [Word]) -> (Handler, Answer) {
+        let mut off = h;
+        if e == Edition::Alerts248 {
+            off.timer.enable &= !1;
+        }
+        let (mut after, answer) = off.batch(e, bytes, out);
+        after.timer.enable = h.timer.enable;
+        (after, answer)
+    }
+    assert_eq!(found(Subject { batch, ..PROVED }).odd.field, "answer 7");
+}
+
+#[test]
 fn the_bench_compares_every_word_and_state() {
     for edition in Edition::ALL {
-        for (kind, name) in LOADS {
+        for (kind, name) in LOADS.into_iter().filter(|it| it.0.is_of(edition)) {
             let bytes = load(edition, kind, 1000);
             assert_eq!(bytes.len(), 1000 * edition.bytes());
             assert!(time(edition, kind, name, 1000).equal, "{name}");

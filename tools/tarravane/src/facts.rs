@@ -11,6 +11,7 @@ pub mod stages;
 pub mod starts;
 pub mod tick;
 pub mod ticks;
+pub mod timer;
 pub mod wires;
 
 #[cfg(test)]

@@ -1,6 +1,6 @@
 //! Document 01's words for the numbers of a trace.
 use handler::registers::{Naming, Register, Setting};
-use handler::{Edition, Place, Refusal};
+use handler::{Edition, Place, Refusal, Whose};
 
 /// A register by its name, which is the same in every edition; by its number where the edition has none.
 pub fn register(naming: Naming, edition: Edition, number: u16) -> String {
@@ -89,6 +89,14 @@ pub fn place(place: Place) -> &'static str {
     }
 }
 
+/// Whose ping it is.
+pub fn pinged(of: Whose) -> String {
+    match of {
+        Whose::Alert(i) => format!("ALERT{i}"),
+        Whose::Line(e) => format!("line {e}"),
+    }
+}
+
 /// A refusal of an access or of the writer; `reads` tells which way 2 means.
 pub fn refusal(refusal: Refusal, reads: bool) -> &'static str {
     match refusal.0 {
@@ -112,7 +120,7 @@ pub fn refusal(refusal: Refusal, reads: bool) -> &'static str {
 mod tests {
     use super::*;
 
-    use Edition::{Alerts248, Alerts64};
+    use Edition::{Alerts248, Alerts64, Pings};
 
     #[test]
     fn a_register_without_a_name_goes_by_its_number() {
@@ -122,7 +130,14 @@ mod tests {
             (Alerts64, 321, "CLASSA_CTRL"),
             (Alerts64, 333, "333"),
             (Alerts64, 512, "512"),
+            (Alerts64, 4, "4"),
             (Alerts248, 2, "INTR_TEST"),
+            (Alerts248, 5, "5"),
+            (Pings, 4, "PING_TIMER_REGWEN"),
+            (Pings, 5, "PING_TIMEOUT_CYC"),
+            (Pings, 6, "PING_TIMER_EN"),
+            (Pings, 7, "7"),
+            (Pings, 1281, "CLASSA_CTRL"),
             (Alerts248, 321, "ALERT65_REGWEN"),
             (Alerts248, 1281, "CLASSA_CTRL"),
             (Alerts248, 504, "504"),
@@ -143,7 +158,7 @@ mod tests {
 
     #[test]
     fn values_are_told_by_register() {
-        for (edition, class_a) in [(Alerts64, 320), (Alerts248, 1280)] {
+        for (edition, class_a) in [(Alerts64, 320), (Alerts248, 1280), (Pings, 1280)] {
             assert_eq!(read(edition, class_a + 1, 0x393C), "0x393c");
             assert_eq!(read(edition, class_a + 12, 7), "7 Ph3");
             assert_eq!(written(edition, class_a + 6, u32::MAX), "4294967295");

@@ -4,6 +4,7 @@ mod class;
 mod receivers;
 mod said;
 mod stages;
+mod timer;
 
 use crate::facts::answer;
 use crate::facts::tick::Tick;
@@ -54,26 +55,27 @@ fn columns(t: &Tick, said: &str, form: Form) -> String {
     }
 }
 
-/// The row in the first form that has room for it, with the line of a text, else with the wires counted; receivers that are
-/// not ready by their alerts, else counted. In short form causes may be left out, and are then counted. Open stages are
+/// The row in the first form that has room for it, with the line of a text but its entropy, else with the wires counted;
+/// receivers that are not ready by their alerts, else counted; what the ping timer does. In short form causes may be left out, and are then counted. Open stages are
 /// counted at its end.
 pub fn row(naming: Naming, t: &Tick) -> String {
     let (edition, x) = (t.edition, &t.input);
     let causes = causes::set(&t.before, &t.after);
+    let timer = timer::list(t);
     let whole = said::whole(naming, edition, x);
     for said in [whole, said::counted(naming, edition, x)] {
         for form in [Form::Columns, Form::Squeezed] {
             let start = columns(t, &said, form) + &causes.concat();
             let stages = stages::count(&t.after, form);
             for receivers in [receivers::list(t), receivers::count(t)] {
-                let row = format!("{start}{receivers}{stages}");
+                let row = format!("{start}{receivers}{timer}{stages}");
                 if row.trim_end().len() <= WIDTH {
                     return row.trim_end().to_string();
                 }
             }
         }
     }
-    let end = receivers::count(t) + &stages::count(&t.after, Form::Short);
+    let end = receivers::count(t) + &timer::short(t) + &stages::count(&t.after, Form::Short);
     let room = |short: &String| WIDTH.saturating_sub(short.len() + end.len());
     let mut short = columns(t, &said::shortest(naming, edition, x), Form::Short);
     if room(&short) < causes::least(&causes) {
@@ -83,15 +85,16 @@ pub fn row(naming: Naming, t: &Tick) -> String {
     short + &causes::fitted(&causes, room) + &end
 }
 
-/// The row with every wire, cause, receiver that is not ready and open stage, and the bytes of a malformed record, however wide.
+/// The row with every wire, the entropy, every cause, receiver that is not ready and open stage, and the bytes of a malformed
+/// record, however wide.
 pub fn wide_row(naming: Naming, t: &Tick) -> String {
     let said = if t.is_malformed() {
         said::raw(&t.record, &t.input)
     } else {
-        said::whole(naming, t.edition, &t.input)
+        said::line(naming, t.edition, &t.input)
     };
     let causes = causes::set(&t.before, &t.after).concat();
-    let end = receivers::list(t) + &stages::list(naming, &t.after);
+    let end = receivers::list(t) + &timer::list(t) + &stages::list(naming, &t.after);
     let row = columns(t, &said, Form::Columns) + &causes + &end;
     row.trim_end().to_string()
 }

@@ -5,6 +5,7 @@ mod escalation;
 mod events;
 mod first;
 mod kept;
+mod pings;
 mod refusals;
 mod shadow;
 mod spans;
@@ -16,6 +17,7 @@ use events::Events;
 use first::First;
 use handler::registers::{Naming, LETTERS};
 use handler::CLASSES;
+use pings::Pings;
 use refusals::Refusals;
 use shadow::Shadow;
 
@@ -24,6 +26,7 @@ pub struct Summary {
     first: First,
     classes: [Class; CLASSES],
     events: Events,
+    pings: Pings,
     shadow: Shadow,
     refusals: Refusals,
 }
@@ -35,6 +38,7 @@ impl Summary {
         }
         self.first.add(t);
         self.events.add(t);
+        self.pings.add(t);
         self.shadow.add(t);
         self.refusals.add(t);
     }
@@ -45,13 +49,14 @@ impl Summary {
             all.extend(class.lines(k));
         }
         all.extend(self.events.lines());
+        all.extend(self.pings.lines());
         all.push(self.shadow.line(naming));
         all.extend(self.refusals.lines());
         all
     }
 
-    /// In short: the first event, the classes with a start or a clear, all others in one line, stages that came to nothing,
-    /// and refusals.
+    /// In short: the first event, the classes with a start or a clear, all others in one line, the ping timer where it is on,
+    /// stages that came to nothing, and refusals.
     pub fn short_lines(&self) -> Vec<String> {
         let mut all = vec![self.first.words()];
         let mut quiet = Vec::new();
@@ -66,6 +71,7 @@ impl Summary {
             let quiet = quiet.join(", ");
             all.push(format!("class{es} {quiet}: no start; no clear"));
         }
+        all.extend(self.pings.short_lines());
         all.extend(self.shadow.short_line());
         all.push(self.refusals.line());
         all

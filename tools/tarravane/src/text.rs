@@ -1,5 +1,5 @@
-//! A trace as text: `edition E` where it is not the newest, `alerts N`, then a line for each tick with its access and the
-//! wires that are off rest; `raw` and `cut` for bytes that are no well-formed record. Each part goes both ways: `parse` takes
+//! A trace as text: `edition E` where it is not the newest, `alerts N`, then a line for each tick with its access, the wires
+//! that are off rest, and what the ping timer is given; `raw` and `cut` for bytes that are no well-formed record. Each part goes both ways: `parse` takes
 //! words, `words` gives them.
 pub mod access;
 pub mod alerts;
@@ -7,6 +7,8 @@ pub mod edition;
 mod hex;
 pub mod line;
 pub mod lines;
+mod pings;
+pub mod sample;
 pub mod wires;
 mod word;
 

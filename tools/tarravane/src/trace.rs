@@ -24,9 +24,14 @@ pub fn opened(name: &str) -> Result<(Trace, Option<u64>), String> {
     Ok((Cursor::new(looked_at).chain(from), bytes))
 }
 
-/// What is said of a trace that replays.
+/// What is said of a trace that replays. Records of 75 bytes are of more than one edition to come, so theirs is named.
 pub fn title(edition: Edition, alerts: usize) -> String {
-    format!("alerts: {alerts}; records of {} bytes", edition.bytes())
+    let (bytes, name) = (edition.bytes(), edition.name());
+    let named = match name == bytes.to_string() {
+        true => String::new(),
+        false => format!(", edition {name}"),
+    };
+    format!("alerts: {alerts}; records of {bytes} bytes{named}")
 }
 
 /// What is said of a cut trace: `left` bytes after so many records.

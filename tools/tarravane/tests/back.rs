@@ -2,7 +2,9 @@
 mod common;
 
 use common::random;
-use common::records::{all_at, apart, off_rest, record, record_248, record_64, start, REST};
+use common::records::{
+    all_at, apart, off_rest, record, record_248, record_64, record_pings, start, REST,
+};
 use common::round::{goes_round, text_of, trace_of};
 use common::{example, examples, given, refused};
 use handler::{Edition, Wires};
@@ -58,6 +60,31 @@ write ALERT65_REGWEN 1
 }
 
 #[test]
+fn the_words_of_each_record_of_75_bytes() {
+    let bytes = [
+        vec![254, 248],
+        record_pings(2, 6, 1, Wires::REST, (0x10_0003, 0)),
+        record_pings(0, 0, 0, off_rest(&[(16, 0b10)]), (1, 0b1001)),
+        record_pings(1, 4, 0, Wires::REST, (0, 0b0010)),
+        record_pings(2, 5, 65535, off_rest(&[(247, 0b11)]), (u32::MAX, 15)),
+        record_pings(0, 0, 0, Wires::REST, (0, 0)),
+    ]
+    .concat();
+    let text = "\
+edition pings
+alerts 248
+write PING_TIMER_EN 1 entropy 0x100003
+none wires 16=10 entropy 0x1 answers 0 3
+read PING_TIMER_REGWEN answers 1
+write PING_TIMEOUT_CYC 65535 wires 247=11 entropy 0xffffffff answers 0 1 2 3
+none
+";
+    assert_eq!(text_of(&bytes), text);
+    assert_eq!(given("record", &["-"], text.as_bytes()), bytes);
+    assert_eq!(text_of(&[254, 64]), "edition pings\nalerts 64\n");
+}
+
+#[test]
 fn examples_go_round() {
     for name in examples("trace") {
         goes_round(&fs::read(example(&format!("{name}.trace"))).expect("the example"));
@@ -91,7 +118,8 @@ fn random_traces_go_round() {
 /// Every register that a record has room for, read and written.
 #[test]
 fn every_register_goes_round() {
-    for (edition, registers) in [(Edition::Alerts64, 1024), (Edition::Alerts248, 2048)] {
+    for edition in Edition::ALL {
+        let registers = 1 << edition.register_bits();
         let mut bytes = start(edition, edition.alerts() as u8);
         for register in 0..registers {
             bytes.extend(record(edition, 1, register, 0, Wires::REST));

@@ -65,6 +65,8 @@ fn the_table_is_that_of_the_state() {
                 "class threshold timeout phase 0 phase 1 phase 2 phase 3 CTRL locked".to_string(),
             );
             wanted.extend((0..4).map(|k| class_row(h, k)));
+            // The policy writes none of its registers.
+            wanted.push("ping timer: off, timeout 0, not locked".to_string());
             wanted.push("installed: every register that was written reads back".to_string());
             let lower = name.to_ascii_lowercase();
             let got = shown(&[&lower, "--alerts", &n.to_string()]);
@@ -98,7 +100,7 @@ fn the_trace_is_the_boot() {
                 (last, ticks) = (ran.after, ran.number);
             });
             assert_eq!(edition, Edition::NEWEST);
-            assert_eq!(bytes.len() as u64, 2 + 70 * ticks);
+            assert_eq!(bytes.len() as u64, 2 + edition.bytes() as u64 * ticks);
             assert!(last == new(n).install(lifecycle).handler, "{name} {n}");
         }
     }
@@ -114,7 +116,7 @@ fn the_trace_has_every_tick_of_the_boot() {
         waiting.classes[0].count = 1;
         waiting.classes[0].lengths[3] = u32::MAX;
         let records = trace(&folder, name, 58).split_off(2);
-        let ticks = records.len() / 70;
+        let ticks = records.len() / Edition::NEWEST.bytes();
         let mut out = vec![Word::default(); ticks];
         let (after, answer) = waiting.batch(Edition::NEWEST, &records, &mut out);
         assert_eq!(answer.value(), Ok(0));

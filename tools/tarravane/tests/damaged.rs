@@ -2,7 +2,7 @@
 mod common;
 
 use common::random;
-use common::records::{off_rest, record, record_248, record_64, start, REST};
+use common::records::{off_rest, record, record_248, record_64, record_pings, start, REST};
 use common::round::{goes_round, trace_of};
 use common::{ended, example, examples, given, refused, said_of};
 use handler::registers::Setting;
@@ -27,8 +27,9 @@ fn any_bytes_go_round() {
     for length in 0..=300 {
         let bytes = random::bytes(&mut rng, length);
         goes_round(&bytes);
-        // The same after a mark, and with an N that is taken.
+        // The same after each mark, and with an N that is taken.
         goes_round(&[&[255], &bytes[..]].concat());
+        goes_round(&[&[254], &bytes[..]].concat());
         let edition = rng.pick(&Edition::ALL);
         let n = 1 + rng.index(edition.alerts()) as u8;
         goes_round(&[start(edition, n), bytes].concat());
@@ -73,19 +74,31 @@ fn malformed(edition: Edition) -> Vec<Vec<u8>> {
     let zeros = 32..32 + edition.zero_bits();
     bad.extend(zeros.clone().map(|bit| rest(2, ctrl, 1 << bit)));
     bad.extend(zeros.map(|bit| rest(0, 0, 1 << bit)));
+    if edition.has_timer() {
+        // The zero bits before the answers.
+        bad.extend((4..8).map(|bit| {
+            let mut record = record_pings(0, 0, 0, Wires::REST, (7, 15));
+            record[74] |= 1 << bit;
+            record
+        }));
+    }
     bad
 }
 
 #[test]
 fn a_record_that_is_not_well_formed_is_raw() {
-    for (edition, zeros) in [(Edition::Alerts64, 20), (Edition::Alerts248, 19)] {
+    for (edition, zeros, last) in [
+        (Edition::Alerts64, 20, 0),
+        (Edition::Alerts248, 19, 0),
+        (Edition::Pings, 19, 4),
+    ] {
         let (good, all) = (read_ctrl(edition), malformed(edition));
-        assert_eq!(all.len(), 7 + 2 * zeros);
+        assert_eq!(all.len(), 7 + 2 * zeros + last);
         for bad in all {
             let hex = hex(&bad);
             let bytes = [start(edition, 1), good.clone(), bad, good.clone()].concat();
             let line = "read CLASSA_CTRL\n";
-            let head = format!("edition {}\nalerts 1\n", edition.bytes());
+            let head = format!("edition {}\nalerts 1\n", edition.name());
             let text = format!("{head}{line}raw {hex}\n{line}");
             assert_eq!(given("record", &["--back", "-"], &bytes), text.as_bytes());
             assert_eq!(given("record", &["-"], text.as_bytes()), bytes);
@@ -100,7 +113,7 @@ fn a_cut_end_is_told_and_written() {
         for rest in 1..edition.bytes() {
             let bytes = [&start(edition, 1)[..], &good, &good[..rest]].concat();
             let (text, said) = ended("record", &["--back", "-"], &bytes, 1);
-            let head = format!("edition {}\nalerts 1\n", edition.bytes());
+            let head = format!("edition {}\nalerts 1\n", edition.name());
             let wanted = format!("{head}read CLASSA_CTRL\ncut {}\n", hex(&good[..rest]));
             assert_eq!(String::from_utf8_lossy(&text), wanted);
             let bytes_left = if rest == 1 { "byte" } else { "bytes" };
@@ -140,6 +153,11 @@ fn a_trace_without_a_handler_is_told_and_written() {
     let none = [vec![255, 249], record_248(0, 0, 0, Wires::REST)].concat();
     let text = "edition 70\nalerts 249\nnone\n";
     is_refused(none, text, &asks(249, 70, 248));
+    let ends = "the trace ends after 254: the number of alerts comes next";
+    is_refused(vec![254], "edition pings\n", ends);
+    let none = [vec![254, 249], record_pings(0, 0, 0, Wires::REST, (9, 1))].concat();
+    let text = "edition pings\nalerts 249\nnone entropy 0x9 answers 0\n";
+    is_refused(none, text, &asks(249, 75, 248));
 }
 
 #[test]
@@ -152,12 +170,13 @@ fn a_missing_trace_is_told() {
 #[test]
 fn an_n_that_is_refused_is_written() {
     for (edition, all, last) in [
-        (Edition::Alerts64, [0, 65, 254], 63),
+        (Edition::Alerts64, [0, 65, 253], 63),
         (Edition::Alerts248, [0, 249, 255], 247),
+        (Edition::Pings, [0, 254, 255], 247),
     ] {
-        let bytes = edition.bytes();
+        let (bytes, name) = (edition.bytes(), edition.name());
         for n in all {
-            let text = format!("edition {bytes}\nalerts {n}\nnone wires {last}=10\n");
+            let text = format!("edition {name}\nalerts {n}\nnone wires {last}=10\n");
             let (trace, said) = ended("record", &["-"], text.as_bytes(), 1);
             let none = record(edition, 0, 0, 0, off_rest(&[(last, 0b10)]));
             assert_eq!(trace, [start(edition, n), none].concat());
@@ -194,6 +213,11 @@ fn a_text_without_n_gives_what_comes_before_it() {
             &[255],
             "the trace ends after 255: the number of alerts comes next",
         ),
+        (
+            "edition pings\n",
+            &[254],
+            "the trace ends after 254: the number of alerts comes next",
+        ),
     ] {
         let (trace, said) = ended("record", &["-"], text.as_bytes(), 1);
         assert_eq!(trace, bytes);
@@ -209,7 +233,7 @@ fn bytes_of_a_text_are_passed_as_they_are() {
         let upper = |bytes: &[u8]| hex(bytes).to_uppercase();
         let text = format!(
             "edition {}\nalerts 1\nnone\nraw {} # damaged\nraw {}\nread CLASSA_CTRL\ncut {}\n\n# the end\n",
-            edition.bytes(),
+            edition.name(),
             upper(&bad),
             upper(&good),
             upper(&good[..5])

@@ -1,4 +1,4 @@
-//! What is particular to an edition of a trace, and what is the same in both.
+//! What is particular to an edition of a trace, and what is the same in all.
 mod common;
 
 use common::records::{apart, configure, off_rest, record, record_248, record_64, start, REST};
@@ -19,6 +19,10 @@ fn the_title_names_the_edition() {
         (&[64][..], "alerts: 64; records of 24 bytes"),
         (&[255, 64], "alerts: 64; records of 70 bytes"),
         (&[255, 248], "alerts: 248; records of 70 bytes"),
+        (
+            &[254, 248],
+            "alerts: 248; records of 75 bytes, edition pings",
+        ),
     ] {
         assert_eq!(
             title(&["-"], bytes),
@@ -31,18 +35,24 @@ fn the_title_names_the_edition() {
     }
 }
 
-/// The same ticks in both editions have the same rows.
+/// The same ticks in every edition have the same rows; a summary of one with a ping timer says that it is off.
 #[test]
 fn editions_differ_in_their_title_alone() {
     let old = fs::read(example("broken-seal.trace")).expect("the example");
     let text = String::from_utf8(given("record", &["--back", "-"], &old)).expect("text");
-    let text = text.replace("edition 24", "edition 70");
-    let new = given("record", &["-"], text.as_bytes());
-    assert_eq!(new.len(), 2 + 70 * 37);
-    for words in [&["-"][..], &["-", "--summary"], &["-", "--only-changes"]] {
-        let [old, new] = [&old, &new].map(|bytes| explained(words, bytes));
-        assert_ne!(old[0], new[0]);
-        assert_eq!(old[1..], new[1..]);
+    for (name, bytes) in [("70", 70), ("pings", 75)] {
+        let text = text.replace("edition 24", &format!("edition {name}"));
+        let new = given("record", &["-"], text.as_bytes());
+        assert_eq!(new.len(), 2 + bytes * 37);
+        for words in [&["-"][..], &["-", "--summary"], &["-", "--only-changes"]] {
+            let [old, mut new] = [&old, &new].map(|bytes| explained(words, bytes));
+            assert_ne!(old[0], new[0]);
+            if let Some(at) = new.iter().position(|line| line == "ping timer: off") {
+                assert_eq!((name, words.len(), words[1]), ("pings", 2, "--summary"));
+                new.remove(at);
+            }
+            assert_eq!(old[1..], new[1..]);
+        }
     }
 }
 
@@ -154,6 +164,7 @@ fn a_number_has_the_name_of_its_edition() {
         (512, "512", "ALERT0_EN"),
         (1015, "1015", "ALERT247_CLASS"),
         (1023, "1023", "1023"),
+        (5, "5", "5"),
     ] {
         for (edition, name) in [(Edition::Alerts64, old), (Edition::Alerts248, new)] {
             let read = record(edition, 1, number, 0, Wires::REST);
@@ -170,7 +181,11 @@ fn a_bad_edition_is_told() {
     for (text, problem) in [
         (
             "edition 25\nalerts 2",
-            "line 1: edition wants the bytes of a record, 24 or 70, not 25",
+            "line 1: edition wants a name: 24, 70, pings, not 25",
+        ),
+        (
+            "edition 75\nalerts 2",
+            "line 1: edition wants a name: 24, 70, pings, not 75",
         ),
         (
             "edition 24\n\nalerts",
@@ -187,6 +202,22 @@ fn a_bad_edition_is_told() {
         (
             "edition 24\nalerts 255",
             "line 2: a first byte of 255 is that of edition 70",
+        ),
+        (
+            "edition 24\nalerts 254",
+            "line 2: a first byte of 254 is that of edition pings",
+        ),
+        (
+            "edition 70\nalerts 2\nnone entropy 1",
+            "line 3: edition 70 has no entropy",
+        ),
+        (
+            "edition 24\nalerts 2\nnone answers 1",
+            "line 3: edition 24 has no answers",
+        ),
+        (
+            "edition 70\nalerts 2\nread PING_TIMER_EN",
+            "line 3: no such register: PING_TIMER_EN",
         ),
         (
             "alerts 2\nedition 24",

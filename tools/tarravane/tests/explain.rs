@@ -364,16 +364,34 @@ fn helps(command: &str, own: &[&str], other: &str) {
 fn each_command_has_its_own_help() {
     let options = ["--from", "--to", "--only-changes", "--wide", "--summary"];
     helps("explain", &options, "--back");
-    let editions = ["records of 70 bytes", "records of 24 bytes"];
-    helps("explain", &editions, "-o TRACE");
+    for edition in Edition::ALL {
+        let records = format!("records of {} bytes", edition.bytes());
+        helps("explain", &[&records], "-o TRACE");
+        let edition = format!("edition {}", edition.name());
+        helps("record", &[&edition], "--only-changes");
+    }
     helps("record", &["--back", "-o", "raw HEX", "cut HEX"], "--wide");
-    helps("record", &["edition 24", "edition 70"], "--only-changes");
     let staged = ["[2 staged]", "committed", "refused: differs", "unstaged"];
     helps("explain", &staged, "two equal lines");
     helps("record", &["two equal lines"], "unstaged");
     let receivers = ["[ack 0]", "[pause1 0]", "[pause2 0]", "^3"];
     helps("explain", &receivers, "ALERT0_ACK");
     helps("wave", &["ALERT0_PLACE", "ALERT0_ACK"], "[ack 0]");
+    let pings = [
+        "[turn 4 in 9]",
+        "[ping 4]",
+        "[answer 4]",
+        "[fail 4]",
+        "[unsent 4]",
+        "@pft",
+    ];
+    helps("explain", &pings, "TURN");
+    helps(
+        "wave",
+        &["PING_TIMER_EN", "TURN", "ANSWERED", "FAILED"],
+        "[turn",
+    );
+    helps("record", &["entropy WORD", "answers E"], "[turn");
     let help = String::from_utf8(given("explain", &["--help"], &[])).expect("text");
     let order = "The answer is given before the tick's events;";
     assert!(help.contains(order));

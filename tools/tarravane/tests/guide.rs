@@ -5,13 +5,15 @@ mod common;
 use common::{example, explained};
 use std::fs;
 
-const TEXTS: [&str; 6] = [
+/// Those of the guide, and one of a ping that fails.
+const TEXTS: [&str; 7] = [
     "initialise",
     "interrupt-in-time",
     "interrupt-too-late",
     "clear-locked-by-software",
     "interrupt-test",
     "fast-track",
+    "stuck-sender",
 ];
 
 fn read(name: &str) -> String {
@@ -108,11 +110,12 @@ fn initialise() {
         told("initialise"),
         [
             "events:",
-            "  ALERT1: 1 event, at 67",
-            "  ALERT2: 1 event, at 65; 1 while disabled",
-            "shadow writes: 24 staged, 24 committed; dropped none; open at the end none",
+            "  ALERT1: 1 event, at 83",
+            "  ALERT2: 1 event, at 81; 1 while disabled",
+            "ping timer: on at 71; 1 ping: 1 answered",
+            "shadow writes: 29 staged, 29 committed; dropped none; open at the end none",
             "other refusals, by number:",
-            "  3 (locked): 3 times",
+            "  3 (locked): 4 times",
         ]
     );
 }

@@ -36,6 +36,8 @@ fn bits(register: Register) -> u32 {
     match register {
         Register::Local(field, _) | Register::Alert(field, _) => field.bits(),
         Register::Class(_, setting) => setting.bits(),
+        Register::PingRegwen | Register::PingEnable => 1,
+        Register::PingTimeout => 16,
         _ => INTR_BITS,
     }
 }
@@ -62,8 +64,9 @@ fn check(register: Register, cells: &[String]) {
         "{cell} {papers}"
     );
     assert_eq!(MAP.number(register), Some(number(&cells[3])), "{register}");
-    let old = MAP_64.number(register);
-    assert_eq!(old, Some(number(&cells[4])), "{register}");
+    let old = Some(&cells[4]).filter(|cell| *cell != "-");
+    let old = old.map(|cell| number(cell));
+    assert_eq!(MAP_64.number(register), old, "{register}");
     assert_eq!(bits(register).to_string(), cells[5], "{register}");
     assert_eq!(register.is_shadowed(), cells[2].ends_with(" (s)"));
 }
@@ -79,11 +82,12 @@ fn the_table_has_every_register() {
                 check(register, &cells);
                 seen.push(register);
             }
-            None => assert!(["with", "none"].contains(&name), "{name}"),
+            None => assert_eq!(name, "none"),
         }
     }
-    // Three, an alert's four, a local alert's four, and a class's 13 with one line for its four phases.
-    assert_eq!(seen.len(), 3 + 4 + 4 + 10);
+    // Three of interrupts, three of the ping timer, an alert's four, a local alert's four, and a class's 13 with one line for
+    // its four phases.
+    assert_eq!(seen.len(), 3 + 3 + 4 + 4 + 10);
     let mut numbers: Vec<u16> = seen.iter().filter_map(|it| MAP.number(*it)).collect();
     numbers.sort_unstable();
     numbers.dedup();
@@ -122,10 +126,10 @@ fn accesses(rows: &[String]) -> Vec<String> {
     rows[2..].iter().map(access).collect()
 }
 
-/// A text in the papers' names gives the same bytes, in both editions, and `explain --papers` shows them again.
+/// A text in the papers' names gives the same bytes, in every edition, and `explain --papers` shows them again.
 #[test]
 fn record_takes_both_names_and_explain_shows_them() {
-    for edition in ["", "edition 24\n"] {
+    for edition in ["", "edition 70\n", "edition 24\n"] {
         let [ours, papers] = [OURS, PAPERS].map(|text| {
             let trace = given("record", &["-"], format!("{edition}{text}").as_bytes());
             (trace, text.lines().skip(1).map(str::trim))
@@ -143,6 +147,29 @@ fn record_takes_both_names_and_explain_shows_them() {
     ] {
         let problem = format!("line 2: no such register: {name}");
         assert_eq!(said_of(format!("alerts 6\nread {name}")), problem);
+    }
+}
+
+/// Of the newest edition also those of the ping timer.
+#[test]
+fn the_ping_timer_has_both_names() {
+    let [ours, papers] = ["PING_TIMEOUT_CYC", "PING_TIMEOUT_CYC_SHADOWED"].map(|name| {
+        let text =
+            format!("alerts 1\nwrite {name} 9\nread PING_TIMER_EN\nread PING_TIMER_REGWEN\n");
+        (given("record", &["-"], text.as_bytes()), name)
+    });
+    assert_eq!(ours.0, papers.0);
+    for (words, name) in [(&["-"][..], ours.1), (&["-", "--papers"], papers.1)] {
+        let shown = accesses(&explained(words, &ours.0));
+        let first = format!("write {name} 9");
+        assert_eq!(
+            shown,
+            [&first, "read PING_TIMER_EN", "read PING_TIMER_REGWEN"]
+        );
+    }
+    for edition in ["24", "70"] {
+        let said = said_of(format!("edition {edition}\nalerts 6\nread PING_TIMER_EN"));
+        assert_eq!(said, "line 3: no such register: PING_TIMER_EN");
     }
 }
 

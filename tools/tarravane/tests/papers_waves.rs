@@ -77,7 +77,7 @@ fn the_waves_are_those_of_the_cases() {
         match wave.as_str() {
             "W5" | "W6" => check(&wave, block, CLASS),
             "W1" => check(&wave, block, RECEIVER),
-            "W2" => check(&wave, block, &[&[("asked", 2)], RECEIVER].concat()),
+            "W2" => check(&wave, block, &[&[("ping opens", 2)], RECEIVER].concat()),
             "W4" => check(
                 &wave,
                 block,

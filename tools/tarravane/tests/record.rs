@@ -2,7 +2,7 @@
 mod common;
 
 use common::folder::Folder;
-use common::records::{all_at, off_rest, record, record_248};
+use common::records::{all_at, off_rest, record, record_248, record_pings};
 use common::{ended, example, examples, given, refused, said_of};
 use handler::{Edition, Wires};
 use std::fs;
@@ -49,14 +49,49 @@ fn each_line_is_a_record() {
         record_248(2, 0, 0xFFFF_FFFF, all_at(Edition::Alerts248, 0b00)),
     ]
     .concat();
-    assert_eq!(trace_of(text), wanted);
     assert_eq!(trace_of(&format!("edition 70\n{text}")), wanted);
+    // The newest has five bytes more.
+    let grown: Vec<u8> = wanted[2..]
+        .chunks(70)
+        .flat_map(|record| [record, &[0; 5]].concat())
+        .collect();
+    let wanted = [&[254, 248], &grown[..]].concat();
+    assert_eq!(trace_of(text), wanted);
+    assert_eq!(trace_of(&format!("edition pings\n{text}")), wanted);
+}
+
+/// What the ping timer is given, in any order after the access.
+#[test]
+fn a_line_has_entropy_and_answers() {
+    let text = "
+        alerts 2
+        write PING_TIMER_EN 1 entropy 0x10003
+        none answers 3 0 wires 1=10 entropy 1
+        read PING_TIMEOUT_CYC_SHADOWED answers 2
+    ";
+    let wanted = [
+        vec![254, 2],
+        record_pings(2, 6, 1, Wires::REST, (0x1_0003, 0)),
+        record_pings(0, 0, 0, off_rest(&[(1, 0b10)]), (1, 0b1001)),
+        record_pings(1, 5, 0, Wires::REST, (0, 0b0100)),
+    ]
+    .concat();
+    assert_eq!(trace_of(text), wanted);
+    for (line, problem) in [
+        ("none entropy", "entropy wants a word of 32 bits"),
+        ("none answers 4", "no such line, 0 to 3: 4"),
+        ("none entropy 1 entropy 1", "entropy stands twice"),
+        ("none wires 0=10 answers", "answers wants lines, 0 to 3"),
+    ] {
+        assert_eq!(said_of_line(line), format!("line 2: {problem}"));
+    }
 }
 
 #[test]
 fn no_ticks_are_a_trace_too() {
-    assert_eq!(trace_of("alerts 248"), [255, 248]);
-    assert_eq!(trace_of("alerts 1\n\n# nothing\n"), [255, 1]);
+    assert_eq!(trace_of("alerts 248"), [254, 248]);
+    assert_eq!(trace_of("alerts 1\n\n# nothing\n"), [254, 1]);
+    assert_eq!(trace_of("edition 70\nalerts 64"), [255, 64]);
     assert_eq!(trace_of("edition 24\nalerts 64"), [64]);
 }
 
@@ -229,7 +264,7 @@ fn bytes_that_are_no_text_are_told() {
     let long = [&b"alerts 1\nnone "[..], &[b'x'; 10_000_000]].concat();
     assert_eq!(said_of(long), "line 2: longer than 4096 bytes");
     let comment = [&b"alerts 1\nnone #"[..], &[b'x'; 10_000_000]].concat();
-    assert_eq!(given("record", &["-"], &comment).len(), 2 + 70);
+    assert_eq!(given("record", &["-"], &comment).len(), 2 + 75);
 }
 
 /// More ticks than the writer is asked for at once; a bad one among them is found by its line.
@@ -238,6 +273,7 @@ fn a_long_text() {
     for (head, start, registers, alerts) in [
         ("edition 24\nalerts 64\n", &[64][..], 1024, 64),
         ("edition 70\nalerts 248\n", &[255, 248], 2048, 248),
+        ("edition pings\nalerts 248\n", &[254, 248], 2048, 248),
     ] {
         let line = |i: usize| format!("write {} {i} wires {}=10\n", i % registers, i % alerts);
         let lines: Vec<String> = (0..20_000).map(line).collect();
@@ -264,12 +300,13 @@ fn a_file_is_there_whole_or_not_at_all() {
     assert_eq!(folder.names(), ["a.txt"]);
     fs::write(&text, "alerts 1\nnone\n").expect("a text");
     assert!(given("record", &[&text, "-o", &trace], &[]).is_empty());
-    let whole = [vec![255, 1], record_248(0, 0, 0, Wires::REST)].concat();
+    let none = record_pings(0, 0, 0, Wires::REST, (0, 0));
+    let whole = [vec![254, 1], none].concat();
     assert_eq!(fs::read(&trace).expect("the trace"), whole);
     refused("record", &["-", "-o", &trace], b"alerts 2\nnome\n");
     assert_eq!(fs::read(&trace).expect("the trace"), whole);
     given("record", &["-", "-o", &trace], b"alerts 2");
-    assert_eq!(fs::read(&trace).expect("the trace"), [255, 2]);
+    assert_eq!(fs::read(&trace).expect("the trace"), [254, 2]);
     assert_eq!(folder.names(), ["a.trace", "a.txt"]);
 }
 

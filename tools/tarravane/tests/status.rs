@@ -2,7 +2,7 @@
 mod common;
 
 use common::folder::Folder;
-use common::records::{record, record_248, record_64, start, REST};
+use common::records::{record, record_248, record_64, record_pings, start, REST};
 use common::{ended, example, program, run};
 use handler::registers::Setting;
 use handler::{Edition, Wires};
@@ -31,6 +31,8 @@ fn a_whole_trace_is_0() {
         [vec![64], record_64(3, 0, 0, REST)].concat(),
         vec![255, 1],
         [vec![255, 248], record_248(3, 0, 0, Wires::REST)].concat(),
+        vec![254, 1],
+        [vec![254, 248], record_pings(3, 0, 0, Wires::REST, (9, 15))].concat(),
     ] {
         for (command, words) in READERS {
             let (_, said) = ended(command, words, &bytes, 0);
@@ -67,7 +69,8 @@ fn a_refused_n_is_1() {
         )
     };
     let empty = "refused: the trace is empty: it begins with the number of alerts";
-    let ends = "refused: the trace ends after 255: the number of alerts comes next";
+    let ends =
+        |mark| format!("refused: the trace ends after {mark}: the number of alerts comes next");
     for (bytes, why) in [
         (vec![], empty.to_string()),
         (vec![0], asks(0, 24, 64)),
@@ -75,8 +78,11 @@ fn a_refused_n_is_1() {
             [vec![65], record_64(0, 0, 0, REST)].concat(),
             asks(65, 24, 64),
         ),
-        (vec![254; 25], asks(254, 24, 64)),
-        (vec![255], ends.to_string()),
+        (vec![253; 25], asks(253, 24, 64)),
+        (vec![254], ends(254)),
+        (vec![254, 0], asks(0, 75, 248)),
+        (vec![254; 77], asks(254, 75, 248)),
+        (vec![255], ends(255)),
         (vec![255, 0], asks(0, 70, 248)),
         (vec![255, 249], asks(249, 70, 248)),
         (vec![255; 72], asks(255, 70, 248)),

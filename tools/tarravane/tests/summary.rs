@@ -3,17 +3,22 @@ mod common;
 
 use common::{configured, example, explained, given};
 
-/// The summary of the trace of a text, with `configure` for two equal writes: the same in both editions, but for the title.
+/// The summary of the trace of a text, with `configure` for two equal writes.
+fn summary_of(edition: &str, text: &str) -> Vec<String> {
+    let text = format!("edition {edition}\n{}", configured(text));
+    let trace = given("record", &["-"], text.as_bytes());
+    explained(&["--summary", "-"], &trace)
+}
+
+/// It is the same in every edition, but for the title, and that the ping timer is off where there is one.
 fn summary(text: &str) -> Vec<String> {
-    let text = configured(text);
-    let [old, new] = ["edition 24\n", ""].map(|edition| {
-        let text = format!("{edition}{text}");
-        let trace = given("record", &["-"], text.as_bytes());
-        explained(&["--summary", "-"], &trace)
-    });
-    assert_ne!(old[0], new[0]);
-    assert_eq!(old[1..], new[1..]);
-    new
+    let [first, second, mut newest] = ["24", "70", "pings"].map(|name| summary_of(name, text));
+    let off = newest.iter().position(|line| line == "ping timer: off");
+    newest.remove(off.expect("a line of the ping timer"));
+    assert!(first[0] != second[0] && second[0] != newest[0]);
+    assert_eq!(first[1..], second[1..]);
+    assert_eq!(second[1..], newest[1..]);
+    second
 }
 
 /// The lines of class A, without the first.

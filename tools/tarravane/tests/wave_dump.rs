@@ -8,7 +8,7 @@ use common::vcd::Dump;
 use common::wave::{dump, wave};
 use common::{ended, example, examples, given};
 use handler::registers::{Setting, LETTERS};
-use handler::{Edition, Place, Wires};
+use handler::{Edition, Handler, Place, Whose, Wires, WORDS};
 use harness::compare::{generated, Case};
 use std::fs;
 
@@ -67,11 +67,27 @@ fn clears(edition: Edition, t: &Ran, k: usize) -> bool {
     t.record[..8] == head[..8] && t.word.refusal().is_none()
 }
 
-/// The pair, event and cause of an alert in a tick. Traces ask for no pings, so a rise that is taken is an event.
-fn alert(edition: Edition, t: &Ran, i: usize) -> (u8, bool, bool) {
+fn bit(words: &[u64; WORDS], i: usize) -> bool {
+    words[i / 64] >> (63 - i % 64) & 1 == 1
+}
+
+/// Is the alert's ping open in a tick: before it, or opened in it, which changes the level of its ping pair?
+fn pinged(t: &Ran, i: usize) -> bool {
+    let [before, after] = [&t.before, &t.after].map(|h| &h.links.receivers);
+    bit(&before.pending, i) || bit(&before.level, i) != bit(&after.level, i)
+}
+
+fn level(t: &Ran, i: usize) -> bool {
+    bit(&t.after.links.receivers.level, i)
+}
+
+/// The pair, event, cause and answer of an alert in a tick. A rise that is taken answers an open ping, or is an event.
+fn alert(edition: Edition, t: &Ran, i: usize) -> (u8, bool, bool, bool) {
     let pair = t.pair(edition, i);
-    let event = pair == 0b10 && place(t, i) == Place::Ready;
-    (pair, event, t.after.alerts.cause[i] == 1)
+    let taken = pair == 0b10 && place(t, i) == Place::Ready;
+    let pinged = pinged(t, i);
+    let cause = t.after.alerts.cause[i] == 1;
+    (pair, taken && !pinged, cause, taken && pinged)
 }
 
 /// Where the receiver of an alert stands as a tick begins.
@@ -85,10 +101,15 @@ fn check_receiver(dump: &Dump, ticks: &[Ran], i: usize, all: bool) {
     let shaken = |t: &Ran| place(t, i) != Place::Ready;
     assert_eq!(dump.has(&name("PLACE")), all || ticks.iter().any(shaken));
     assert_eq!(dump.has(&name("ACK")), dump.has(&name("PLACE")));
+    let was_pinged = |t: &Ran| pinged(t, i) || level(t, i);
+    let has_ping = all || ticks.iter().any(was_pinged);
     assert_eq!(
         [dump.has(&name("PING")), dump.has(&name("ANSWER"))],
-        [all; 2]
+        [has_ping; 2]
     );
+    for t in ticks.iter().filter(|_| has_ping) {
+        assert_eq!(dump.is_on(&name("PING"), t.number), level(t, i));
+    }
     for t in ticks.iter().filter(|_| dump.has(&name("PLACE"))) {
         let stands = match place(t, i) {
             Place::Ready => "Ready",
@@ -99,24 +120,52 @@ fn check_receiver(dump: &Dump, ticks: &[Ran], i: usize, all: bool) {
         assert_eq!(dump.at(&name("PLACE"), t.number), stands);
         let acknowledges = stands == "Acknowledged";
         assert_eq!(dump.is_on(&name("ACK"), t.number), acknowledges);
-        assert!(!all || !dump.is_on(&name("PING"), t.number));
     }
 }
 
 /// What is in the dump of alert i: all that the ticks say of it. Nothing only where it never moves.
 fn check_alert(dump: &Dump, edition: Edition, ticks: &[Ran], i: usize, all: bool) {
     let name = |what: &str| format!("alerts.ALERT{i}_{what}");
-    let moves = |t: &Ran| alert(edition, t, i) != (0b01, false, false);
+    let moves = |t: &Ran| alert(edition, t, i) != (0b01, false, false, false) || pinged(t, i);
     assert_eq!(dump.has(&name("PAIR")), all || ticks.iter().any(moves));
     if !dump.has(&name("PAIR")) {
         return;
     }
     assert_eq!(dump.at(&name("PAIR"), 0), "1");
     for t in ticks {
-        let (pair, event, cause) = alert(edition, t, i);
+        let (pair, event, cause, answer) = alert(edition, t, i);
         assert_eq!(dump.at(&name("PAIR"), t.number), pair.to_string());
         assert_eq!(dump.is_on(&name("EVENT"), t.number), event);
         assert_eq!(dump.is_on(&name("CAUSE"), t.number), cause);
+        assert!(!answer || dump.is_on(&name("ANSWER"), t.number));
+    }
+}
+
+/// The turn that each tick meets, and whether its ping is open in it; nothing where the timer never goes on.
+fn check_timer(dump: &Dump, ticks: &[Ran], all: bool) {
+    let ever = ticks.iter().any(|t| t.after.timer.is_on());
+    assert_eq!(dump.has("pings.TURN"), ever || all);
+    for t in ticks.iter().filter(|_| ever || all) {
+        let at = |what: &str| dump.at(&format!("pings.{what}"), t.number);
+        let on = |what: &str| at(what) == "1";
+        assert_eq!(on("PING_TIMER_EN"), t.after.timer.is_on());
+        let links = &t.before.links;
+        let whose = t.before.timer.is_on().then(|| links.turn.whose());
+        let (turn, open) = match whose {
+            None => ("-".to_string(), false),
+            Some(Whose::Alert(i)) => (format!("ALERT{i}"), i < t.before.n && pinged(t, i)),
+            Some(Whose::Line(e)) => {
+                let open = links.lines >> e & 1 == 1 || links.turn.count == 0;
+                (format!("line_{e}"), open)
+            }
+        };
+        assert_eq!((at("TURN"), on("OPEN")), (&turn[..], open));
+        let ends = links.turn.number != t.after.links.turn.number && whose.is_some();
+        assert_eq!(on("ANSWERED") || on("FAILED"), ends && open);
+        assert!(!on("ANSWERED") || !on("FAILED"));
+        let cause = |t: &Handler, j: usize| t.locals.cause[j] == 1;
+        let newly = (0..2).any(|j| cause(&t.after, j) && !cause(&t.before, j));
+        assert!(!newly || on("FAILED"));
     }
 }
 
@@ -151,10 +200,11 @@ fn check(bytes: &[u8], all: bool) {
     }
     assert!(!dump.has(&format!("alerts.ALERT{n}_PAIR")));
     check_locals(&dump, &ticks, all);
+    check_timer(&dump, &ticks, all && edition.has_timer());
     assert_eq!(dump.end, ticks.len() as u64 + 1);
 }
 
-/// Traces that reach deep states, of both editions.
+/// Traces that reach deep states, of every edition.
 #[test]
 fn every_signal_is_what_the_library_gives() {
     for edition in Edition::ALL {
@@ -300,6 +350,36 @@ fn a_handshake_is_shown_tick_by_tick() {
         let on = |what: &str| dump.is_on(&format!("alerts.ALERT0_{what}"), tick);
         assert_eq!(on("ACK"), place == "Acknowledged");
         assert_eq!(on("EVENT"), [1, 5].contains(&tick));
+    }
+}
+
+/// The stuck sender never moves its wires: its ping pair and the timer show it.
+#[test]
+fn pings_are_shown_tick_by_tick() {
+    let bytes = trace("stuck-sender");
+    for all in [false, true] {
+        check(&bytes, all);
+    }
+    let dump = dump(&bytes, &[]);
+    let on = |name: &str| -> Vec<u64> { (0..=53).filter(|t| dump.is_on(name, *t)).collect() };
+    let span = |from, to| (from..=to).collect::<Vec<u64>>();
+    assert_eq!(on("alerts.ALERT0_PING"), span(35, 53));
+    assert_eq!(on("alerts.ALERT1_PING"), span(27, 53));
+    assert_eq!(on("alerts.ALERT1_ANSWER"), [29]);
+    assert_eq!(on("alerts.LOC_ALERT0_EVENT"), [40]);
+    assert_eq!(on("pings.PING_TIMER_EN"), span(23, 53));
+    let open = [span(27, 29), span(31, 32), span(35, 40), span(50, 51)];
+    assert_eq!(on("pings.OPEN"), open.concat());
+    assert_eq!(on("pings.ANSWERED"), [29, 32, 51]);
+    assert_eq!(on("pings.FAILED"), [40]);
+    for (tick, turn) in [
+        (23, "-"),
+        (24, "ALERT1"),
+        (30, "line_0"),
+        (33, "ALERT0"),
+        (41, "line_1"),
+    ] {
+        assert_eq!(dump.at("pings.TURN", tick), turn);
     }
 }
 

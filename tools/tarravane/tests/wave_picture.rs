@@ -4,7 +4,7 @@ mod common;
 use common::folder::Folder;
 use common::ran::briefs;
 use common::records::start;
-use common::svg::{check_size, check_spans, texts, MOST_BYTES};
+use common::svg::{check_size, check_spans, spans, texts, MOST_BYTES};
 use common::wave::{picture, wave};
 use common::{ended, example, examples, given, xml};
 use handler::Edition;
@@ -91,6 +91,41 @@ fn the_caption_answers() {
     assert_eq!(told[0], "first event: ALERT2 at 4");
     let none = picture(&start(Edition::NEWEST, 1), &[]);
     assert_eq!(texts(&none, "told")[0], "no event of an enabled alert");
+}
+
+/// The ping timer has a lane where it goes on, with a cross where a ping fails, and the caption tells of it.
+#[test]
+fn the_ping_timer_has_a_lane() {
+    let picture = picture(&trace("stuck-sender"), &[]);
+    let spans = spans(&picture, "ping timer");
+    let spans: Vec<(&str, u64, u64)> = spans.iter().map(|(w, a, b)| (&w[..], *a, *b)).collect();
+    assert_eq!(
+        spans,
+        [
+            ("waits for the ping of ALERT1", 24, 26),
+            ("ping of ALERT1 open", 27, 29),
+            ("waits for the ping of line 0", 30, 30),
+            ("ping of line 0 open", 31, 32),
+            ("waits for the ping of ALERT0", 33, 34),
+            ("ping of ALERT0 open", 35, 40),
+            ("waits for the ping of line 1", 41, 49),
+            ("ping of line 1 open", 50, 51),
+            ("waits for the ping of ALERT0", 52, 53),
+        ]
+    );
+    // One of the refused clear, one of the failed ping, and the legend's second.
+    assert_eq!(marks(&picture, "cross"), 3);
+    let told = texts(&picture, "told");
+    let timer = "ping timer: on at 23; 4 pings: 3 answered, 1 failed";
+    assert_eq!(told[4..6], [timer, "failed: ALERT0 at 40"]);
+    let made = format!("tarravane {}, edition pings", env!("CARGO_PKG_VERSION"));
+    assert_eq!(texts(&picture, "about")[1..], [made]);
+    let lanes = texts(&picture, "lane");
+    for lane in ["ALERT0 ping", "ALERT1 ping", "ping timer"] {
+        assert!(lanes.contains(&lane.to_string()), "{lane}");
+    }
+    let off = common::wave::picture(&trace("far-alert"), &[]);
+    assert!(!off.contains("ping"));
 }
 
 /// How often a mark is drawn, without the one of the legend.

@@ -2,7 +2,7 @@
 mod common;
 
 use common::records::{
-    all_at, apart, configure, off_rest, record, record_248, record_64, start, REST,
+    all_at, apart, configure, off_rest, record, record_248, record_64, record_pings, start, REST,
 };
 use common::{example, explained};
 use handler::registers::{Field, Setting};
@@ -92,6 +92,22 @@ fn a_malformed_record_of_70_bytes_is_there_by_its_bytes() {
     ]) {
         assert!(row.contains(&said), "{row}");
     }
+}
+
+/// Four more zero bits stand before the answers; entropy and answers act all the same, and are told.
+#[test]
+fn a_malformed_record_of_75_bytes_is_there_by_its_bytes() {
+    let mut bad = record_pings(0, 0, 0, Wires::REST, (0x2_0004, 0b0001));
+    bad[74] |= 0x10;
+    let on = record_pings(2, 6, 1, Wires::REST, (1, 0));
+    let line = record_pings(0, 0, 0, Wires::REST, (0, 0));
+    let bytes = [vec![254, 1], on, line.clone(), line, bad].concat();
+    let wide = rows(&["-", "--wide"], &bytes);
+    let (zeros, ones) = ("0".repeat(62), "f".repeat(62));
+    let raw = format!("raw 0000000000000000{zeros}{ones}0002000418");
+    let said = format!("{raw} entropy 0x20004 answers 0: refused: malformed ");
+    assert!(wide[3].contains(&said), "{}", wide[3]);
+    assert!(wide[3].ends_with(" [ping line 0] [answer line 0] [turn 2 in 5]"));
 }
 
 /// A row that has room is the same in both.

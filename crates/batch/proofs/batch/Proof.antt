@@ -26,42 +26,36 @@ use Rattle.batch.proofs.batch.Statement.{statement}
 use Rattle.batch.proofs.batch.Tie as tie
 
 -- what the tests say, with the bytes of a record in place of the code's number
-broken : (c : tie.After-struct-known) (b : Bool) → let a = c .before .before .before .before .before .before .args in
-    not (c .before .is-valid .result && leb (a .h .n) (c .before .before .alerts .result)) ≡ b → not (admits (a .edition) (a .h)) ≡ b
-unfolding admits
-broken c b t =
-    let a = c .before .before .before .before .before .before .args in
-    ap₂ (λ (v : Bool) (m : ℕ). not (v && leb (a .h .n) m)) (sym (c .before .is-valid .ensures)) (sym (c .before .before .alerts .ensures)) ∙ t
+broken : (c : tie.After-is-admitted) (b : Bool) → let a = c .before .before .before .before .args in
+    not (c .is-admitted .result) ≡ b → not (admits (a .edition) (a .h)) ≡ b
+broken c b t = ap not (sym (c .is-admitted .ensures)) ∙ t
 
-uneven : (c : tie.After-struct-known) (b : Bool) → let a = c .before .before .before .before .before .before .args in
-    not (eqb (length (a .bytes .now) % c .before .before .before .record-bytes .result) 0) ≡ b → not (eqb (length (a .bytes .now) % recordBytes (a .edition)) 0) ≡ b
-uneven c b t = ap (λ (n : ℕ). not (eqb (length (c .before .before .before .before .before .before .args .bytes .now) % n) 0)) (sym (c .before .before .before .record-bytes .ensures)) ∙ t
+uneven : (c : tie.After-is-admitted) (b : Bool) → let a = c .before .before .before .before .args in
+    not (eqb (length (a .bytes .now) % c .before .record-bytes .result) 0) ≡ b → not (eqb (length (a .bytes .now) % recordBytes (a .edition)) 0) ≡ b
+uneven c b t = ap (λ (n : ℕ). not (eqb (length (c .before .before .before .before .args .bytes .now) % n) 0)) (sym (c .before .record-bytes .ensures)) ∙ t
 
-short : (c : tie.After-struct-known) (b : Bool) → let a = c .before .before .before .before .before .before .args in
-    ltb (length (a .out .now)) (length (a .bytes .now) / c .before .before .before .record-bytes .result) ≡ b → ltb (length (a .out .now)) (recordCount (a .edition) (a .bytes .now)) ≡ b
+short : (c : tie.After-is-admitted) (b : Bool) → let a = c .before .before .before .before .args in
+    ltb (length (a .out .now)) (length (a .bytes .now) / c .before .record-bytes .result) ≡ b → ltb (length (a .out .now)) (recordCount (a .edition) (a .bytes .now)) ≡ b
 short c b t =
-    let a = c .before .before .before .before .before .before .args in
-    ap (λ (n : ℕ). ltb (length (a .out .now)) (length (a .bytes .now) / n)) (sym (c .before .before .before .record-bytes .ensures)) ∙ t
+    let a = c .before .before .before .before .args in
+    ap (λ (n : ℕ). ltb (length (a .out .now)) (length (a .bytes .now) / n)) (sym (c .before .record-bytes .ensures)) ∙ t
 
 -- what the ticks gave
-counted : (c : tie.After-struct-known) (g : Handler) (ws : List ℕ) → let a = c .before .before .before .before .before .before .args in let xs = inputsOf (a .edition) (a .bytes .now) in
-    (g ≡ run (a .h) xs) × (ws ≡ map wordOf (ticks (a .h) xs) ++ drop (length (a .bytes .now) / c .before .before .before .record-bytes .result) (a .out .now))
+counted : (c : tie.After-is-admitted) (g : Handler) (ws : List ℕ) → let a = c .before .before .before .before .args in let xs = inputsOf (a .edition) (a .bytes .now) in
+    (g ≡ run (a .h) xs) × (ws ≡ map wordOf (ticks (a .h) xs) ++ drop (length (a .bytes .now) / c .before .record-bytes .result) (a .out .now))
     → (g ≡ run (a .h) xs) × (ws ≡ map wordOf (ticks (a .h) xs) ++ drop (recordCount (a .edition) (a .bytes .now)) (a .out .now))
 counted c g ws e =
-    let a = c .before .before .before .before .before .before .args in
-    (e .0, e .1 ∙ ap (λ (n : ℕ). map wordOf (ticks (a .h) (inputsOf (a .edition) (a .bytes .now))) ++ drop (length (a .bytes .now) / n) (a .out .now)) (c .before .before .before .record-bytes .ensures))
+    let a = c .before .before .before .before .args in
+    (e .0, e .1 ∙ ap (λ (n : ℕ). map wordOf (ticks (a .h) (inputsOf (a .edition) (a .bytes .now))) ++ drop (length (a .bytes .now) / n) (a .out .now)) (c .before .record-bytes .ensures))
 
-some : (c : tie.After-struct-known) → 0 < c .before .before .before .record-bytes .result
-some c = subst (λ (n : ℕ). 0 < n) (sym (c .before .before .before .record-bytes .ensures)) (some-bytes (c .before .before .before .before .before .before .args .edition))
+some : (c : tie.After-is-admitted) → 0 < c .before .record-bytes .result
+some c = subst (λ (n : ℕ). 0 < n) (sym (c .before .record-bytes .ensures)) (some-bytes (c .before .before .before .before .args .edition))
 
 record-bytes-requires : tie.Need-record-bytes-requires
 record-bytes-requires c κs = search needs
 
-alerts-requires : tie.Need-alerts-requires
-alerts-requires c κs = search needs
-
-is-valid-requires : tie.Need-is-valid-requires
-is-valid-requires c κs = search needs
+is-admitted-requires : tie.Need-is-admitted-requires
+is-admitted-requires c κs = search needs
 
 rem-uneven : tie.Need-rem-uneven
 rem-uneven c = some c
@@ -81,9 +75,9 @@ refuse-requires-3 c κs = search needs
 run-records-requires : tie.Need-run-records-requires
 run-records-requires c κs =
     let tests = c .before .before .before .before in
-    let a = tests .before .before .before .before .before .before .args in (
+    let a = tests .before .before .before .before .args in (
       admits-valid (a .edition) (a .h) (not-false _ (broken tests false (c .before .before .before .if1 .left))),
-      ap (λ (n : ℕ). length (a .bytes .now) / n) (tests .before .before .before .record-bytes .ensures),
+      ap (λ (n : ℕ). length (a .bytes .now) / n) (tests .before .record-bytes .ensures),
       ltb-false _ _ (c .before .if3 .left),
     )
 
@@ -93,19 +87,19 @@ signed-requires c κs = search needs
 returns : tie.Need-returns
 returns c =
     let tests = c .before .before in
-    let h = tests .before .before .before .before .before .before .args .h in
+    let h = tests .before .before .before .before .args .h in
     (given-refusal _ _ _ _ BadState _ (seven _ _ _ _ (broken tests true (c .before .if1 .taken))) (c .refuse .ensures), demand3 h _)
 
 returns-2 : tie.Need-returns-2
 returns-2 c =
     let tests = c .before .before .before in
-    let h = tests .before .before .before .before .before .before .args .h in
+    let h = tests .before .before .before .before .args .h in
     (given-refusal _ _ _ _ BadLength _ (eight _ _ _ _ (broken tests false (c .before .before .if1 .left)) (uneven tests true (c .before .if2 .taken))) (c .refuse2 .ensures), demand3 h _)
 
 returns-3 : tie.Need-returns-3
 returns-3 c =
     let tests = c .before .before .before .before in
-    let h = tests .before .before .before .before .before .before .args .h in (
+    let h = tests .before .before .before .before .args .h in (
       given-refusal _ _ _ _ ShortList _
           (nine _ _ _ _ (broken tests false (c .before .before .before .if1 .left)) (uneven tests false (c .before .before .if2 .left)) (short tests true (c .before .if3 .taken))) (c .refuse3 .ensures),
       demand3 h _,
@@ -118,7 +112,7 @@ returns-4 : tie.Need-returns-4
 returns-4 c =
     let ran = c .before .before .before in
     let tests = ran .before .before .before .before .before in
-    let a = tests .before .before .before .before .before .before .args in
+    let a = tests .before .before .before .before .args in
     let e : toZ w64 (ofZ w64 (c .signed .result)) ≡ c .signed .result = toZ-ofZ (search needs) in (
       given-ticks (a .edition) (a .h) (a .bytes .now) (a .out .now) (broken tests false (ran .before .before .before .before .if1 .left)) (uneven tests false (ran .before .before .before .if2 .left))
           (short tests false (ran .before .before .if3 .left)) _ _ _ (counted tests _ _ (ran .run-records .ensures)) (e ∙ c .signed .ensures .0),
@@ -130,8 +124,7 @@ batch-spec =
     tie.close
     (tie.spec
     record-bytes-requires
-    alerts-requires
-    is-valid-requires
+    is-admitted-requires
     rem-uneven
     div-count
     refuse-requires

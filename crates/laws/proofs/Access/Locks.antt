@@ -3,7 +3,7 @@
 use Prim.Native.Nat.{ℕ, _+_, _≤_}
 use mathlib.Core.Path.{_≡_, refl, sym, ap, _∙_, subst}
 use mathlib.Core.Logic.{_⊎_, inl, inr, ⊎-elim}
-use mathlib.Core.Bool.{Bool, true, false, false≢true, cond, not, _&&_}
+use mathlib.Core.Bool.{Bool, true, false, cond, not, _&&_}
 use borrow.Author.Tests.{eqb-true, ltb-true, not-false}
 use lib.Dec.{eqb, ltb}
 use Rattle.bits.proofs.IndexLaws.{and-true, true-and}
@@ -38,7 +38,7 @@ use Rattle.laws.proofs.Stages.StageFile.{in-most, acted-stage}
 guard-guard : (q : Register) → guard (guard q) ≡ guard q
 unfolding guard
 guard-guard q =
-    by-kind (λ q. guard (guard q) ≡ guard q) (by-single (λ o. guard (guard (Only o)) ≡ guard (Only o)) refl refl refl)
+    by-kind (λ q. guard (guard q) ≡ guard q) (by-single (λ o. guard (guard (Only o)) ≡ guard (Only o)) refl refl refl refl refl refl)
     (λ f j. by-field (λ f. guard (guard (Local f j)) ≡ guard (Local f j)) refl refl refl refl f)
     (λ f i. by-field (λ f. guard (guard (Alert f i)) ≡ guard (Alert f i)) refl refl refl refl f)
     (λ s k. by-setting (λ s. guard (guard (Block s k)) ≡ guard (Block s k)) refl refl refl refl refl refl refl (λ p. refl) refl refl s) refl q
@@ -47,7 +47,7 @@ guard-guard q =
 pub guard-in-map : (n : ℕ) (q : Register) → inMap n q ≡ true → isRegister (guard q) ≡ true → inMap n (guard q) ≡ true
 unfolding guard
 guard-in-map n q =
-    by-kind P (by-single (λ o. P (Only o)) (λ a r. r) (λ a r. r) (λ a r. r))
+    by-kind P (by-single (λ o. P (Only o)) (λ a r. r) (λ a r. r) (λ a r. r) (λ a r. r) (λ a r. r) (λ a r. r))
     (λ f j. by-field (λ f. P (Local f j)) (λ a r. a) (λ a r. a) (λ a r. a) (λ a r. r) f)
     (λ f i. by-field (λ f. P (Alert f i)) (λ a r. a) (λ a r. a) (λ a r. a) (λ a r. r) f)
     (λ s k. by-setting (λ s. P (Block s k)) (λ a r. a) (λ a r. a) (λ a r. a) (λ a r. a) (λ a r. r) (λ a r. a) (λ a r. a)
@@ -60,7 +60,7 @@ guard-in-map n q =
 is-lock : (q : Register) → isLock q ≡ true → (guard q ≡ q) × ((old v : ℕ) → newValue q old v ≡ v)
 unfolding guard isLock
 is-lock q =
-    by-kind P (by-single (λ o. P (Only o)) never never never)
+    by-kind P (by-single (λ o. P (Only o)) never never never (λ e. (refl, λ old v. refl)) never never)
     (λ f j. by-field (λ f. P (Local f j)) (λ e. (refl, λ old v. refl)) never never never f)
     (λ f i. by-field (λ f. P (Alert f i)) (λ e. (refl, λ old v. refl)) never never never f)
     (λ s k. by-setting (λ s. P (Block s k)) (λ e. (refl, λ old v. refl)) never (λ e. (refl, λ old v. refl)) never never never never
@@ -107,7 +107,7 @@ target-locked : (h : Handler) (w : Register) → locked h (target w) ≡ true �
 unfolding locked guard
 target-locked h w =
     by-kind (λ w. locked h (target w) ≡ true → w ≡ target w)
-    (by-single (λ o. locked h (target (Only o)) ≡ true → Only o ≡ target (Only o)) (λ e. refl) (λ e. refl) (λ e. absurd (false≢true e)))
+    (by-single (λ o. locked h (target (Only o)) ≡ true → Only o ≡ target (Only o)) (λ e. refl) (λ e. refl) never (λ e. refl) (λ e. refl) (λ e. refl))
     (λ f j e. refl) (λ f i e. refl) (λ s k e. refl) (λ e. refl) w
 
 -- an access leaves what is locked
@@ -145,7 +145,7 @@ acted-locked h x q m = stays h (acted h x) (acted-keeps h x m) q
 shadowed-lock : (q : Register) → isShadowed q ≡ true → isLock q ≡ false
 unfolding isShadowed isLock
 shadowed-lock =
-    by-kind P (by-single (λ o. P (Only o)) (λ e. refl) (λ e. refl) (λ e. refl))
+    by-kind P (by-single (λ o. P (Only o)) (λ e. refl) (λ e. refl) (λ e. refl) never (λ e. refl) (λ e. refl))
     (λ f j. by-field (λ f. P (Local f j)) never (λ e. refl) (λ e. refl) (λ e. refl) f)
     (λ f i. by-field (λ f. P (Alert f i)) never (λ e. refl) (λ e. refl) (λ e. refl) f)
     (λ s k. by-setting (λ s. P (Block s k)) never (λ e. refl) never (λ e. refl) (λ e. refl) (λ e. refl) (λ e. refl) (λ p e. refl) (λ e. refl)
@@ -198,7 +198,7 @@ module _ (h : Handler) (q : Register) (m : h .n ≤ most) (a : inMap (h .n) q �
 still : (q : Register) → isRegister (guard q) ≡ true → (movesItself q ≡ false) ⊎ ((k : ℕ) × (q ≡ Block ClrRegwen k))
 unfolding guard
 still =
-    by-kind P (by-single (λ o. P (Only o)) (λ e. inl (sym e)) (λ e. inl refl) (λ e. inl refl))
+    by-kind P (by-single (λ o. P (Only o)) (λ e. inl (sym e)) (λ e. inl refl) (λ e. inl refl) (λ e. inl refl) (λ e. inl refl) (λ e. inl refl))
     (λ f j. by-field (λ f. P (Local f j)) (λ e. inl refl) (λ e. inl refl) (λ e. inl refl) (λ e. inl (sym e)) f)
     (λ f i. by-field (λ f. P (Alert f i)) (λ e. inl refl) (λ e. inl refl) (λ e. inl refl) (λ e. inl (sym e)) f)
     (λ s k. by-setting (λ s. P (Block s k)) (λ e. inl refl) (λ e. inl refl) (λ e. inr (k, refl)) (λ e. inl refl) (λ e. inl (sym e)) (λ e. inl refl)

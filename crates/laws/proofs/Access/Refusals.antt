@@ -178,7 +178,7 @@ module _ (h : Handler) (x : Access) (m : Refusal) (e : verdict h x ≡ Verdict.R
   unfolding acted accessed
   acted-refused = ap (λ (t : Verdict). accessedBy t h x .handler) e
 
-  pub effects-refused : effects h x ≡ record { clears = 0; raises = raisedBy m }
+  pub effects-refused : effects h x ≡ record { clears = 0; raises = raisedBy m; begins = false }
   unfolding effects accessed
   effects-refused = ap (λ (t : Verdict). accessedBy t h x .effects) e
 
@@ -205,13 +205,13 @@ module _ (h : Handler) where
   unfolding acted accessed verdict firstOf
   acted-nothing = refl
 
-  effects-nothing : effects h Access.Nothing ≡ record { clears = 0; raises = 0 }
+  effects-nothing : effects h Access.Nothing ≡ record { clears = 0; raises = 0; begins = false }
   unfolding effects accessed verdict firstOf bitsOf
   effects-nothing = refl
 
   module _ (x : Access) (s : Sample) (m : Refusal) (e : verdict h x ≡ Verdict.Refused m) where
     -- a refused access is as none on the state without the stage that it drops, but for local 5
-    pub refused-after : after h (record { access = x; sample = s }) ≡ stepsOn (kept m h (named h x)) s (record { clears = 0; raises = raisedBy m })
+    pub refused-after : after h (record { access = x; sample = s }) ≡ stepsOn (kept m h (named h x)) s (record { clears = 0; raises = raisedBy m; begins = false })
     unfolding hears after
     refused-after = ap₂ (λ (g : Handler) (fx : Effects). stepsOn g s fx) (acted-refused h x m e) (effects-refused h x m e)
 
@@ -220,7 +220,7 @@ module _ (h : Handler) where
     unfolding hears after
     refused-as-none d =
         ap₂ (λ (g : Handler) (fx : Effects). stepsOn g s fx) (refused-keeps h x m e d ∙ sym acted-nothing)
-        (effects-refused h x m e ∙ ap (λ (a : ℕ). record { clears = 0; raises = a }) (raises-none m d) ∙ sym effects-nothing)
+        (effects-refused h x m e ∙ ap (λ (a : ℕ). record { clears = 0; raises = a; begins = false }) (raises-none m d) ∙ sym effects-nothing)
 
     -- and its outputs
     pub refused-output : drops m ≡ false

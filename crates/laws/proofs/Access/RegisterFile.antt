@@ -10,7 +10,7 @@ use lib.Dec.{eqb, ltb}
 use lib.ListN.{getD}
 use Rattle.bits.proofs.IndexLaws.{and-true}
 use Rattle.class_rules.specs.Class.{noClass}
-use Rattle.rules.specs.Access.{singleValue, settingValue, value, fieldStored, withSingle, withSetting, store, accepted, isFirst, acted, answerTo}
+use Rattle.rules.specs.Access.{singleValue, settingValue, value, fieldStored, withSetting, store, accepted, isFirst, acted, answerTo}
 use Rattle.rules.specs.Map.{decode, numberOf, isRegister, singleNumber, singleRow, fieldRow, row, onlyWritten, writeOnly, offset}
 use Rattle.rules.specs.State.{most, localCount, classCount, fieldIndex, local, alert, classAt, localColumn, alertColumn}
 use Rattle.rules.specs.declared.Access.{Access}
@@ -18,21 +18,21 @@ use Rattle.rules.specs.declared.Access.the-variants.{Nothing, Read, Write, Malf
 use Rattle.rules.specs.declared.Answer.{Answer}
 use Rattle.rules.specs.declared.Field.{Field}
 use Rattle.rules.specs.declared.Handler.{Handler}
-use Rattle.rules.specs.declared.Interrupts.{Interrupts}
 use Rattle.rules.specs.declared.Register.{Register}
 use Rattle.rules.specs.declared.Register.the-variants.{Only, Local, Alert, Block, Unassigned}
 use Rattle.rules.specs.declared.Setting.{Setting}
 use Rattle.rules.specs.declared.Single.{Single}
-use Rattle.rules.specs.declared.Single.the-variants.{IntrState, IntrEnable, IntrTest}
+use Rattle.rules.specs.declared.Single.the-variants.{IntrState, IntrEnable, IntrTest, PingRegwen, PingTimeout, PingEnable}
 use Rattle.rules.specs.declared.Way.{Way}
 use Rattle.laws.specs.InMap.{inMap, settingExists}
 use Rattle.laws.specs.Block.{classStored}
 use Rattle.laws.specs.RegisterFile.{singleTarget, singleStored, target, newValue, writes, stores, commits, committed, storedBy, asWritten, plain}
-use Rattle.laws.proofs.Map.Cases.{pick, by-kind, by-single, by-field, cond-other}
+use Rattle.laws.proofs.Map.Cases.{pick, by-kind, by-single, by-field, never, cond-other}
 use Rattle.laws.proofs.State.ColumnLaws.{at-changed, column-stored, local-column, alert-column, setting-value}
 use Rattle.laws.proofs.Map.MapLaws.{decode-in-map, number-eq}
 use Rattle.laws.proofs.Access.Refusals.{unrefused, is-accepted}
 use Rattle.laws.proofs.Stages.StageLaws.{value-stages}
+use Rattle.laws.proofs.State.StateLaws.{single-same}
 use Rattle.laws.proofs.Access.Step1.{acted-but-stages, answer-accepted}
 
 -- ── what a store makes of each part ──
@@ -71,26 +71,31 @@ module _ (h : Handler) (f g : Field) (j i v : ℕ) where
 same : (a : ℕ) → eqb a a ≡ true
 same a = eq-eqb a a refl
 
-module _ (i : Interrupts) (v : ℕ) where
+module _ (h : Handler) (v : ℕ) where
   -- a register that there is one of
-  single-own : (o : Single) → singleValue (singleTarget o) (withSingle o v i) ≡ singleStored o (singleValue (singleTarget o) i) v
-  single-own = by-single (λ o. singleValue (singleTarget o) (withSingle o v i) ≡ singleStored o (singleValue (singleTarget o) i) v) refl refl refl
+  single-own : (o : Single) → singleValue (singleTarget o) (store h (Only o) v) ≡ singleStored o (singleValue (singleTarget o) h) v
+  unfolding store
+  single-own =
+      by-single (λ o. singleValue (singleTarget o) (store h (Only o) v) ≡ singleStored o (singleValue (singleTarget o) h) v) refl refl refl refl refl refl
 
   -- another than what is written
-  single-other : (o p : Single) → (singleNumber (singleTarget o) ≡ singleNumber p → ⊥) → singleValue p (withSingle o v i) ≡ singleValue p i
-  single-other o IntrState =
-      by-single (λ o. (singleNumber (singleTarget o) ≡ 0 → ⊥) → withSingle o v i .state ≡ i .state) (λ d. absurd (d refl)) (λ d. refl)
-      (λ d. absurd (d refl)) o
-  single-other o IntrEnable =
-      by-single (λ o. (singleNumber (singleTarget o) ≡ 1 → ⊥) → withSingle o v i .enable ≡ i .enable) (λ d. refl) (λ d. absurd (d refl))
-      (λ d. refl) o
+  abbrev Apart : Single → Single → Type 0
+  Apart p o = (singleNumber (singleTarget o) ≡ singleNumber p → ⊥) → singleValue p (store h (Only o) v) ≡ singleValue p h
+
+  single-other : (o p : Single) → Apart p o
+  unfolding store
+  single-other o IntrState = by-single (Apart IntrState) (λ d. absurd (d refl)) (λ d. refl) (λ d. absurd (d refl)) (λ d. refl) (λ d. refl) (λ d. refl) o
+  single-other o IntrEnable = by-single (Apart IntrEnable) (λ d. refl) (λ d. absurd (d refl)) (λ d. refl) (λ d. refl) (λ d. refl) (λ d. refl) o
   single-other o IntrTest = λ d. refl
+  single-other o PingRegwen = by-single (Apart PingRegwen) (λ d. refl) (λ d. refl) (λ d. refl) (λ d. absurd (d refl)) (λ d. refl) (λ d. refl) o
+  single-other o PingTimeout = by-single (Apart PingTimeout) (λ d. refl) (λ d. refl) (λ d. refl) (λ d. refl) (λ d. absurd (d refl)) (λ d. refl) o
+  single-other o PingEnable = by-single (Apart PingEnable) (λ d. refl) (λ d. refl) (λ d. refl) (λ d. refl) (λ d. refl) (λ d. absurd (d refl)) o
 
 -- the register that is written
 own : (h : Handler) (q : Register) (v : ℕ) → h .n ≤ most → inMap (h .n) q ≡ true
     → value (store h q v) (target q) ≡ newValue q (value h (target q)) v
 unfolding store value
-own h (Only o) v m a = single-own (h .interrupts) v o
+own h (Only o) v m a = single-own h v o
 own h (Local f j) v m a =
     local-stored h f f j j v (ltb-true j localCount a) ∙ simp (same (fieldIndex f), same j)
 own h (Alert f i) v m a =
@@ -127,8 +132,8 @@ module _ (h : Handler) (v : ℕ) where
       → value (store h q v) p ≡ value h p
   unfolding store value numberOf
   other q (Only p) m a =
-      by-kind (λ q. (numberOf (target q) ≡ singleNumber p → ⊥) → singleValue p (store h q v .interrupts) ≡ singleValue p (h .interrupts))
-      (λ o. single-other (h .interrupts) v o p) (λ f j d. refl) (λ f i d. refl) (λ s k d. refl) (λ d. refl) q
+      by-kind (λ q. (numberOf (target q) ≡ singleNumber p → ⊥) → singleValue p (store h q v) ≡ singleValue p h)
+      (λ o. single-other h v o p) (λ f j d. single-same _ h refl refl p) (λ f i d. single-same _ h refl refl p) (λ s k d. single-same _ h refl refl p) (λ d. refl) q
   other q (Local g i) m a =
       by-kind (λ q. (numberOf (target q) ≡ numberOf (Local g i) → ⊥) → local (store h q v) g i ≡ local h g i)
       (λ o d. refl)
@@ -223,13 +228,14 @@ acted-target h r v m e =
 pub as-written : (w : Way) → asWritten w ≡ true → onlyWritten w ≡ false
 as-written Way.Both e = refl
 as-written Way.OneClears e = refl
+as-written Way.OneSets e = refl
 as-written Way.ReadOnly e = refl
 as-written Way.WriteOnly e = sym e
 
 single-plain : (o : Single) → asWritten (singleRow o .way) ≡ true → (singleTarget o ≡ o) × ((old v : ℕ) → singleStored o old v ≡ v)
 single-plain =
     by-single (λ o. asWritten (singleRow o .way) ≡ true → (singleTarget o ≡ o) × ((old v : ℕ) → singleStored o old v ≡ v))
-    (λ e. absurd (false≢true e)) (λ e. (refl, λ old v. refl)) (λ e. absurd (false≢true e))
+    never (λ e. (refl, λ old v. refl)) never (λ e. (refl, λ old v. refl)) (λ e. (refl, λ old v. refl)) never
 
 field-plain : (f : Field) → asWritten (fieldRow f .way) ≡ true → (old v : ℕ) → fieldStored f old v ≡ v
 field-plain =

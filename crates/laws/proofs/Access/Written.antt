@@ -128,7 +128,7 @@ in-more n m q l =
 pub guard-still : (q : Register) → plain q ≡ true → movesItself q ≡ false → movesItself (guard q) ≡ false
 unfolding guard
 guard-still q =
-    by-kind P (by-single (λ o. P (Only o)) (λ p e. refl) (λ p e. refl) (λ p e. refl))
+    by-kind P (by-single (λ o. P (Only o)) (λ p e. refl) (λ p e. refl) (λ p e. refl) (λ p e. refl) (λ p e. refl) (λ p e. refl))
     (λ f j. by-field (λ f. P (Local f j)) (λ p e. refl) (λ p e. refl) (λ p e. refl) (λ p e. refl) f)
     (λ f i. by-field (λ f. P (Alert f i)) (λ p e. refl) (λ p e. refl) (λ p e. refl) (λ p e. refl) f)
     (λ s k. by-setting (λ s. P (Block s k)) (λ p e. refl) (λ p e. refl) (λ p e. e) (λ p e. absurd (false≢true p)) (λ p e. refl)
@@ -141,7 +141,7 @@ guard-still q =
 pub shadowed-apart : (q : Register) → isShadowed q ≡ true → numberOf q ≡ numberOf (guard q) → ⊥
 unfolding isShadowed guard numberOf
 shadowed-apart =
-    by-kind P (by-single (λ o. P (Only o)) never never never) (λ f j. by-field (λ f. P (Local f j)) never (λ _ e. omega arith) (λ _ e. omega arith) never f)
+    by-kind P (by-single (λ o. P (Only o)) never never never never (λ _ e. omega arith) never) (λ f j. by-field (λ f. P (Local f j)) never (λ _ e. omega arith) (λ _ e. omega arith) never f)
     (λ f i. by-field (λ f. P (Alert f i)) never (λ _ e. omega arith) (λ _ e. omega arith) never f)
     (λ s k. by-setting (λ s. P (Block s k)) never (λ _ e. omega arith) never never never (λ _ e. omega arith) (λ _ e. omega arith)
     (λ p _ e. omega arith) never never s) never
@@ -184,7 +184,7 @@ new-valid n a b =
 pub new-unlocked : (n : ℕ) (q : Register) → n ≤ most → inMap n q ≡ true → locked (newHandler n) q ≡ false
 unfolding locked guard value newHandler
 new-unlocked n q m =
-    by-kind P (by-single (λ o. P (Only o)) (λ a. refl) (λ a. refl) (λ a. refl))
+    by-kind P (by-single (λ o. P (Only o)) (λ a. refl) (λ a. refl) (λ a. refl) (λ a. refl) (λ a. refl) (λ a. refl))
     (λ f j. by-field (λ f. P (Local f j)) (own-local j) (own-local j) (own-local j) (λ a. refl) f)
     (λ f i. by-field (λ f. P (Alert f i)) (own-alert i) (own-alert i) (own-alert i) (λ a. refl) f)
     (λ s k. by-setting (λ s. P (Block s k)) (own-class k true) (own-class k true) (own-clear k true) (own-clear k true) (λ a. refl)

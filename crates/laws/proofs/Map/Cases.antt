@@ -10,7 +10,7 @@ use Rattle.rules.specs.declared.Register.the-variants.{Only, Local, Alert, Bloc
 use Rattle.rules.specs.declared.Setting.{Setting}
 use Rattle.rules.specs.declared.Setting.the-variants.{Ctrl, ClrRegwen, Clr, AccumCnt, AccumThresh, TimeoutCyc, PhaseCyc, EscCnt}
 use Rattle.rules.specs.declared.Single.{Single}
-use Rattle.rules.specs.declared.Single.the-variants.{IntrState, IntrEnable, IntrTest}
+use Rattle.rules.specs.declared.Single.the-variants.{IntrState, IntrEnable, IntrTest, PingRegwen, PingTimeout, PingEnable}
 
 -- what holds of either arm, each with its test, holds of the choice
 pub pick {ℓ} : {A : Type ℓ} (P : A → Type 0) (b : Bool) (x y : A) → (b ≡ true → P x) → (b ≡ false → P y) → P (cond b x y)
@@ -27,10 +27,13 @@ by-kind P a l r s u (Block t k) = s t k
 by-kind P a l r s u Unassigned = u
 
 -- of each register that there is one of
-pub by-single : (P : Single → Type 0) → P IntrState → P IntrEnable → P IntrTest → (o : Single) → P o
-by-single P a b c IntrState = a
-by-single P a b c IntrEnable = b
-by-single P a b c IntrTest = c
+pub by-single : (P : Single → Type 0) → P IntrState → P IntrEnable → P IntrTest → P PingRegwen → P PingTimeout → P PingEnable → (o : Single) → P o
+by-single P a b c d e f IntrState = a
+by-single P a b c d e f IntrEnable = b
+by-single P a b c d e f IntrTest = c
+by-single P a b c d e f PingRegwen = d
+by-single P a b c d e f PingTimeout = e
+by-single P a b c d e f PingEnable = f
 
 -- of each field of an alert
 pub by-field : (P : Field → Type 0) → P Field.Regwen → P Field.En → P Field.Class → P Field.Cause → (f : Field) → P f
@@ -53,7 +56,6 @@ by-setting P a b c d e f g h i j (PhaseCyc p) = h p
 by-setting P a b c d e f g h i j EscCnt = i
 by-setting P a b c d e f g h i j Setting.State = j
 
--- a test of which both ways are one
 -- a test that is said to hold, and does not
 pub never : {A : Type 0} → false ≡ true → A
 never e = absurd (false≢true e)
@@ -62,6 +64,7 @@ pub cond-other : (a : Bool) (x y : ℕ) → (a ≡ true → ⊥) → cond a x y 
 cond-other true x y e = absurd (e refl)
 cond-other false x y e = refl
 
+-- a test of which both ways are one
 pub cond-same : {A : Type 0} (b : Bool) (x : A) → x ≡ cond b x x
 cond-same true x = refl
 cond-same false x = refl

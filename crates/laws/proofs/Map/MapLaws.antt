@@ -88,11 +88,13 @@ field-lt = by-field (λ f. fieldIndex f < 4) (omega arith) (omega arith) (omega 
 
 -- they are below the local alerts
 pub single-lt : (o : Single) → singleNumber o < 16
-single-lt = by-single (λ o. singleNumber o < 16) (omega arith) (omega arith) (omega arith)
+single-lt = by-single (λ o. singleNumber o < 16) (omega arith) (omega arith) (omega arith) (omega arith) (omega arith) (omega arith)
 
 -- and none is at the number that stands for no register
 pub single-number : (o : Single) → singleNumber o ≡ 3 → ⊥
-single-number = by-single (λ o. singleNumber o ≡ 3 → ⊥) (λ e. omega arith) (λ e. omega arith) (λ e. omega arith)
+single-number =
+    by-single (λ o. singleNumber o ≡ 3 → ⊥) (λ e. omega arith) (λ e. omega arith) (λ e. omega arith) (λ e. omega arith) (λ e. omega arith)
+    (λ e. omega arith)
 
 -- ── the block of a class ──
 
@@ -161,19 +163,34 @@ offset-exists =
 abbrev blocks : ℕ → Register
 blocks r = cond (within classBase (16 * classCount) r) (blockAt ((r - classBase) / 16) ((r - classBase) % 16)) Unassigned
 
--- above the interrupt registers there are the local alerts, then the alerts, then the classes
-decode-is : (n r : ℕ) → 2 < r → decode n r ≡ four 16 8 localCount Local (four stride stride stride (alertAt n) (blocks r) r) r
+-- r is none of the ping timer's
+abbrev pub NoPing : ℕ → Type 0
+NoPing r = 4 ≤ r → r < 7 → ⊥
+
+-- but for those that there is one of there are the local alerts, then the alerts, then the classes
+decode-is : (n r : ℕ) → 2 < r → NoPing r → decode n r ≡ four 16 8 localCount Local (four stride stride stride (alertAt n) (blocks r) r) r
 unfolding decode
-decode-is n r l = simp (above r 0 (omega arith), above r 1 (omega arith), above r 2 (omega arith))
+decode-is n r l p =
+    simp (
+      above r 0 (omega arith),
+      above r 1 (omega arith),
+      above r 2 (omega arith),
+      other 4 (omega arith) (omega arith),
+      other 5 (omega arith) (omega arith),
+      other 6 (omega arith) (omega arith),
+    )
+  where
+    other : (a : ℕ) → 4 ≤ a → a < 7 → eqb r a ≡ false
+    other a x y = ne-eqb r a (λ (e : r ≡ a). p (omega arith) (omega arith))
 
 module _ (n r : ℕ) where
   pub decode-local : (f : Field) → 16 + 8 * fieldIndex f ≤ r → r < 16 + 8 * fieldIndex f + localCount
       → decode n r ≡ Local f (r - (16 + 8 * fieldIndex f))
-  decode-local f l m = decode-is n r (omega arith) ∙ four-hit 16 8 localCount Local _ f r (omega arith) l m
+  decode-local f l m = decode-is n r (omega arith) (λ a b. omega arith) ∙ four-hit 16 8 localCount Local _ f r (omega arith) l m
 
   -- above the local alerts
   decode-high : stride ≤ r → decode n r ≡ four stride stride stride (alertAt n) (blocks r) r
-  decode-high l = decode-is n r (omega arith) ∙ four-miss 16 8 localCount Local _ r (λ f x y. omega (arith, field-lt f))
+  decode-high l = decode-is n r (omega arith) (λ a b. omega arith) ∙ four-miss 16 8 localCount Local _ r (λ f x y. omega (arith, field-lt f))
 
   pub decode-alert : (f : Field) → (1 + fieldIndex f) * stride ≤ r → r < (1 + fieldIndex f) * stride + stride
       → decode n r ≡ alertAt n f (r - (1 + fieldIndex f) * stride)
@@ -187,10 +204,10 @@ module _ (n r : ℕ) where
       ∙ simp (hit classBase (16 * classCount) r l m)
 
   -- all other numbers are unassigned
-  pub decode-none : 2 < r → ((j : ℕ) → j < 4 → 16 + 8 * j ≤ r → r < 16 + 8 * j + localCount → ⊥) → (stride ≤ r → r < classBase + 16 * classCount → ⊥)
-      → decode n r ≡ Unassigned
-  decode-none h l b =
-      decode-is n r h ∙ four-miss 16 8 localCount Local _ r (λ f. l (fieldIndex f) (field-lt f))
+  pub decode-none : 2 < r → NoPing r → ((j : ℕ) → j < 4 → 16 + 8 * j ≤ r → r < 16 + 8 * j + localCount → ⊥)
+      → (stride ≤ r → r < classBase + 16 * classCount → ⊥) → decode n r ≡ Unassigned
+  decode-none h p l b =
+      decode-is n r h p ∙ four-miss 16 8 localCount Local _ r (λ f. l (fieldIndex f) (field-lt f))
       ∙ four-miss stride stride stride (alertAt n) (blocks r) r (λ f x y. b (omega arith) (omega (arith, field-lt f)))
       ∙ either (λ q. q ≡ Unassigned) (within classBase (16 * classCount) r) _ _
       (λ t. let i = inside classBase (16 * classCount) r t in absurd (b (omega arith) (omega arith))) refl
@@ -200,7 +217,7 @@ module _ (n r : ℕ) where
 -- a register's number decodes to it
 pub decode-number : (n : ℕ) (q : Register) → n ≤ most → inMap n q ≡ true → decode n (numberOf q) ≡ q
 unfolding decode numberOf
-decode-number n (Only o) h e = by-single (λ o. decode n (singleNumber o) ≡ Only o) refl refl refl o
+decode-number n (Only o) h e = by-single (λ o. decode n (singleNumber o) ≡ Only o) refl refl refl refl refl refl o
 decode-number n (Local f j) h e =
     let l : j < localCount = ltb-true j localCount e in
     decode-local n (16 + 8 * fieldIndex f + j) f (omega arith) (omega arith) ∙ ap (Local f) (omega arith)
@@ -227,9 +244,12 @@ decoded n r =
     either P _ _ _ (λ t h. (sym (eqb-true r 0 t), refl))
     (either P _ _ _ (λ t h. (sym (eqb-true r 1 t), refl))
     (either P _ _ _ (λ t h. (sym (eqb-true r 2 t), refl))
+    (either P _ _ _ (λ t h. (sym (eqb-true r 4 t), refl))
+    (either P _ _ _ (λ t h. (sym (eqb-true r 5 t), refl))
+    (either P _ _ _ (λ t h. (sym (eqb-true r 6 t), refl))
     (four-at 16 8 localCount Local _ P r (λ f j l e h. (e, lt-ltb j localCount l))
     (four-at stride stride stride (alertAt n) (blocks r) P r (λ f i l (e : stride + stride * fieldIndex f + i ≡ r). alert f i e)
-    (either P _ _ _ block (λ h. absurd (false≢true h)))))))
+    (either P _ _ _ block (λ h. absurd (false≢true h))))))))))
   where
     P : Register → Type 0
     P = Numbered n r

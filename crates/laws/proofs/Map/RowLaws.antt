@@ -18,7 +18,9 @@ abbrev Bounded : Row → Type 0
 Bounded r = (not (eqb (r .bits) 0) ≡ true) × (r .bits ≤ 32)
 
 single-bits : (o : Single) → Bounded (singleRow o)
-single-bits = by-single (λ o. Bounded (singleRow o)) (refl, omega arith) (refl, omega arith) (refl, omega arith)
+single-bits =
+    by-single (λ o. Bounded (singleRow o)) (refl, omega arith) (refl, omega arith) (refl, omega arith) (refl, omega arith) (refl, omega arith)
+    (refl, omega arith)
 
 field-bits : (f : Field) → Bounded (fieldRow f)
 field-bits = by-field (λ f. Bounded (fieldRow f)) (refl, omega arith) (refl, omega arith) (refl, omega arith) (refl, omega arith)

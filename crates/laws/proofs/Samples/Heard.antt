@@ -1,10 +1,10 @@
--- What step 2 hears, alert by alert and local alert by local alert.
+-- What step 2 hears, alert by alert, line by line and local alert by local alert.
 -- Assumes nothing.
 use Prim.Native.Nat.{ℕ, _*_, _≤_, _<_}
-use mathlib.Core.Path.{_≡_, sym, ap, ap₂, _∙_}
-use mathlib.Core.Bool.{Bool, false, and-false, _&&_}
+use mathlib.Core.Path.{_≡_, refl, sym, ap, ap₂, _∙_}
+use mathlib.Core.Bool.{Bool, false, and-true, and-false, cond, _&&_}
 use native.Mathlib.Omega.{arith}
-use borrow.Author.Tests.{le-ltb}
+use borrow.Author.Tests.{lt-ltb, le-ltb}
 use lib.Dec.{ltb}
 use Rattle.bits.specs.Bits.{bit}
 use Rattle.bits.specs.Index.{placeIn}
@@ -13,8 +13,10 @@ use Rattle.bits.proofs.WordLaws.{placeIn-each}
 use Rattle.link_rules.proofs.CodeLaws.{code-back, pausing-back, busy-back}
 use Rattle.link_rules.proofs.ReceiverLaws.{same-receiver}
 use Rattle.link_rules.specs.Codes.{handshakeOf, pausingBit, busyBit}
+use Rattle.link_rules.specs.Pings.{asks, lineAfter}
+use Rattle.link_rules.specs.Timer.{opens, turned}
 use Rattle.link_rules.specs.declared.Receiver.{Receiver}
-use Rattle.rules.specs.Samples.{alertEnabled, happened, answered, receiverAfter, raised, heard, alertEvent}
+use Rattle.rules.specs.Samples.{alertEnabled, happened, answered, receiverAfter, before, asksFor, timed, receiverTimed, linesTimed, raised, heard, alertEvent}
 use Rattle.rules.specs.State.{most, words, localCount, receiver, receiverIn, receiversBy}
 use Rattle.rules.specs.declared.Effects.{Effects}
 use Rattle.rules.specs.declared.Handler.{Handler}
@@ -42,28 +44,56 @@ pub receiver-bits : (r q : Receivers) (i : ℕ) → receiverIn r i ≡ receiverI
 receiver-bits r q i e = stands-bits r q i (ap (λ (x : Receiver). x .stands) e)
 
 module _ (g : Handler) (s : Sample) (fx : Effects) where
-  pub heard-receiver : (i : ℕ) → i < words * 64 → receiverIn (heard g s fx .receivers) i ≡ receiverAfter g (s .asks) (s .alerts) i
-  unfolding heard
-  heard-receiver i l = receiver-by (receiverAfter g (s .asks) (s .alerts)) i l
+  -- request (ix): the alerts whose ping the timer asks for
+  pub asked-at : (i : ℕ) → i < words * 64 → placeIn (asksFor g s fx) i ≡ asks (timed g s fx) (g .links .turn) i
+  unfolding opens
+  asked-at i l = placeIn-each words (asks (before g s fx) (g .links .turn)) i l
 
-  pub heard-event : (i : ℕ) → i < words * 64 → placeIn (heard g s fx .events) i ≡ happened g (s .asks) (s .alerts) i
+  pub heard-receiver : (i : ℕ) → i < words * 64 → receiverIn (heard g s fx .links .receivers) i ≡ receiverTimed g s fx i
   unfolding heard
-  heard-event i l = placeIn-each words (happened g (s .asks) (s .alerts)) i l
+  heard-receiver i l = receiver-by (receiverTimed g s fx) i l
 
-  pub heard-answer : (i : ℕ) → i < words * 64 → placeIn (heard g s fx .answers) i ≡ answered g (s .asks) (s .alerts) i
+  pub heard-turn : heard g s fx .links .turn ≡ turned (timed g s fx) (g .links .turn)
   unfolding heard
-  heard-answer i l = placeIn-each words (answered g (s .asks) (s .alerts)) i l
+  heard-turn = refl
 
-  pub heard-raise : (j : ℕ) → j < localCount → bit (heard g s fx .raises) j ≡ raised g (s .alerts) fx j
+  -- a line's ping; the bits from 4 up are no line's
+  heard-bit : (e : ℕ) → e < 32
+      → bit (heard g s fx .links .lines) e ≡ cond (ltb e 4) (lineAfter (timed g s fx) (g .links .turn) (bit (g .links .lines) e) e) (bit (g .links .lines) e)
+  unfolding heard linesTimed
+  heard-bit e l =
+      bit-bitsOf 32 (λ k. cond (ltb k 4) (lineAfter (timed g s fx) (g .links .turn) (bit (g .links .lines) k) k) (bit (g .links .lines) k)) e l
+
+  pub heard-line : (e : ℕ) → e < 4 → bit (heard g s fx .links .lines) e ≡ lineAfter (timed g s fx) (g .links .turn) (bit (g .links .lines) e) e
+  heard-line e l =
+      heard-bit e (omega arith)
+      ∙ ap (λ (b : Bool). cond b (lineAfter (timed g s fx) (g .links .turn) (bit (g .links .lines) e) e) (bit (g .links .lines) e)) (lt-ltb e 4 l)
+
+  pub heard-no-line : (e : ℕ) → 4 ≤ e → e < 32 → bit (heard g s fx .links .lines) e ≡ bit (g .links .lines) e
+  heard-no-line e m l =
+      heard-bit e l ∙ ap (λ (b : Bool). cond b (lineAfter (timed g s fx) (g .links .turn) (bit (g .links .lines) e) e) (bit (g .links .lines) e)) (le-ltb e 4 m)
+
+  pub heard-event : (i : ℕ) → i < words * 64 → placeIn (heard g s fx .events) i ≡ happened g (asksFor g s fx) (s .alerts) i
   unfolding heard
-  heard-raise j l = bit-bitsOf localCount (raised g (s .alerts) fx) j l
+  heard-event i l = placeIn-each words (happened g (asksFor g s fx) (s .alerts)) i l
+
+  pub heard-answer : (i : ℕ) → i < words * 64 → placeIn (heard g s fx .answers) i ≡ answered g (asksFor g s fx) (s .alerts) i
+  unfolding heard
+  heard-answer i l = placeIn-each words (answered g (asksFor g s fx) (s .alerts)) i l
+
+  pub heard-raise : (j : ℕ) → j < localCount → bit (heard g s fx .raises) j ≡ raised g s fx j
+  unfolding heard
+  heard-raise j l = bit-bitsOf localCount (raised g s fx) j l
 
   -- samples at N and above count for nothing, and nothing there changes
-  pub heard-above : (i : ℕ) → g .n ≤ i → i < words * 64 → receiverIn (heard g s fx .receivers) i ≡ receiver g i
-  unfolding receiverAfter
-  heard-above i l b = heard-receiver i b ∙ rw (le-ltb i (g .n) l)
+  pub heard-above : (i : ℕ) → g .n ≤ i → i < words * 64 → receiverIn (heard g s fx .links .receivers) i ≡ receiver g i
+  unfolding receiverAfter receiverTimed
+  heard-above i l b =
+      heard-receiver i b
+      ∙ rw (le-ltb i (g .n) l)
+      (same-receiver _ (receiver g i) refl refl (and-true (receiver g i .pending)))
 
   -- an alert without an event has none that is enabled
-  pub unheard : (i : ℕ) → i < most → happened g (s .asks) (s .alerts) i ≡ false → alertEvent g (heard g s fx) i ≡ false
+  pub unheard : (i : ℕ) → i < most → happened g (asksFor g s fx) (s .alerts) i ≡ false → alertEvent g (heard g s fx) i ≡ false
   unfolding alertEvent
   unheard i l e = ap (λ (b : Bool). ltb i (g .n) && (b && alertEnabled g i)) (heard-event i (omega arith) ∙ e) ∙ and-false (ltb i (g .n))

@@ -1,17 +1,19 @@
--- Which local alerts occur: 2 by equal wires and 5 by a write that differs from its stage, and no other.
+-- Which local alerts occur: 0 and 1 by a ping that fails, 2 by equal wires and 5 by a write that differs from its stage, and no other.
 -- Assumes nothing.
 use Prim.Native.Nat.{ℕ, zero, suc, _^_, _≤_, _<_}
-use mathlib.Core.Path.{_≡_, refl, ap, ap₂, _∙_}
-use mathlib.Core.Bool.{Bool, true, false, false≢true, and-false, cond, _&&_, _||_}
+use mathlib.Core.Path.{_≡_, refl, ap, _∙_}
+use mathlib.Core.Logic.{_⊎_, inl, inr}
+use mathlib.Core.Bool.{Bool, true, false, false≢true, and-false, or-false, cond, not, _&&_, _||_}
 use native.Mathlib.Omega.{arith}
 use lib.Dec.{eqb}
 use Rattle.bits.proofs.BitLaws.{bit-none}
 use Rattle.bits.proofs.IndexLaws.{any-none}
 use Rattle.bits.specs.Bits.{bit}
 use Rattle.bits.specs.Index.{anyTo}
+use Rattle.link_rules.specs.Timer.{isLine, fails, failsAlert, failsLine}
 use Rattle.rules.specs.Access.{verdict, accepts, accepted, accessedBy, accessed, effects}
 use Rattle.rules.specs.Answer.{refusalNumber}
-use Rattle.rules.specs.Samples.{alertBroken, raised, heard, occurs}
+use Rattle.rules.specs.Samples.{alertBroken, timed, raised, heard, occurs}
 use Rattle.rules.specs.State.{most, localCount, local}
 use Rattle.rules.specs.declared.Access.{Access}
 use Rattle.rules.specs.declared.Effects.{Effects}
@@ -44,19 +46,34 @@ accepted-raises h x e = go (verdict h x) e
     go Verdict.Accepted e = refl
     go (Verdict.Refused n) e = absurd (false≢true e)
 
--- ── no equal wires of an enabled alert, and nothing raised by step 1: no local alert occurs ──
+-- ── no ping fails, no equal wires of an enabled alert, and nothing raised by step 1: no local alert occurs ──
 
-module _ (g : Handler) (s : Sample) (fx : Effects) (m : g .n ≤ most) (z : fx .raises ≡ 0)
+module _ (g : Handler) (s : Sample) (fx : Effects) (m : g .n ≤ most) (z : fx .raises ≡ 0) (f : fails (timed g s fx) (g .links .turn) ≡ false)
     (b : (i : ℕ) → i < most → alertBroken g (s .alerts) i ≡ false) where
-  none-raised : (j : ℕ) → raised g (s .alerts) fx j ≡ false
+  none-raised : (j : ℕ) → raised g s fx j ≡ false
   unfolding raised
   none-raised j =
-      ap₂ (λ (b c : Bool). (eqb j 2 && b) || c) (any-none (alertBroken g (s .alerts)) (g .n) (λ i l. b i (omega arith))) (ap (λ (x : ℕ). bit x j) z ∙ bit-none j)
-      ∙ ap (λ (b : Bool). b || false) (and-false (eqb j 2))
+      simp (f, any-none (alertBroken g (s .alerts)) (g .n) (λ i l. b i (omega arith)), z, bit-none j, and-false (eqb j 0), and-false (eqb j 1), and-false (eqb j 2))
 
   pub none-occurs : (j : ℕ) → j < localCount → occurs g (heard g s fx) j ≡ false
   unfolding occurs
   none-occurs j l = ap (λ (b : Bool). b && eqb (local g Field.En j) 1) (heard-raise g s fx j l ∙ none-raised j)
+
+-- ── what a ping that fails raises, in the state g after step 1, by the sample s ──
+
+module _ (h : Handler) (x : Access) (g : Handler) (s : Sample) where
+  -- local 0 is raised where an alert's ping fails and nowhere else, local 1 where a line's does
+  pub raised-0 : raised g s (effects h x) 0 ≡ failsAlert (timed g s (effects h x)) (g .links .turn)
+  unfolding bit raised
+  raised-0 =
+      ap (λ (b : Bool). failsAlert (timed g s (effects h x)) (g .links .turn) || b) (raises-either h x 0 (λ t. t ≡ false) refl refl)
+      ∙ or-false (failsAlert (timed g s (effects h x)) (g .links .turn))
+
+  pub raised-1 : raised g s (effects h x) 1 ≡ failsLine (timed g s (effects h x)) (g .links .turn)
+  unfolding bit raised
+  raised-1 =
+      ap (λ (b : Bool). failsLine (timed g s (effects h x)) (g .links .turn) || b) (raises-either h x 1 (λ t. t ≡ false) refl refl)
+      ∙ or-false (failsLine (timed g s (effects h x)) (g .links .turn))
 
 -- ── class k, by the state g after step 1 and the sample s ──
 
@@ -67,6 +84,10 @@ module _ (h : Handler) (x : Access) (g : Handler) (s : Sample) (k : ℕ) where
   -- local alert j is disabled or assigned to another class
   abbrev Elsewhere : ℕ → Type 0
   Elsewhere j = (eqb (local g Field.En j) 1 && eqb (local g Field.Class j) k) ≡ false
+
+  -- no ping fails, or local 0 and local 1, which a failing one raises, are elsewhere
+  abbrev FailsNone : Type 0
+  FailsNone = (fails (timed g s (effects h x)) (g .links .turn) ≡ false) ⊎ (Elsewhere 0 × Elsewhere 1)
 
   abbrev none : ℕ → Type 0
   none j = (occurs g v j && eqb (local g Field.Class j) k) ≡ false
@@ -80,27 +101,33 @@ module _ (h : Handler) (x : Access) (g : Handler) (s : Sample) (k : ℕ) where
       go true = e
       go false = refl
 
-  -- nor does one that is not raised
-  still : (j : ℕ) → bit (v .raises) j ≡ false → none j
+  -- nor does one that is not raised: by step 1 alone, which raises another
+  still : (j : ℕ) → j < localCount → raised g s (effects h x) j ≡ bit (effects h x .raises) j → bit 0 j ≡ false → bit (2 ^ 5) j ≡ false → none j
   unfolding occurs
-  still j e = ap (λ (r : Bool). (r && eqb (local g Field.En j) 1) && eqb (local g Field.Class j) k) e
+  still j l e a b =
+      ap (λ (r : Bool). (r && eqb (local g Field.En j) 1) && eqb (local g Field.Class j) k)
+      (heard-raise g s (effects h x) j l ∙ e ∙ raises-either h x j (λ t. t ≡ false) a b)
 
-  unraised : (j : ℕ) → j < localCount → eqb j 2 ≡ false → bit 0 j ≡ false → bit (2 ^ 5) j ≡ false → none j
-  unfolding raised
-  unraised j l d a b =
-      still j (heard-raise g s (effects h x) j l ∙ ap (λ (t : Bool). (t && anyTo (alertBroken g (s .alerts)) (g .n)) || bit (effects h x .raises) j) d ∙ raises-either h x j (λ t. t ≡ false) a b)
+  -- local 0 and local 1 in class k
+  no-failure : FailsNone → none 0 × none 1
+  unfolding bit raised
+  no-failure (inl f) = (
+    still 0 (omega arith) (ap (λ (b : Bool). (b && not (isLine (g .links .turn))) || bit (effects h x .raises) 0) f) refl refl,
+    still 1 (omega arith) (ap (λ (b : Bool). (b && isLine (g .links .turn)) || bit (effects h x .raises) 1) f) refl refl,
+  )
+  no-failure (inr e) = (off 0 (e .0), off 1 (e .1))
 
-  -- where local 2 and local 5 are elsewhere, none occurs in class k
-  pub no-local : Elsewhere 2 → Elsewhere 5 → anyTo (λ j. occurs g v j && eqb (local g Field.Class j) k) localCount ≡ false
-  unfolding bit
-  no-local two five = any-none (λ j. occurs g v j && eqb (local g Field.Class j) k) localCount each
+  -- where no ping fails, or local 0 and local 1 are elsewhere, and local 2 and local 5 are, none occurs in class k
+  pub no-local : FailsNone → Elsewhere 2 → Elsewhere 5 → anyTo (λ j. occurs g v j && eqb (local g Field.Class j) k) localCount ≡ false
+  unfolding bit raised
+  no-local f two five = any-none (λ j. occurs g v j && eqb (local g Field.Class j) k) localCount each
     where
       each : (j : ℕ) → j < localCount → none j
-      each zero l = unraised 0 l refl refl refl
-      each (suc zero) l = unraised 1 l refl refl refl
+      each zero l = no-failure f .0
+      each (suc zero) l = no-failure f .1
       each (suc (suc zero)) l = off 2 two
-      each (suc (suc (suc zero))) l = unraised 3 l refl refl refl
-      each (suc (suc (suc (suc zero)))) l = unraised 4 l refl refl refl
+      each (suc (suc (suc zero))) l = still 3 l refl refl refl
+      each (suc (suc (suc (suc zero)))) l = still 4 l refl refl refl
       each (suc (suc (suc (suc (suc zero))))) l = off 5 five
-      each (suc (suc (suc (suc (suc (suc zero)))))) l = unraised 6 l refl refl refl
+      each (suc (suc (suc (suc (suc (suc zero)))))) l = still 6 l refl refl refl
       each (suc (suc (suc (suc (suc (suc (suc j))))))) l = absurd (omega arith)

@@ -1,7 +1,7 @@
 -- Request (v), "A staged value acts on nothing": steps 2 to 5 of a state do the same whatever its stages, and leave them.
 -- Assumes nothing.
 use mathlib.Core.Path.{_≡_, refl}
-use Rattle.rules.specs.Samples.{happened, answered, receiverAfter, alertBroken, raised, heard, alertEvent, occurs, sampled, assigned}
+use Rattle.rules.specs.Samples.{happened, answered, receiverAfter, alertBroken, receiverTimed, linesTimed, raised, heard, alertEvent, occurs, sampled, assigned}
 use Rattle.rules.specs.State.{withStages}
 use Rattle.rules.specs.Tick.{event, interruptNow, signals, stepped, interrupts, lines, pingPairs, outputOf}
 use Rattle.rules.specs.declared.Effects.{Effects}
@@ -13,7 +13,7 @@ use Rattle.rules.specs.declared.Stages.{Stages}
 module _ (g : Handler) (s : Stages) where
   -- what is heard does not hang on them
   pub heard-inert : (x : Sample) (fx : Effects) → heard (withStages s g) x fx ≡ heard g x fx
-  unfolding heard happened answered receiverAfter alertBroken raised
+  unfolding heard happened answered receiverAfter alertBroken raised receiverTimed linesTimed
   heard-inert x fx = refl
 
   pub stepped-inert : (v : Heard) (fx : Effects) → stepped (withStages s g) v fx ≡ withStages s (stepped g v fx)

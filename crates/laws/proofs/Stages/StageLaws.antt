@@ -11,8 +11,8 @@ use lib.Dec.{eqb, ltb}
 use lib.ListN.{getD}
 use Rattle.bits.proofs.IndexLaws.{and-true, at-each}
 use Rattle.rules.specs.Access.{value, store}
-use Rattle.rules.specs.Map.{numberOf, singleRow, fieldRow, settingRow, offset, isRegister, isShadowed}
-use Rattle.rules.specs.Stages.{localStages, alertStages, settingStage, noClassStages, classStages, stageIn, withLocalStages, withAlertStages, withSettingStage, withStage, dropped}
+use Rattle.rules.specs.Map.{numberOf, singleNumber, singleRow, fieldRow, settingRow, offset, isRegister, isShadowed}
+use Rattle.rules.specs.Stages.{localStages, alertStages, settingStage, singleStage, noClassStages, classStages, stageIn, withLocalStages, withAlertStages, withSettingStage, withStage, dropped}
 use Rattle.rules.specs.State.{most, localCount, classCount, fieldIndex, withStages}
 use Rattle.rules.specs.declared.AlertStages.{AlertStages}
 use Rattle.rules.specs.declared.ClassStages.{ClassStages}
@@ -22,19 +22,20 @@ use Rattle.rules.specs.declared.LocalStages.{LocalStages}
 use Rattle.rules.specs.declared.Register.{Register}
 use Rattle.rules.specs.declared.Register.the-variants.{Only, Local, Alert, Block, Unassigned}
 use Rattle.rules.specs.declared.Setting.{Setting}
+use Rattle.rules.specs.declared.Single.the-variants.{PingTimeout}
 use Rattle.rules.specs.declared.Stages.{Stages}
 use Rattle.laws.specs.InMap.{inMap, settingExists}
 use Rattle.laws.proofs.Map.Cases.{pick, by-kind, by-single, by-field, by-setting, cond-other}
 use Rattle.laws.proofs.State.ColumnLaws.{at-changed}
 use Rattle.laws.proofs.Map.MapLaws.{single-number, number-eq}
-use Rattle.laws.proofs.State.StateLaws.{same-field, column-put}
+use Rattle.laws.proofs.State.StateLaws.{same-field, single-same, column-put}
 
 -- ── what the stages do not touch, and what does not touch them ──
 
 -- a register holds the same whatever the stages
 pub value-stages : (s : Stages) (h : Handler) (q : Register) → value (withStages s h) q ≡ value h q
 unfolding value
-value-stages s h = by-kind (λ q. value (withStages s h) q ≡ value h q) (λ o. refl) (λ f j. refl) (λ f i. refl) (λ t k. refl) refl
+value-stages s h = by-kind (λ q. value (withStages s h) q ≡ value h q) (λ o. single-same (withStages s h) h refl refl o) (λ f j. refl) (λ f i. refl) (λ t k. refl) refl
 
 -- a store leaves them
 pub store-stages : (h : Handler) (q : Register) (v : ℕ) → store h q v .stages ≡ h .stages
@@ -106,7 +107,7 @@ module _ (s : Stages) (c : ℕ) where
   -- the register itself
   own : (q : Register) → inMap most q ≡ true → stageIn (withStage q c s) q ≡ cond (isShadowed q) c (stageIn s q)
   unfolding stageIn withStage isShadowed
-  own (Only o) a = by-single (λ o. 0 ≡ cond (singleRow o .shadowed) c 0) refl refl refl o
+  own (Only o) a = by-single (λ o. singleStage o (withStage (Only o) c s) ≡ cond (singleRow o .shadowed) c (singleStage o s)) refl refl refl refl refl refl o
   own (Local f j) a = local-put f f j j (ltb-true j localCount a) ∙ same (fieldRow f .shadowed) (fieldIndex f) j c (stageIn s (Local f j))
   own (Alert f i) a = alert-put f f i i (ltb-true i most a) ∙ same (fieldRow f .shadowed) (fieldIndex f) i c (stageIn s (Alert f i))
   own (Block t k) a =
@@ -130,10 +131,19 @@ module _ (s : Stages) (c : ℕ) where
           let g : offset t ≡ offset u = eqb-true (offset t) (offset u) (and-true (settingRow u .shadowed) (eqb (offset t) (offset u)) o .1) in d (omega arith))
       go false e = refl
 
+  -- the ping timer's timeout, where it is another
+  timeout-other : (q : Register) → (numberOf q ≡ singleNumber PingTimeout → ⊥) → withStage q c s .timeout ≡ s .timeout
+  unfolding withStage numberOf
+  timeout-other =
+      by-kind (λ q. (numberOf q ≡ singleNumber PingTimeout → ⊥) → withStage q c s .timeout ≡ s .timeout)
+      (λ o d. cond-other (eqb (singleNumber o) (singleNumber PingTimeout)) c (s .timeout) (λ e. d (eqb-true (singleNumber o) (singleNumber PingTimeout) e)))
+      (λ f j d. refl) (λ f i d. refl) (λ t k d. refl) (λ d. refl)
+
   -- any other register
   other : (q p : Register) → inMap most p ≡ true → (numberOf q ≡ numberOf p → ⊥) → stageIn (withStage q c s) p ≡ stageIn s p
   unfolding stageIn withStage numberOf
-  other q (Only o) a = λ d. refl
+  other q (Only o) a = by-single (λ o. (numberOf q ≡ singleNumber o → ⊥) → stageIn (withStage q c s) (Only o) ≡ stageIn s (Only o))
+      (λ d. refl) (λ d. refl) (λ d. refl) (λ d. refl) (timeout-other q) (λ d. refl) o
   other q (Local g i) a =
       by-kind (λ q. (numberOf q ≡ numberOf (Local g i) → ⊥) → stageIn (withStage q c s) (Local g i) ≡ stageIn s (Local g i))
       (λ o d. refl)
@@ -172,7 +182,8 @@ never e = absurd (false≢true (sym e))
 pub no-stage : (s : Stages) (q : Register) → isShadowed q ≡ false → stageIn s q ≡ 0
 unfolding stageIn isShadowed
 no-stage s q =
-    by-kind (λ q. isShadowed q ≡ false → stageIn s q ≡ 0) (λ o e. refl)
+    by-kind (λ q. isShadowed q ≡ false → stageIn s q ≡ 0)
+    (by-single (λ o. isShadowed (Only o) ≡ false → stageIn s (Only o) ≡ 0) (λ e. refl) (λ e. refl) (λ e. refl) (λ e. refl) never (λ e. refl))
     (λ f j. by-field (λ f. isShadowed (Local f j) ≡ false → stageIn s (Local f j) ≡ 0) (λ e. refl) never never (λ e. refl) f)
     (λ f i. by-field (λ f. isShadowed (Alert f i) ≡ false → stageIn s (Alert f i) ≡ 0) (λ e. refl) never never (λ e. refl) f)
     (λ t k. by-setting (λ t. isShadowed (Block t k) ≡ false → stageIn s (Block t k) ≡ 0) (λ e. refl) never (λ e. refl) (λ e. refl) (λ e. refl)

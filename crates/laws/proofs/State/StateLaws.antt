@@ -8,14 +8,18 @@ use borrow.Author.Tests.{eqb-true}
 use lib.Dec.{eqb}
 use lib.ListN.{getD}
 use Rattle.bits.proofs.IndexLaws.{at-each}
-use Rattle.rules.specs.Access.{store, fieldStored}
+use Rattle.rules.specs.Access.{singleValue, store, fieldStored}
 use Rattle.rules.specs.Samples.{sampled, alertEvent, occurs, marked}
 use Rattle.rules.specs.State.{most, localCount, fieldIndex, local, alert, localColumn, alertColumn, put}
 use Rattle.rules.specs.declared.Field.{Field}
 use Rattle.rules.specs.declared.Handler.{Handler}
 use Rattle.rules.specs.declared.Heard.{Heard}
+use Rattle.rules.specs.declared.Interrupts.{Interrupts}
 use Rattle.rules.specs.declared.Register.the-variants.{Local, Alert}
+use Rattle.rules.specs.declared.Single.{Single}
+use Rattle.rules.specs.declared.Timer.{Timer}
 use Rattle.laws.specs.Columns.{sameField}
+use Rattle.laws.proofs.Map.Cases.{by-single}
 use Rattle.laws.proofs.State.ColumnLaws.{at-put, field-eq, local-column, alert-column}
 
 -- ── the four fields ──
@@ -46,6 +50,14 @@ module _ (h : Handler) (f : Field) (i v : ℕ) (g : Field) (j : ℕ) where
       ap (λ (xs : List ℕ). getD xs j 0) (alert-column f g (put most (alertColumn f (h .alerts)) 0 i (fieldStored f (alert h f i) v)) (h .alerts))
       ∙ column-put (sameField f g) most (alertColumn f (h .alerts)) (alertColumn g (h .alerts)) i (fieldStored f (alert h f i) v) j l
       (λ e. ap (λ (k : Field). alertColumn k (h .alerts)) (same-field f g e))
+
+-- ── the registers that there is one of ──
+
+-- one holds what the interrupts and the ping timer hold
+pub single-same : (g h : Handler) → g .interrupts ≡ h .interrupts → g .timer ≡ h .timer → (p : Single) → singleValue p g ≡ singleValue p h
+single-same g h i t =
+    by-single (λ p. singleValue p g ≡ singleValue p h) (ap (λ (x : Interrupts). x .state) i) (ap (λ (x : Interrupts). x .enable) i) refl
+    (ap (λ (x : Timer). x .regwen) t) (ap (λ (x : Timer). x .timeout) t) (ap (λ (x : Timer). x .enable) t)
 
 -- ── the samples: CAUSE is set where there is an event, and all else is as it was ──
 

@@ -34,6 +34,7 @@ use Rattle.laws.specs.StageFile.{names}
 use Rattle.laws.proofs.Map.Cases.{by-kind, by-single, by-field, by-setting}
 use Rattle.laws.proofs.Access.RegisterFile.{acted-other, acted-n}
 use Rattle.laws.proofs.Stages.StageFile.{stage-other}
+use Rattle.laws.proofs.State.StateLaws.{single-same}
 
 -- it is said not to move, and does
 moving : {A : Type 0} → true ≡ false → A
@@ -67,11 +68,16 @@ module _ (g : Handler) (v : Heard) (fx : Effects) where
   unfolding stepped sampled
   stepped-links = refl
 
+  -- nor a register of the ping timer
+  pub stepped-timer : stepped g v fx .timer ≡ g .timer
+  unfolding stepped sampled
+  stepped-timer = refl
+
   -- what does not move by itself stays
   pub stepped-frame : (q : Register) → inMap (g .n) q ≡ true → movesItself q ≡ false → value (stepped g v fx) q ≡ value g q
   unfolding stepped sampled value
   stepped-frame =
-      by-kind P (by-single (λ o. P (Only o)) (λ a. moving) (λ a e. refl) (λ a e. refl))
+      by-kind P (by-single (λ o. P (Only o)) (λ a. moving) (λ a e. refl) (λ a e. refl) (λ a e. refl) (λ a e. refl) (λ a e. refl))
       (λ f j. by-field (λ f. P (Local f j)) (λ a e. refl) (λ a e. refl) (λ a e. refl) (λ a. moving) f)
       (λ f i. by-field (λ f. P (Alert f i)) (λ a e. refl) (λ a e. refl) (λ a e. refl) (λ a. moving) f) block (λ a e. refl)
     where
@@ -104,7 +110,7 @@ module _ (g : Handler) (v : Heard) (fx : Effects) where
 
 linked-value : (l : Links) (g : Handler) (q : Register) → value (withLinks l g) q ≡ value g q
 unfolding value
-linked-value l g = by-kind (λ q. value (withLinks l g) q ≡ value g q) (λ o. refl) (λ f j. refl) (λ f i. refl) (λ s k. refl) refl
+linked-value l g = by-kind (λ q. value (withLinks l g) q ≡ value g q) (λ o. single-same (withLinks l g) g refl refl o) (λ f j. refl) (λ f i. refl) (λ s k. refl) refl
 
 -- a register after a tick
 pub after-value : (h : Handler) (x : Input) (q : Register)
@@ -123,6 +129,11 @@ after-still h x q a e =
 pub after-n : (h : Handler) (x : Input) → after h x .n ≡ h .n
 unfolding after
 after-n h x = stepped-n (acted h (x .access)) (hears h x) (effects h (x .access)) ∙ acted-n h (x .access)
+
+-- only step 1 changes the ping timer's registers
+pub after-timer : (h : Handler) (x : Input) → after h x .timer ≡ acted h (x .access) .timer
+unfolding after
+after-timer h x = stepped-timer (acted h (x .access)) (hears h x) (effects h (x .access))
 
 -- the stages are what the access left, and so changed only by an access that names the register
 pub after-stages : (h : Handler) (x : Input) → after h x .stages ≡ acted h (x .access) .stages

@@ -98,7 +98,7 @@ module _ (g : Handler) (v : Heard) (m : g .n ≤ most) (q : Silent g v) where
     pub quiet-frame : g .interrupts .state < 16 → ((k : ℕ) → k < classCount → bit (fx .clears) k ≡ false)
         → (q : Register) → inMap (g .n) q ≡ true → runs q ≡ false → value (stepped g v fx) q ≡ value g q
     quiet-frame s c =
-        by-kind P (by-single (λ o. P (Only o)) (λ a e. quiet-state s) (still _ refl) (still _ refl))
+        by-kind P (by-single (λ o. P (Only o)) (λ a e. quiet-state s) (still _ refl) (still _ refl) (still _ refl) (still _ refl) (still _ refl))
         (λ f j. by-field (λ f. P (Local f j)) (still _ refl) (still _ refl) (still _ refl) (λ a e. quiet-local j (ltb-true j localCount a)) f)
         (λ f i. by-field (λ f. P (Alert f i)) (still _ refl) (still _ refl) (still _ refl)
         (λ a e. quiet-cause i (omega (arith, ltb-true i (g .n) a))) f)

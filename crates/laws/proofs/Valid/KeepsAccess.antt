@@ -8,10 +8,10 @@ use borrow.Author.Tests.{eqb-true, ltb-true, not-false}
 use lib.Dec.{eqb}
 use Rattle.bits.proofs.BitLaws.{bitsOf-lt}
 use Rattle.bits.proofs.IndexLaws.{and-true}
-use Rattle.rules.specs.Access.{accepted, accepts, verdict, isFirst, store, fieldStored, withSingle, withSetting, drops, acted}
+use Rattle.rules.specs.Access.{accepted, accepts, verdict, isFirst, store, fieldStored, withInterrupt, withPing, withSetting, drops, acted}
 use Rattle.rules.specs.Map.{decode, numberOf, bits, singleBits, fieldBits, settingBits}
 use Rattle.rules.specs.Stages.{stage, stageIn}
-use Rattle.rules.specs.State.{most, localCount, classCount, local, alert, classAt, withStages}
+use Rattle.rules.specs.State.{most, localCount, classCount, local, alert, classAt, isOn, withStages}
 use Rattle.rules.specs.Valid.{valid}
 use Rattle.rules.specs.declared.Access.{Access}
 use Rattle.rules.specs.declared.Access.the-variants.{Nothing, Read, Write, Malformed}
@@ -21,22 +21,24 @@ use Rattle.rules.specs.declared.Register.{Register}
 use Rattle.rules.specs.declared.Register.the-variants.{Only, Local, Alert, Block, Unassigned}
 use Rattle.rules.specs.declared.Setting.{Setting}
 use Rattle.rules.specs.declared.Single.{Single}
-use Rattle.rules.specs.declared.Single.the-variants.{IntrState, IntrEnable, IntrTest}
+use Rattle.rules.specs.declared.Single.the-variants.{IntrState, IntrEnable, IntrTest, PingRegwen, PingTimeout, PingEnable}
 use Rattle.rules.specs.declared.Stages.{Stages}
 use Rattle.rules.specs.declared.Verdict.{Verdict}
 use Rattle.laws.specs.Columns.{sameField}
-use Rattle.laws.specs.Facts.{ClassValid, Valid}
+use Rattle.laws.specs.Facts.{ClassValid, TimerValid, PingsOwned, Valid}
 use Rattle.laws.specs.InMap.{inMap}
 use Rattle.laws.specs.RegisterFile.{stores, storedBy}
 use Rattle.laws.specs.StageFile.{names, stageGiven, stageBy}
 use Rattle.laws.proofs.Map.Cases.{pick}
 use Rattle.laws.proofs.Map.MapLaws.{number-eq}
+use Rattle.laws.proofs.Access.Enabling.{stored-on}
 use Rattle.laws.proofs.Access.Refusals.{unrefused}
 use Rattle.laws.proofs.Access.Step1.{acted-is}
 use Rattle.laws.proofs.Access.RegisterFile.{class-stored, stored-n, stores-accepted, accepted-in-map}
 use Rattle.laws.proofs.Stages.StageFile.{in-most, acted-stage}
 use Rattle.laws.proofs.State.StateLaws.{same-field, local-store, alert-store}
 use Rattle.laws.proofs.Valid.KeepsClass.{setting-valid}
+use Rattle.laws.proofs.Valid.PingFits.{owned-on}
 use Rattle.laws.proofs.Valid.ValidLaws.{facts, is-valid}
 
 -- a field that is written holds no more than its bits
@@ -58,10 +60,31 @@ chosen-fits f g i j v old x l o b =
 -- every register of a valid state, where v is written to one and fits it
 module _ (h : Handler) (t : Valid h) (v : ℕ) where
   single-store : (o : Single) → v < 2 ^ singleBits o
-      → (withSingle o v (h .interrupts) .state < 2 ^ 4) × (withSingle o v (h .interrupts) .enable < 2 ^ 4)
+      → (withInterrupt o v (h .interrupts) .state < 2 ^ 4) × (withInterrupt o v (h .interrupts) .enable < 2 ^ 4)
   single-store IntrState l = (bitsOf-lt 4 _, t .enable)
   single-store IntrEnable l = (t .state, l)
   single-store IntrTest l = (bitsOf-lt 4 _, t .enable)
+  single-store PingRegwen l = (t .state, t .enable)
+  single-store PingTimeout l = (t .state, t .enable)
+  single-store PingEnable l = (t .state, t .enable)
+
+  timer-store : (o : Single) → v < 2 ^ singleBits o → TimerValid (withPing o v (h .timer))
+  timer-store IntrState l = t .timer
+  timer-store IntrEnable l = t .timer
+  timer-store IntrTest l = t .timer
+  timer-store PingRegwen l = record { regwen = l; timeout = t .timer .timeout; enable = t .timer .enable }
+  timer-store PingTimeout l = record { regwen = t .timer .regwen; timeout = l; enable = t .timer .enable }
+  timer-store PingEnable l =
+      record {
+        regwen = t .timer .regwen;
+        timeout = t .timer .timeout;
+        enable = pick (λ n. n < 2) (eqb v 0) (h .timer .enable) v (λ _. t .timer .enable) (λ _. l);
+      }
+
+  -- a timer that is on stays on, so that its open pings are still its turn's
+  pings-store : (o : Single) → v < 2 ^ singleBits o → PingsOwned (h .n) (isOn (store h (Only o) v)) (h .links)
+  unfolding bits
+  pings-store o l = owned-on (h .n) (isOn h) (isOn (store h (Only o) v)) _ _ _ (stored-on h v (Only o) l) (t .pings)
 
   locals-store : (f : Field) (i : ℕ) → v < 2 ^ fieldBits f → (g : Field) (j : ℕ) → j < localCount → local (store h (Local f i) v) g j < 2 ^ fieldBits g
   locals-store f i l g j b =
@@ -83,13 +106,23 @@ store-valid : (h : Handler) (q : Register) (v : ℕ) → v < 2 ^ bits q → Vali
 unfolding store bits
 store-valid h (Only o) v l t =
     let s = single-store h t v o l in
-    record { n = t .n; state = s .0; enable = s .1; locals = t .locals; alerts = t .alerts; classes = t .classes; stages = t .stages }
+    record {
+      n = t .n;
+      state = s .0;
+      enable = s .1;
+      locals = t .locals;
+      alerts = t .alerts;
+      classes = t .classes;
+      timer = timer-store h t v o l;
+      pings = pings-store h t v o l;
+      stages = t .stages;
+    }
 store-valid h (Local f i) v l t =
-    record { n = t .n; state = t .state; enable = t .enable; locals = locals-store h t v f i l; alerts = t .alerts; classes = t .classes; stages = t .stages }
+    record { n = t .n; state = t .state; enable = t .enable; locals = locals-store h t v f i l; alerts = t .alerts; classes = t .classes; timer = t .timer; pings = t .pings; stages = t .stages }
 store-valid h (Alert f i) v l t =
-    record { n = t .n; state = t .state; enable = t .enable; locals = t .locals; alerts = alerts-store h t v f i l; classes = t .classes; stages = t .stages }
+    record { n = t .n; state = t .state; enable = t .enable; locals = t .locals; alerts = alerts-store h t v f i l; classes = t .classes; timer = t .timer; pings = t .pings; stages = t .stages }
 store-valid h (Block s i) v l t =
-    record { n = t .n; state = t .state; enable = t .enable; locals = t .locals; alerts = t .alerts; classes = classes-store h t v s i l; stages = t .stages }
+    record { n = t .n; state = t .state; enable = t .enable; locals = t .locals; alerts = t .alerts; classes = classes-store h t v s i l; timer = t .timer; pings = t .pings; stages = t .stages }
 store-valid h Unassigned v l t = t
 
 -- an accepted write fits its field
@@ -108,7 +141,7 @@ stored-valid h Malformed t = t
 -- whatever the stages, if they fit
 restaged-valid : (h : Handler) (s : Stages) → ((q : Register) → inMap (h .n) q ≡ true → stageIn s q ≤ 2 ^ bits q) → Valid h → Valid (withStages s h)
 restaged-valid h s f t =
-    record { n = t .n; state = t .state; enable = t .enable; locals = t .locals; alerts = t .alerts; classes = t .classes; stages = f }
+    record { n = t .n; state = t .state; enable = t .enable; locals = t .locals; alerts = t .alerts; classes = t .classes; timer = t .timer; pings = t .pings; stages = f }
 
 -- what an accepted access leaves at the register that it names: none, or what an accepted write would store
 given-fits : (h : Handler) (x : Access) (q : Register) (old : ℕ) → h .n ≤ most → inMap (h .n) q ≡ true → names h x q ≡ true

@@ -8,16 +8,18 @@ use native.Mathlib.Omega.{arith}
 use borrow.Author.Tests.{ltb-true, ltb-false}
 use lib.Dec.{eqb, ltb}
 use lib.ListN.{getD, replicate, getD-replicate}
-use Rattle.bits.proofs.BitLaws.{bitsOf-lt}
+use Rattle.bits.proofs.BitLaws.{bit-none, bitsOf-lt}
 use Rattle.bits.proofs.IndexLaws.{and-true, at-each}
 use Rattle.class_rules.specs.Class.{noClass, stateOf}
 use Rattle.class_rules.specs.Step.{classStep}
+use Rattle.link_rules.specs.Receiver.{newReceiver}
+use Rattle.link_rules.specs.declared.Receiver.{Receiver}
 use Rattle.rules.specs.Access.{acted, effects}
 use Rattle.rules.specs.Map.{fieldBits}
 use Rattle.rules.specs.Run.{run}
 use Rattle.rules.specs.Samples.{sampled, marked, alertEvent, occurs}
 use Rattle.rules.specs.Stages.{settingStage, noClassStages, stageIn, stage}
-use Rattle.rules.specs.State.{most, localCount, classCount, local, alert, classAt, resetClass, withLinks, newHandler, badCount, made}
+use Rattle.rules.specs.State.{most, localCount, classCount, local, alert, classAt, isOn, resetClass, withLinks, newHandler, badCount, made}
 use Rattle.rules.specs.Tick.{signals, stepped, linksAfter, hears, after, tick, ticked}
 use Rattle.rules.specs.Valid.{valid}
 use Rattle.rules.specs.declared.Field.{Field}
@@ -28,15 +30,17 @@ use Rattle.rules.specs.declared.Input.{Input}
 use Rattle.rules.specs.declared.Links.{Links}
 use Rattle.rules.specs.declared.Made.{Made}
 use Rattle.rules.specs.declared.Register.{Register}
-use Rattle.rules.specs.declared.Register.the-variants.{Local, Alert}
+use Rattle.rules.specs.declared.Register.the-variants.{Only, Local, Alert}
 use Rattle.rules.specs.declared.Setting.{Setting}
 use Rattle.rules.specs.declared.Ticked.{Ticked}
 use Rattle.laws.specs.Columns.{sameField}
-use Rattle.laws.specs.Facts.{ClassValid, Valid}
+use Rattle.laws.specs.Facts.{ClassValid, PingsOwned, Valid}
 use Rattle.laws.specs.InMap.{inMap, settingExists}
-use Rattle.laws.proofs.Map.Cases.{pick, by-kind, by-field, by-setting}
+use Rattle.laws.proofs.Map.Cases.{pick, by-kind, by-single, by-field, by-setting, never}
+use Rattle.laws.proofs.Samples.Heard.{receiver-by}
 use Rattle.laws.proofs.Stages.StageFile.{in-most}
 use Rattle.laws.proofs.State.StateLaws.{local-sampled, alert-sampled}
+use Rattle.laws.proofs.Tick.Turns.{after-owned}
 use Rattle.laws.proofs.Valid.KeepsAccess.{acted-valid}
 use Rattle.laws.proofs.Valid.KeepsClass.{step-valid}
 use Rattle.laws.proofs.Valid.ValidLaws.{facts, is-valid}
@@ -60,6 +64,8 @@ stepped-facts g v fx t =
       locals = λ f j b. rw (local-sampled g v f j b) (marked-fits f (occurs g v j) (local g f j) (t .locals f j b));
       alerts = λ f i b. rw (alert-sampled g v f i (omega (arith, t .n))) (marked-fits f (alertEvent g v i) (alert g f i) (t .alerts f i b));
       classes = λ k b. rw (at-each classCount (λ j. classStep (signals g v fx j) (classAt g j)) k noClass b) (step-valid (signals g v fx k) (classAt g k) (t .classes k b));
+      timer = t .timer;
+      pings = t .pings;
       stages = t .stages;
     }
 
@@ -67,10 +73,23 @@ stepped-facts g v fx t =
 pub stepped-valid : (g : Handler) (v : Heard) (fx : Effects) → valid g ≡ true → valid (stepped g v fx) ≡ true
 stepped-valid g v fx e = is-valid (stepped g v fx) (stepped-facts g v fx (facts g e))
 
--- links of any bits are links
-pub linked-valid : (l : Links) (g : Handler) → valid (withLinks l g) ≡ valid g
-unfolding valid
-linked-valid l g = refl
+-- and so do links whose open pings are the turn's
+linked-facts : (l : Links) (g : Handler) → PingsOwned (g .n) (isOn g) l → Valid g → Valid (withLinks l g)
+linked-facts l g o t =
+    record {
+      n = t .n;
+      state = t .state;
+      enable = t .enable;
+      locals = t .locals;
+      alerts = t .alerts;
+      classes = t .classes;
+      timer = t .timer;
+      pings = o;
+      stages = t .stages;
+    }
+
+pub linked-valid : (l : Links) (g : Handler) → PingsOwned (g .n) (isOn g) l → valid g ≡ true → valid (withLinks l g) ≡ true
+linked-valid l g o e = is-valid (withLinks l g) (linked-facts l g o (facts g e))
 
 -- ── ticks ──
 
@@ -78,8 +97,10 @@ linked-valid l g = refl
 pub after-valid : (h : Handler) (x : Input) → valid h ≡ true → valid (after h x) ≡ true
 unfolding after
 after-valid h x e =
+    let t = facts h e in
     linked-valid (linksAfter (hears h x)) (stepped (acted h (x .access)) (hears h x) (effects h (x .access)))
-    ∙ stepped-valid (acted h (x .access)) (hears h x) (effects h (x .access)) (acted-valid h (x .access) e)
+    (after-owned h x (t .n) (t .timer .enable) (t .pings))
+    (stepped-valid (acted h (x .access)) (hears h x) (effects h (x .access)) (acted-valid h (x .access) e))
 
 -- a tick
 pub ticked-valid : (h : Handler) (x : Input) → valid h ≡ true → valid (ticked h x .handler) ≡ true
@@ -138,7 +159,7 @@ new-block =
 pub new-stage : (n : ℕ) (q : Register) → inMap most q ≡ true → stage (newHandler n) q ≡ 0
 unfolding newHandler stageIn
 new-stage n =
-    by-kind P (λ o a. refl)
+    by-kind P (by-single (λ o. P (Only o)) (λ a. refl) (λ a. refl) (λ a. refl) (λ a. refl) (λ a. refl) (λ a. refl))
     (λ f j. by-field (λ f. P (Local f j)) (λ a. refl) (λ a. getD-replicate localCount j 0 0 (ltb-true j localCount a))
     (λ a. getD-replicate localCount j 0 0 (ltb-true j localCount a)) (λ a. refl) f)
     (λ f i. by-field (λ f. P (Alert f i)) (λ a. refl) (λ a. getD-replicate most i 0 0 (ltb-true i most a))
@@ -148,6 +169,15 @@ new-stage n =
   where
     P : Register → Type 0
     P q = inMap most q ≡ true → stage (newHandler n) q ≡ 0
+
+-- no ping is open
+new-pings : (n : ℕ) → n ≤ most → PingsOwned n (isOn (newHandler n)) (newHandler n .links)
+unfolding newHandler
+new-pings n l =
+    record {
+      alert = λ i b o. never (sym (ap (λ (r : Receiver). r .pending) (receiver-by (λ j. newReceiver) i (omega arith))) ∙ o);
+      line = λ e b o. never (sym (bit-none e) ∙ o);
+    }
 
 new-facts : (n : ℕ) → n ≤ most → Valid (newHandler n)
 unfolding newHandler
@@ -159,6 +189,8 @@ new-facts n l =
       locals = new-locals n;
       alerts = λ f i h. new-alerts n f i (omega arith);
       classes = λ k h. subst ClassValid (sym (getD-replicate classCount k resetClass noClass h)) reset-valid;
+      timer = record { regwen = omega arith; timeout = omega arith; enable = omega arith };
+      pings = new-pings n l;
       stages = λ q a. rw (new-stage n q (in-most n q l a)) (omega arith);
     }
 

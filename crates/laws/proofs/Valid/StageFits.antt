@@ -16,12 +16,13 @@ use Rattle.rules.specs.Valid.{codesFit, classStagesFit, stagesFit}
 use Rattle.rules.specs.declared.ClassStages.{ClassStages}
 use Rattle.rules.specs.declared.Field.{Field}
 use Rattle.rules.specs.declared.Register.{Register}
-use Rattle.rules.specs.declared.Register.the-variants.{Local, Alert, Block}
+use Rattle.rules.specs.declared.Register.the-variants.{Only, Local, Alert, Block}
 use Rattle.rules.specs.declared.Setting.{Setting}
 use Rattle.rules.specs.declared.Setting.the-variants.{Ctrl, AccumThresh, TimeoutCyc, PhaseCyc}
+use Rattle.rules.specs.declared.Single.the-variants.{PingTimeout}
 use Rattle.rules.specs.declared.Stages.{Stages}
 use Rattle.laws.specs.InMap.{inMap, settingExists}
-use Rattle.laws.proofs.Map.Cases.{by-kind, by-field, by-setting}
+use Rattle.laws.proofs.Map.Cases.{by-kind, by-single, by-field, by-setting}
 
 -- a column of codes
 codes-at : (b : ℕ) (xs : List ℕ) (n : ℕ) → codesFit b xs n ≡ true → (i : ℕ) → i < n → getD xs i 0 ≤ 2 ^ b
@@ -57,13 +58,15 @@ module _ (n : ℕ) (s : Stages) where
       let l = and-true _ _ (a .0) in
       let b = and-true _ _ (a .1) in
       let r = and-true _ _ (b .0) in
-      by-kind P (λ o _. omega arith)
+      let d = and-true _ _ (b .1) in
+      by-kind P
+      (by-single (λ o. P (Only o)) (λ _. omega arith) (λ _. omega arith) (λ _. omega arith) (λ _. omega arith) (λ _. leb-true _ _ (d .1)) (λ _. omega arith))
       (λ f j. by-field (λ f. P (Local f j)) (λ _. omega arith) (λ m. codes-at 1 (s .locals .en) localCount (l .0) j (ltb-true j localCount m))
       (λ m. codes-at 2 (s .locals .class) localCount (l .1) j (ltb-true j localCount m)) (λ _. omega arith) f)
       (λ f i. by-field (λ f. P (Alert f i)) (λ _. omega arith) (λ m. codes-at 1 (s .alerts .en) n (r .0) i (ltb-true i n m))
       (λ m. codes-at 2 (s .alerts .class) n (r .1) i (ltb-true i n m)) (λ _. omega arith) f)
       (λ t k m. let c = and-true (ltb k classCount) (settingExists t) m in
-      settings-at (classStages s k) (all-at (λ k. classStagesFit (classStages s k)) classCount (b .1) k (ltb-true k classCount (c .0))) t (c .1))
+      settings-at (classStages s k) (all-at (λ k. classStagesFit (classStages s k)) classCount (d .0) k (ltb-true k classCount (c .0))) t (c .1))
       (λ m. absurd (false≢true m))
     where
       P : Register → Type 0
@@ -79,5 +82,7 @@ module _ (n : ℕ) (s : Stages) where
       (true-and
       (true-and (codes-of 1 (s .alerts .en) n (λ i l. f (Alert Field.En i) (lt-ltb i n l)))
       (codes-of 2 (s .alerts .class) n (λ i l. f (Alert Field.Class i) (lt-ltb i n l))))
+      (true-and
       (all-of (λ k. classStagesFit (classStages s k)) classCount
-      (λ k l. settings-of (classStages s k) (λ t e. f (Block t k) (true-and (lt-ltb k classCount l) e)))))
+      (λ k l. settings-of (classStages s k) (λ t e. f (Block t k) (true-and (lt-ltb k classCount l) e))))
+      (le-leb _ _ (f (Only PingTimeout) refl))))

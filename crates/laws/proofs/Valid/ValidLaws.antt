@@ -24,6 +24,7 @@ use Rattle.rules.specs.declared.Single.{Single}
 use Rattle.laws.specs.InMap.{inMap, settingExists}
 use Rattle.laws.specs.Facts.{ClassValid, Valid}
 use Rattle.laws.proofs.Map.Cases.{by-kind, by-single, by-setting}
+use Rattle.laws.proofs.Valid.PingFits.{timer-at, timer-of, pings-at, pings-of}
 use Rattle.laws.proofs.Valid.StageFits.{stages-at, stages-of}
 
 four-true : (a b c d : Bool) → (a && (b && (c && d))) ≡ true → (a ≡ true) × (b ≡ true) × (c ≡ true) × (d ≡ true)
@@ -124,6 +125,8 @@ facts h e =
     let d = and-true _ _ (c .1) in
     let f = and-true _ _ (d .1) in
     let g = and-true _ _ (f .1) in
+    let i = and-true _ _ (g .1) in
+    let j = and-true _ _ (i .1) in
     record {
       n = leb-true _ _ (a .0);
       state = ltb-true _ _ (b .0);
@@ -131,7 +134,9 @@ facts h e =
       locals = columns-at (λ g. localColumn g (h .locals)) localCount (d .0);
       alerts = columns-at (λ g. alertColumn g (h .alerts)) (h .n) (f .0);
       classes = λ k l. class-facts (classAt h k) (all-at (λ x. classFits (classAt h x)) classCount (g .0) k l);
-      stages = stages-at (h .n) (h .stages) (g .1);
+      timer = timer-at (h .timer) (i .0);
+      pings = pings-at h (j .0);
+      stages = stages-at (h .n) (h .stages) (j .1);
     }
 
 -- and a state with the facts is one that it does not meet
@@ -144,13 +149,14 @@ is-valid h v =
     (true-and (columns-of (λ g. localColumn g (h .locals)) localCount (v .locals))
     (true-and (columns-of (λ g. alertColumn g (h .alerts)) (h .n) (v .alerts))
     (true-and (all-of (λ x. classFits (classAt h x)) classCount (λ k l. class-fits (classAt h k) (v .classes k l)))
-    (stages-of (h .n) (h .stages) (v .stages)))))))
+    (true-and (timer-of (h .timer) (v .timer)) (true-and (pings-of h (v .pings)) (stages-of (h .n) (h .stages) (v .stages)))))))))
 
 -- ── every register ──
 
 -- a register that there is one of
-single-bounded : (h : Handler) → Valid h → (o : Single) → singleValue o (h .interrupts) < 2 ^ singleBits o
-single-bounded h v = by-single (λ o. singleValue o (h .interrupts) < 2 ^ singleBits o) (v .state) (v .enable) (omega arith)
+single-bounded : (h : Handler) → Valid h → (o : Single) → singleValue o h < 2 ^ singleBits o
+single-bounded h v =
+    by-single (λ o. singleValue o h < 2 ^ singleBits o) (v .state) (v .enable) (omega arith) (v .timer .regwen) (v .timer .timeout) (v .timer .enable)
 
 -- a register of a class's block
 setting-bounded : (c : Class) → ClassValid c → (s : Setting) → settingExists s ≡ true → settingValue s c < 2 ^ settingBits s

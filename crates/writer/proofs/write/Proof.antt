@@ -13,6 +13,7 @@ use mir.Syntax.{w64}
 use mir.Val.{toZ, ofZ}
 use Rattle.trace_rules.specs.Edition.{newest, recordBytes}
 use Rattle.trace_rules.specs.Writer.{writeVerdict}
+use Rattle.writer.specs.Lent as specs
 use Rattle.writer.specs.Lent.{Lent, listOf, even, Wrote, ReadBack, WrittenBack}
 use Rattle.writer.specs.EntryParts.{Ready}
 use Rattle.writer.proofs.Back.{contract}
@@ -23,17 +24,19 @@ use Rattle.writer.proofs.write.Tie as tie
 -- the lists and the buffer that are lent
 abbrev lent : tie.After-slice-known → Lent
 lent c =
-    let a = c .before .before .before .before .before .before .args in
-    record { kinds = a .kinds .now; registers = a .registers .now; values = a .values .now; positive = a .positive .now; negative = a .negative .now }
+    let a = c .before .before .before .before .before .before .before .before .args in
+    specs.lent (a .kinds .now) (a .registers .now) (a .values .now) (a .positive .now) (a .negative .now) (a .entropy .now) (a .answers .now)
 
 abbrev buffer : tie.After-slice-known → List ℕ
-buffer c = c .before .before .before .before .before .before .args .out .now
+buffer c = c .before .before .before .before .before .before .before .before .args .out .now
 
--- what was written tells the rest; a word of wires has 64 bits by the slices' rule
+-- what was written tells the rest; a word of wires has 64 bits and an entropy word 32 by the slices' rule
 whole : (c : tie.After-slice-known) (r : ℤ) (left : List ℕ) → Wrote (lent c) (buffer c) r left
     → Wrote (lent c) (buffer c) r left × (ReadBack (lent c) (buffer c) left × WrittenBack (lent c) (buffer c) left)
 whole c r left w =
-    contract (lent c) (buffer c) r left w (λ i. c .before .before .shared-slice-known4 .given i .fits) (λ i. c .before .shared-slice-known5 .given i .fits)
+    let entropy = c .before .before in
+    contract (lent c) (buffer c) r left w (λ i. entropy .before .before .shared-slice-known4 .given i .fits) (λ i. entropy .before .shared-slice-known5 .given i .fits)
+    (λ i. entropy .shared-slice-known6 .given i .fits)
 
 unequal-lengths : (c : tie.Then1) → not (even (lent (c .before .before))) ≡ true
 unequal-lengths c = sym (c .before .are-uneven .ensures) ∙ c .if1 .taken
@@ -51,7 +54,7 @@ is-ready c = let judge = c .before .before in ready _ _ (equal-lengths (judge .b
 count-fits : (c : tie.After-enum-told) → length (lent (c .before .before .before .before .before .before) .kinds) * recordBytes newest < 2 ^ 63
 count-fits c =
     let known = c .before .before .before .before .before .before in
-    omega (arith, is-ready c .room, known .before .before .before .before .before .before .good .1 .1 .1 .1 .1 .0 .1)
+    omega (arith, is-ready c .room, known .before .before .before .before .before .before .before .before .good .1 .1 .1 .1 .1 .1 .1 .0 .1)
 
 are-uneven-requires : tie.Need-are-uneven-requires
 are-uneven-requires c κs = search needs

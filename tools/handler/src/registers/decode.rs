@@ -1,6 +1,7 @@
 //! What a register number names.
 use super::field::Field;
-use super::map::{Map, CLASS_STRIDE, INTR_ENABLE, INTR_STATE, INTR_TEST, LOCAL, LOCAL_STRIDE};
+use super::map::{Map, CLASS_STRIDE, LOCAL, LOCAL_STRIDE};
+use super::map::{INTR_ENABLE, INTR_STATE, INTR_TEST, PING_ENABLE, PING_REGWEN, PING_TIMEOUT};
 use super::register::Register;
 use super::setting::Setting;
 use crate::{CLASSES, LOCALS};
@@ -36,6 +37,9 @@ impl Map {
             INTR_STATE => Some(Register::IntrState),
             INTR_ENABLE => Some(Register::IntrEnable),
             INTR_TEST => Some(Register::IntrTest),
+            PING_REGWEN => self.timer.then_some(Register::PingRegwen),
+            PING_TIMEOUT => self.timer.then_some(Register::PingTimeout),
+            PING_ENABLE => self.timer.then_some(Register::PingEnable),
             _ => local(number)
                 .or_else(|| alert(self, number))
                 .or_else(|| class(self, number)),

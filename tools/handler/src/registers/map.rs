@@ -13,6 +13,15 @@ pub const INTR_TEST: u16 = 2;
 /// The bits of each of the three.
 pub const INTR_BITS: u32 = 4;
 
+/// PING_TIMER_REGWEN, in editions with the ping timer.
+pub const PING_REGWEN: u16 = 4;
+/// PING_TIMEOUT_CYC, there.
+pub const PING_TIMEOUT: u16 = 5;
+/// PING_TIMER_EN, there.
+pub const PING_ENABLE: u16 = 6;
+/// The bits of PING_TIMEOUT_CYC; the other two have 1.
+pub const PING_TIMEOUT_BITS: u32 = 16;
+
 /// The first local block, and the numbers from each to the next, in every edition.
 pub(super) const LOCAL: u16 = 16;
 pub(super) const LOCAL_STRIDE: u16 = 8;
@@ -28,13 +37,22 @@ pub struct Map {
     pub stride: u16,
     /// The number at which the block of class A begins.
     pub classes: u16,
+    /// Has the ping timer its numbers, 4 to 6?
+    pub timer: bool,
 }
 
-/// The map: that of ticks, and of records from request (iii) on.
+/// The map: that of ticks, and of the newest records.
 pub const MAP: Map = Map {
     alerts: 248,
     stride: 256,
     classes: 1280,
+    timer: true,
+};
+
+/// That of request (iii), and of its records of 70 bytes.
+pub const MAP_248: Map = Map {
+    timer: false,
+    ..MAP
 };
 
 /// That of document 01, and of its records of 24 bytes.
@@ -42,6 +60,7 @@ pub const MAP_64: Map = Map {
     alerts: 64,
     stride: 64,
     classes: 320,
+    timer: false,
 };
 
 impl Map {
@@ -81,6 +100,9 @@ impl Map {
             Register::IntrState => Some(INTR_STATE),
             Register::IntrEnable => Some(INTR_ENABLE),
             Register::IntrTest => Some(INTR_TEST),
+            Register::PingRegwen => self.timer.then_some(PING_REGWEN),
+            Register::PingTimeout => self.timer.then_some(PING_TIMEOUT),
+            Register::PingEnable => self.timer.then_some(PING_ENABLE),
             Register::Local(field, j) => (j < LOCALS).then(|| self.local(field, j)),
             Register::Alert(field, i) => (i < self.alerts).then(|| self.alert(field, i)),
             Register::Class(k, setting) => (k < CLASSES).then(|| self.class(k, setting)),

@@ -40,6 +40,9 @@ fn name(register: Register) -> String {
         Register::Alert(field, i) => format!("ALERT_{}_{i}", source(field)),
         Register::Class(k, s) => format!("CLASS{}_{}", LETTERS[k], setting(s)),
         Register::IntrState | Register::IntrEnable | Register::IntrTest => register.to_string(),
+        Register::PingRegwen | Register::PingTimeout | Register::PingEnable => {
+            marked(&register.to_string(), register.is_shadowed())
+        }
     }
 }
 
@@ -84,6 +87,9 @@ mod tests {
         for (ours, papers) in [
             ("INTR_STATE", "INTR_STATE"),
             ("INTR_ENABLE", "INTR_ENABLE"),
+            ("PING_TIMER_REGWEN", "PING_TIMER_REGWEN"),
+            ("PING_TIMEOUT_CYC", "PING_TIMEOUT_CYC_SHADOWED"),
+            ("PING_TIMER_EN", "PING_TIMER_EN"),
             ("LOC_ALERT0_REGWEN", "LOC_ALERT_REGWEN_0"),
             ("LOC_ALERT6_EN", "LOC_ALERT_EN_SHADOWED_6"),
             ("LOC_ALERT3_CLASS", "LOC_ALERT_CLASS_SHADOWED_3"),

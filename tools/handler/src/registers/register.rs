@@ -16,6 +16,12 @@ pub enum Register {
     IntrEnable,
     /// INTR_TEST.
     IntrTest,
+    /// PING_TIMER_REGWEN, which guards the next two.
+    PingRegwen,
+    /// PING_TIMEOUT_CYC.
+    PingTimeout,
+    /// PING_TIMER_EN.
+    PingEnable,
     /// A register of a local alert.
     Local(Field, usize),
     /// A register of an alert.
@@ -30,6 +36,9 @@ impl Display for Register {
             Register::IntrState => out.write_str("INTR_STATE"),
             Register::IntrEnable => out.write_str("INTR_ENABLE"),
             Register::IntrTest => out.write_str("INTR_TEST"),
+            Register::PingRegwen => out.write_str("PING_TIMER_REGWEN"),
+            Register::PingTimeout => out.write_str("PING_TIMEOUT_CYC"),
+            Register::PingEnable => out.write_str("PING_TIMER_EN"),
             Register::Local(field, j) => write!(out, "LOC_ALERT{j}_{}", field.name()),
             Register::Alert(field, i) => write!(out, "ALERT{i}_{}", field.name()),
             Register::Class(k, setting) => write!(out, "CLASS{}_{}", LETTERS[k], setting.name()),
@@ -58,6 +67,8 @@ impl Register {
     pub fn is_shadowed(self) -> bool {
         match self {
             Register::IntrState | Register::IntrEnable | Register::IntrTest => false,
+            Register::PingRegwen | Register::PingEnable => false,
+            Register::PingTimeout => true,
             Register::Local(field, _) | Register::Alert(field, _) => field.is_shadowed(),
             Register::Class(_, setting) => setting.is_shadowed(),
         }
@@ -74,6 +85,9 @@ impl Register {
             "INTR_STATE" => return Some(Register::IntrState),
             "INTR_ENABLE" => return Some(Register::IntrEnable),
             "INTR_TEST" => return Some(Register::IntrTest),
+            "PING_TIMER_REGWEN" => return Some(Register::PingRegwen),
+            "PING_TIMEOUT_CYC" => return Some(Register::PingTimeout),
+            "PING_TIMER_EN" => return Some(Register::PingEnable),
             _ => {}
         }
         if let Some(rest) = name.strip_prefix("LOC_ALERT") {

@@ -1,5 +1,5 @@
-//! Numbers and names go both ways, in both numberings, and each old number goes to the new one of its register.
-use super::{Field, Map, Register, Setting, MAP, MAP_64};
+//! Numbers and names go both ways, in every numbering, and each old number goes to the new one of its register.
+use super::{Field, Map, Register, Setting, MAP, MAP_248, MAP_64};
 
 fn name(map: &Map, number: u16) -> Option<String> {
     map.register(number).map(|register| register.to_string())
@@ -16,6 +16,9 @@ fn registers_are_named_as_document_01_has_them() {
         (1, Some("INTR_ENABLE")),
         (2, Some("INTR_TEST")),
         (3, None),
+        (4, None),
+        (5, None),
+        (6, None),
         (22, Some("LOC_ALERT6_REGWEN")),
         (23, None),
         (24, Some("LOC_ALERT0_EN")),
@@ -44,10 +47,14 @@ fn registers_are_named_as_document_01_has_them() {
 }
 
 #[test]
-fn registers_are_named_as_request_iii_has_them() {
+fn registers_are_named_as_requests_iii_and_ix_have_them() {
     for (number, wanted) in [
         (2, Some("INTR_TEST")),
         (3, None),
+        (4, Some("PING_TIMER_REGWEN")),
+        (5, Some("PING_TIMEOUT_CYC")),
+        (6, Some("PING_TIMER_EN")),
+        (7, None),
         (46, Some("LOC_ALERT6_CAUSE")),
         (64, None),
         (255, None),
@@ -70,8 +77,10 @@ fn registers_are_named_as_request_iii_has_them() {
         (2047, None),
     ] {
         assert_eq!(name(&MAP, number).as_deref(), wanted, "{number}");
+        let older = wanted.filter(|_| !(4..=6).contains(&number));
+        assert_eq!(name(&MAP_248, number).as_deref(), older, "{number}");
     }
-    assert_eq!(MAP.end(), 1344);
+    assert_eq!((MAP.end(), MAP_248.end()), (1344, 1344));
     assert_eq!(number(&MAP_64, "ALERT64_EN"), None);
     assert_eq!(number(&MAP, "ALERT64_EN"), Some(576));
     assert_eq!(number(&MAP, "ALERT248_EN"), None);
@@ -82,6 +91,7 @@ fn an_old_number_is_carried_to_the_same_register() {
     let mut carried = Vec::new();
     for n in 0..=u16::MAX {
         assert_eq!(MAP.carry(n), MAP.register(n).map(|_| n));
+        assert_eq!(MAP_248.carry(n), MAP_248.register(n).map(|_| n));
         let new = MAP_64.carry(n);
         assert_eq!(new.and_then(|new| name(&MAP, new)), name(&MAP_64, n), "{n}");
         carried.extend(new);
@@ -91,6 +101,8 @@ fn an_old_number_is_carried_to_the_same_register() {
     for (old, new) in [
         (2, Some(2)),
         (3, None),
+        (4, None),
+        (6, None),
         (46, Some(46)),
         (64, Some(256)),
         (127, Some(319)),
@@ -110,7 +122,7 @@ fn an_old_number_is_carried_to_the_same_register() {
 
 #[test]
 fn a_name_gives_its_number_and_nothing_else_does() {
-    for map in [MAP, MAP_64] {
+    for map in [MAP, MAP_248, MAP_64] {
         let mut assigned = 0;
         for n in 0..=u16::MAX {
             if let Some(name) = name(&map, n) {
@@ -118,7 +130,8 @@ fn a_name_gives_its_number_and_nothing_else_does() {
                 assigned += 1;
             }
         }
-        assert_eq!(assigned, 3 + 4 * (7 + map.alerts) + 4 * 13);
+        let timer = 3 * usize::from(map.timer);
+        assert_eq!(assigned, 3 + timer + 4 * (7 + map.alerts) + 4 * 13);
     }
     for other in [
         "",
@@ -146,7 +159,7 @@ fn a_name_gives_its_number_and_nothing_else_does() {
 
 #[test]
 fn the_lists_are_in_the_order_of_the_numbers() {
-    for map in [MAP, MAP_64] {
+    for map in [MAP, MAP_248, MAP_64] {
         for (at, setting) in Setting::ALL.into_iter().enumerate() {
             assert_eq!(map.class(0, setting), map.block(0) + at as u16);
         }
@@ -159,15 +172,16 @@ fn the_lists_are_in_the_order_of_the_numbers() {
 }
 
 #[test]
-fn shadowed_are_those_that_request_v_names() {
-    for map in [MAP, MAP_64] {
+fn shadowed_are_those_that_requests_v_and_ix_name() {
+    for map in [MAP, MAP_248, MAP_64] {
         let shadowed = |n: &u16| map.register(*n).map_or(false, |it| it.is_shadowed());
         assert_eq!(
             (0..=u16::MAX).filter(shadowed).count(),
-            2 * (7 + map.alerts) + 4 * 7
+            usize::from(map.timer) + 2 * (7 + map.alerts) + 4 * 7
         );
     }
     for name in [
+        "PING_TIMEOUT_CYC",
         "LOC_ALERT6_EN",
         "ALERT0_CLASS",
         "CLASSD_CTRL",
@@ -182,6 +196,8 @@ fn shadowed_are_those_that_request_v_names() {
     }
     for name in [
         "INTR_ENABLE",
+        "PING_TIMER_REGWEN",
+        "PING_TIMER_EN",
         "LOC_ALERT6_CAUSE",
         "ALERT0_REGWEN",
         "CLASSD_CLR",

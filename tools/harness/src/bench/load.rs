@@ -1,7 +1,7 @@
 //! The records that are timed.
 
 use super::QUIET;
-use crate::record::{record, NONE, READ};
+use crate::record::{pack, Head, Tail, NONE, READ};
 use crate::rng::Rng;
 use handler::registers::{Field, Map, Setting, INTR_ENABLE, INTR_STATE};
 use handler::{Edition, CLASSES, LOCALS};
@@ -11,6 +11,9 @@ use handler::{Edition, CLASSES, LOCALS};
 pub enum Load {
     /// No access, all wires at rest.
     Quiet,
+    /// The same with the ping timer on: random words, and no answer, so that
+    /// pings fail.
+    Pinged,
     /// An alert rises in every 64th tick and falls in the next.
     Sparse,
     /// Random wires, many of them equal.
@@ -20,12 +23,20 @@ pub enum Load {
 }
 
 /// Every load with its name.
-pub const LOADS: [(Load, &str); 4] = [
+pub const LOADS: [(Load, &str); 5] = [
     (Load::Quiet, "quiet wires"),
+    (Load::Pinged, "quiet, timer on"),
     (Load::Sparse, "sparse events"),
     (Load::Random, "random wires"),
     (Load::Read, "a read each tick"),
 ];
+
+impl Load {
+    /// Whether an edition's records hold it.
+    pub fn is_of(self, edition: Edition) -> bool {
+        self != Load::Pinged || edition.has_timer()
+    }
+}
 
 /// The bytes of a load, for as many alerts as the edition has.
 pub fn load(edition: Edition, load: Load, records: usize) -> Vec<u8> {
@@ -36,7 +47,7 @@ pub fn load(edition: Edition, load: Load, records: usize) -> Vec<u8> {
         let mut access = (NONE, 0);
         let mut wires = QUIET;
         match load {
-            Load::Quiet => {}
+            Load::Quiet | Load::Pinged => {}
             Load::Sparse if at % 64 == 0 => {
                 // From the last alert down.
                 let alerts = edition.alerts();
@@ -54,7 +65,12 @@ pub fn load(edition: Edition, load: Load, records: usize) -> Vec<u8> {
             Load::Read => access = (READ, rng.pick(&registers)),
         }
         let (kind, register) = access;
-        bytes.extend(record(edition, kind.into(), register.into(), 0, wires));
+        let head = Head::new(kind, register, 0);
+        let word = match load {
+            Load::Pinged => rng.bits() as u32,
+            _ => 0,
+        };
+        bytes.extend(pack(edition, head, wires, Tail::new(word, 0)));
     }
     bytes
 }

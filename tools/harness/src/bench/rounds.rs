@@ -4,14 +4,14 @@ use super::load::{load, Load};
 use super::start::start;
 use super::timed::Timed;
 use super::ROUNDS;
-use crate::calls::{handler_of, reference_edition};
+use crate::calls::{handler_of, reference_edition, told_apart};
 use handler::{Edition, Handler, Word};
 use std::time::{Duration, Instant};
 
 /// Times one load, both sides in turn.
 pub fn time(edition: Edition, kind: Load, name: &'static str, records: usize) -> Timed {
     let bytes = load(edition, kind, records);
-    let first = start(edition);
+    let first = start(edition, kind);
     let mut words = vec![Word(0); records];
     let mut numbers = vec![0; records];
     let mut timed = Timed::new(name, edition.alerts(), records);
@@ -25,7 +25,8 @@ pub fn time(edition: Edition, kind: Load, name: &'static str, records: usize) ->
             .iter()
             .zip(&numbers)
             .all(|(word, number)| word.0 == *number);
-        timed.round(proved, reference, same && state == handler_of(&twin));
+        let ended = told_apart(state) == told_apart(handler_of(&twin));
+        timed.round(proved, reference, same && ended);
     }
     timed
 }

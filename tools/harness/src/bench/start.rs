@@ -1,15 +1,18 @@
 //! The state that every batch starts from.
 
+use super::load::Load;
 use super::QUIET;
 use crate::calls::reference_edition;
 use crate::configure::configure;
 use crate::record::{record, WRITE};
-use handler::registers::{Field, Setting, INTR_ENABLE};
+use handler::registers::{Field, Setting, INTR_ENABLE, PING_ENABLE, PING_REGWEN, PING_TIMEOUT};
 use handler::{Edition, CLASSES};
 
 /// The writes that set all up: all alerts and local 2 enabled, the alerts in
-/// all four classes, a threshold of 100, phases of 1000 ticks.
-fn set_up(edition: Edition) -> Vec<u8> {
+/// all four classes, a threshold of 100, phases of 1000 ticks; and where the
+/// load has the ping timer on, all alerts locked, local 0 and 1 enabled, a
+/// timeout of 256 ticks.
+fn set_up(edition: Edition, load: Load) -> Vec<u8> {
     let map = edition.registers();
     let mut writes = vec![(INTR_ENABLE, 15), (map.local(Field::En, 2), 1)];
     for i in 0..map.alerts {
@@ -21,6 +24,11 @@ fn set_up(edition: Edition) -> Vec<u8> {
         writes.extend(Setting::PHASES.map(|phase| (map.class(k, phase), 1000)));
         writes.push((map.class(k, Setting::Ctrl), 0x393D));
     }
+    if load == Load::Pinged {
+        writes.extend((0..map.alerts).map(|i| (map.alert(Field::Regwen, i), 0)));
+        writes.extend([0, 1].map(|j| (map.local(Field::En, j), 1)));
+        writes.extend([(PING_TIMEOUT, 256), (PING_ENABLE, 1), (PING_REGWEN, 0)]);
+    }
     let writes = writes.into_iter();
     writes
         .flat_map(|(register, value)| configure(map, register, value))
@@ -30,11 +38,11 @@ fn set_up(edition: Edition) -> Vec<u8> {
         .collect()
 }
 
-/// The state that every batch starts from, of as many alerts as the edition
-/// has.
-pub fn start(edition: Edition) -> reference::Handler {
+/// The state that every batch of a load starts from, of as many alerts as the
+/// edition has.
+pub fn start(edition: Edition, load: Load) -> reference::Handler {
     let (mut state, _) = reference::Handler::new(edition.alerts() as u64);
-    let bytes = set_up(edition);
+    let bytes = set_up(edition, load);
     let mut words = vec![0; bytes.len() / edition.bytes()];
     let answer = reference::batch(&mut state, reference_edition(edition), &bytes, &mut words);
     assert_eq!(answer, 0);

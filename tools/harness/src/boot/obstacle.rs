@@ -13,6 +13,7 @@ pub fn clear(state: &mut Handler) {
     }
     state.alerts.regwen.fill(1);
     state.locals.regwen.fill(1);
+    state.timer.regwen = 1;
     state.stages = handler::Stages::NONE;
 }
 
@@ -20,7 +21,9 @@ pub fn clear(state: &mut Handler) {
 pub fn lock(rng: &mut Rng, state: &mut Handler) {
     match rng.below(8) {
         0 => state.locals.regwen[rng.index(LOCALS)] = 0,
-        1 | 2 => state.classes[rng.index(CLASSES)].regwen = 0,
+        1 => state.classes[rng.index(CLASSES)].regwen = 0,
+        // A boot writes none of the ping timer's registers.
+        2 => state.timer.regwen = 0,
         3 => state.classes[0].regwen = 0,
         _ => state.alerts.regwen[rng.index(state.n)] = 0,
     }
@@ -32,7 +35,9 @@ pub fn stage(rng: &mut Rng, state: &mut Handler) {
     let setting = rng.pick(&Setting::SHADOWED);
     let place = match rng.below(8) {
         0 => Place::LocalStage(field, rng.index(LOCALS)),
-        1 | 2 => Place::ClassStage(rng.index(CLASSES), setting),
+        1 => Place::ClassStage(rng.index(CLASSES), setting),
+        2 if rng.once_in(2) => Place::PingStage,
+        2 => Place::ClassStage(rng.index(CLASSES), setting),
         _ => Place::AlertStage(field, rng.index(state.n)),
     };
     let most = place.most().unwrap_or(0);

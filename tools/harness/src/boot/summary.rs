@@ -21,6 +21,9 @@ pub struct Summary {
     /// Of these, ones that began with an alert that had acknowledged, in the
     /// first tick of the pause, in the second, and with an open ping.
     pub links: [u64; 4],
+    /// Of these, ones with the ping timer on, ones in which it had another turn
+    /// at the end, and ones in which local 0 or 1 occurred.
+    pub timer: [u64; 3],
     /// Boots that stopped or were refused, by answer: 3, 7, 12, 13.
     pub refused: [u64; REFUSED.len()],
     /// Boots that stopped in any other way.
@@ -35,6 +38,7 @@ impl Summary {
         self.boots += 1;
         if wanted.is_whole() {
             self.begins(state);
+            self.pinged(state, &wanted.handler);
             let column = usize::from(lifecycle).min(Lifecycle::ALL.len());
             self.whole[column] += 1;
             return;
@@ -51,6 +55,17 @@ impl Summary {
 }
 
 impl Summary {
+    /// What the ping timer did in a boot that came to its end.
+    fn pinged(&mut self, state: &Handler, after: &Handler) {
+        let on = state.timer.is_on();
+        let turned = state.links.turn.number != after.links.turn.number;
+        let cause = |h: &Handler| h.locals.cause[0] + h.locals.cause[1];
+        let failed = cause(state) != cause(after);
+        for (count, is) in self.timer.iter_mut().zip([on, on && turned, on && failed]) {
+            *count += u64::from(is);
+        }
+    }
+
     /// Where the receivers stand before a boot that comes to its end.
     fn begins(&mut self, state: &Handler) {
         let handler::Receivers {
@@ -94,6 +109,11 @@ impl fmt::Display for Summary {
         write!(
             out,
             "\nbegun with an alert acknowledged {acknowledged}, in the first tick of the pause {first}, in the second {second}, with a ping open {open}"
+        )?;
+        let [on, turned, failed] = self.timer;
+        write!(
+            out,
+            "\nwith the ping timer on {on}, with other turns at the end {turned}, with a failed ping {failed}"
         )?;
         let at = |answer| self.stops.iter().filter(|stop| stop.0 == answer).count();
         write!(

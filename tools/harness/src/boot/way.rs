@@ -16,6 +16,8 @@ pub enum Way {
     /// The same with EN and thresholds of 65534 and 65535, one class locked at
     /// times.
     Threshold,
+    /// The same with the ping timer on.
+    Pinged,
     /// Random values that keep the rule, locks and stages too.
     Fitted,
     /// Fewer alerts than a boot installs.
@@ -27,13 +29,14 @@ pub enum Way {
 }
 
 /// Every way with its name.
-pub const WAYS: [(Way, &str); 10] = [
+pub const WAYS: [(Way, &str); 11] = [
     (Way::New, "new"),
     (Way::Again, "again"),
     (Way::Open, "open"),
     (Way::Locked, "locked"),
     (Way::Staged, "staged"),
     (Way::Threshold, "threshold"),
+    (Way::Pinged, "pinged"),
     (Way::Fitted, "fitted"),
     (Way::Few, "few"),
     (Way::Above, "above"),

@@ -1,10 +1,11 @@
 //! What a call gets: an access, a sample, or a record of both.
 
 use crate::generate::{far, WRITTEN};
-use crate::record::{largest, pack, Head, KIND3, NONE, READ, WRITE};
+use crate::record::{largest, pack, Head, Tail, KIND3, NONE, READ, WRITE};
 use crate::rng::Rng;
 use handler::registers::{Field, Map, Setting, MAP};
-use handler::{Access, Edition, Sample, Wires, CLASSES, LOCALS, WORDS};
+use handler::registers::{PING_ENABLE, PING_REGWEN, PING_TIMEOUT};
+use handler::{Access, Edition, Handler, Sample, Wires, ALERTS, CLASSES, LOCALS};
 
 /// A register number: mostly an assigned one, now and then a CLR.
 pub fn register(map: Map, rng: &mut Rng) -> u16 {
@@ -14,13 +15,14 @@ pub fn register(map: Map, rng: &mut Rng) -> u16 {
     let low = rng.below(map.local(Field::Cause, LOCALS).into()) as u16;
     let (clr, any) = (map.class(k, Setting::Clr), map.class(k, any));
     let far = rng.bits() as u16;
-    rng.pick(&[near, near, near, low, low, clr, any, any, far])
+    let timer = PING_REGWEN + rng.below(1 + u64::from(PING_ENABLE - PING_REGWEN)) as u16;
+    rng.pick(&[near, near, near, low, low, clr, any, any, far, timer])
 }
 
 /// Any access; the number may have more bits than a record's.
 pub fn access(rng: &mut Rng) -> Access {
     let register = register(MAP, rng);
-    match rng.below(12) {
+    match rng.below(14) {
         0 => Access::Nothing,
         1..=3 => Access::Read(register),
         4..=9 => Access::Write(register, rng.pick(&WRITTEN)),
@@ -28,7 +30,21 @@ pub fn access(rng: &mut Rng) -> Access {
             let lock = MAP.class(rng.index(CLASSES), Setting::Regwen);
             Access::Write(lock, rng.pick(&[0, 0, 0, 0, 1, 2]))
         }
+        11 => Access::Write(PING_ENABLE, rng.pick(&[0, 1, 1, 1])),
+        12 => Access::Write(PING_TIMEOUT, rng.pick(&[0, 1, 2, 65535])),
         _ => Access::Malformed,
+    }
+}
+
+/// An access to what the turn of a state goes by: the drawn alert's lock and
+/// EN, and the timeout, mostly with what is staged.
+pub fn aimed(state: &Handler, rng: &mut Rng) -> Access {
+    let i = usize::from(state.links.turn.alert).min(ALERTS - 1);
+    let staged = state.stages.timeout.saturating_sub(1) as u32;
+    match rng.below(4) {
+        0 => Access::Write(MAP.alert(Field::En, i), rng.pick(&[0, 1, 1])),
+        1 => Access::Write(PING_TIMEOUT, rng.pick(&[staged, staged, staged ^ 1])),
+        _ => Access::Write(MAP.alert(Field::Regwen, i), 0),
     }
 }
 
@@ -52,22 +68,28 @@ pub fn wires(rng: &mut Rng) -> Wires {
     wires
 }
 
-/// No ping asked for, few, many or all, at N and above too.
-pub fn asks(rng: &mut Rng) -> [u64; WORDS] {
-    let way = rng.weighted(&[4, 2, 2, 1]);
-    [0; WORDS].map(|none: u64| match way {
-        0 => none,
-        1 => rng.bits() & rng.bits() & rng.bits() & rng.bits(),
-        2 => rng.bits(),
-        _ => u64::MAX,
-    })
+/// An entropy word: a short wait or any, an alert that may be there or any.
+pub fn word(rng: &mut Rng) -> u32 {
+    let any = rng.bits() as u32;
+    let wait = rng.pick(&[0, 0, 1, 2, 3, 0xFFFE, 0xFFFF, any & 0xFFFF]);
+    let there = rng.index(ALERTS) as u32;
+    let alert = rng.pick(&[there, there, 0, 247, 248, 255, any >> 16 & 0xFF]);
+    rng.pick(&[any, 0, u32::MAX]) & 0xFF00_0000 | alert << 16 | wait
 }
 
-/// Any wires, and any pings asked for.
+/// Answers of no line, of one, of some, of all; bits from 4 up may be 1.
+pub fn answers(rng: &mut Rng) -> u32 {
+    let any = rng.bits() as u32;
+    let one = 1 << rng.below(4);
+    rng.pick(&[0, 0, one, one, any & 0xF, 0xF, any, any & !0xF])
+}
+
+/// Any wires, any word, any answers.
 pub fn sample(rng: &mut Rng) -> Sample {
     Sample {
         alerts: wires(rng),
-        asks: asks(rng),
+        word: word(rng),
+        answers: answers(rng),
     }
 }
 
@@ -89,5 +111,9 @@ pub fn record(edition: Edition, rng: &mut Rng) -> Vec<u8> {
         _ => {}
     }
     let Wires { pos, neg } = wires(rng);
-    pack(edition, head, (pos, neg))
+    let mut tail = Tail::new(word(rng), answers(rng));
+    if rng.once_in(32) {
+        tail.last |= 0x10 << rng.below(4);
+    }
+    pack(edition, head, (pos, neg), tail)
 }

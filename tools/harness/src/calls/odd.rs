@@ -1,6 +1,7 @@
 //! What a comparison with the reference finds.
 
 use super::receivers::bit;
+use super::timer::told_apart;
 use crate::spoil::Place;
 use handler::{Handler, Wires};
 use reference::Pairs;
@@ -42,6 +43,7 @@ impl Odd {
 
     /// The first field of the next state that differs.
     pub fn state(call: &'static str, wanted: &Handler, got: &Handler) -> Option<Odd> {
+        let [wanted, got] = &[wanted, got].map(|state| told_apart(*state));
         if wanted == got {
             return None;
         }

@@ -2,6 +2,7 @@
 //! whole, so that no field can be forgotten.
 
 use super::receivers::{handler_receivers, reference_receivers, with_spare_bits};
+use super::timer::{handler_timer, handler_turn, reference_timer, with_spare_lines};
 use handler::{
     Access, AlertStages, Alerts, Class, ClassStages, Edition, Handler, Interrupts, Links,
     LocalStages, Locals, Sample, Stages, Wires,
@@ -38,6 +39,7 @@ pub fn reference_of(state: &Handler) -> reference::Handler {
         receivers: reference_receivers(&state.links.receivers),
         classes: from_fn(|k| reference_class(&state.classes[k])),
         stages: reference_stages(&state.stages),
+        timer: reference_timer(&state.timer, &state.links, &state.stages),
     }
 }
 
@@ -60,6 +62,8 @@ fn reference_stages(stages: &Stages) -> reference::Stages {
         classes,
         alerts,
         locals,
+        // The reference's timer holds its own.
+        timeout: _,
     } = stages;
     reference::Stages {
         classes: from_fn(|k| reference::stages::ClassStages {
@@ -79,11 +83,12 @@ fn reference_stages(stages: &Stages) -> reference::Stages {
     }
 }
 
-/// The state with the receivers' bits that are no alert's of another one: the
-/// reference has no such bits, and no call changes them.
+/// The state with the bits of another one that are no alert's and no line's:
+/// the reference has no such bits, and no call changes them.
 pub fn with_spare(mut state: Handler, other: &Handler) -> Handler {
     let receivers = &mut state.links.receivers;
     *receivers = with_spare_bits(*receivers, &other.links.receivers);
+    state.links.lines = with_spare_lines(state.links.lines, other.links.lines);
     state
 }
 
@@ -95,6 +100,8 @@ pub fn handler_of(state: &reference::Handler) -> Handler {
         n: state.n as usize,
         links: Links {
             receivers: handler_receivers(&state.receivers),
+            turn: handler_turn(&state.timer),
+            lines: state.timer.lines.into(),
         },
         classes: from_fn(|k| handler_class(&state.classes[k])),
         alerts: Alerts {
@@ -113,11 +120,12 @@ pub fn handler_of(state: &reference::Handler) -> Handler {
             state: state.intr_state.into(),
             enable: state.intr_enable.into(),
         },
-        stages: handler_stages(&state.stages),
+        timer: handler_timer(&state.timer),
+        stages: handler_stages(&state.stages, state.timer.stage),
     }
 }
 
-fn handler_stages(stages: &reference::Stages) -> Stages {
+fn handler_stages(stages: &reference::Stages, timeout: u32) -> Stages {
     let reference::Stages {
         classes,
         alerts,
@@ -138,6 +146,7 @@ fn handler_stages(stages: &reference::Stages) -> Stages {
             en: locals.en.map(u32::from),
             class: locals.class.map(u32::from),
         },
+        timeout: timeout.into(),
     }
 }
 
@@ -160,6 +169,7 @@ pub fn reference_edition(edition: Edition) -> reference::Edition {
     match edition {
         Edition::Alerts64 => reference::Edition::First,
         Edition::Alerts248 => reference::Edition::Second,
+        Edition::Pings => reference::Edition::Third,
     }
 }
 
@@ -167,9 +177,16 @@ pub fn reference_edition(edition: Edition) -> reference::Edition {
 pub fn reference_sample(sample: &Sample) -> reference::Sample {
     let Sample {
         alerts: Wires { pos, neg },
-        asks,
+        word,
+        answers,
     } = *sample;
-    reference::Sample { pos, neg, asks }
+    // Bits from 4 up count for nothing on either side.
+    reference::Sample {
+        pos,
+        neg,
+        word,
+        answers: answers as u8,
+    }
 }
 
 /// The reference's access.

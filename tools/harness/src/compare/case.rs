@@ -22,7 +22,7 @@ impl Case {
     pub fn bytes(&self) -> Vec<u8> {
         let mut bytes = trace(self.edition, self.kind, self.seed);
         if let Some(records) = self.records {
-            // Damage may have made it a trace of the other edition.
+            // Damage may have made it a trace of another edition.
             let input = opened(&bytes);
             let before = bytes.len() - input.records.len();
             bytes.truncate(before + records * input.edition.bytes());
@@ -40,9 +40,18 @@ pub const DEFAULT_SEED: u64 = 1;
 pub fn generated(edition: Edition, seed: u64) -> impl Iterator<Item = Case> {
     (0..).map(move |place| Case {
         edition,
-        kind: Kind::at(place),
+        kind: Kind::of(edition, place),
         seed: seed.wrapping_add(place),
         records: None,
+    })
+}
+
+/// The cases of several sets, one of each in turn.
+pub fn in_turn(editions: Vec<Edition>, seed: u64) -> impl Iterator<Item = Case> {
+    let mut sets: Vec<_> = editions.into_iter().map(|it| generated(it, seed)).collect();
+    (0..).flat_map(move |_: u64| {
+        let next = sets.iter_mut().filter_map(Iterator::next);
+        next.collect::<Vec<Case>>()
     })
 }
 

@@ -4,6 +4,7 @@ use super::handshakes::Handshakes;
 use super::locking::Locking;
 use super::shadowed::Shadowed;
 use crate::record::{Head, NONE, READ};
+use crate::turns::Turns;
 use handler::Edition;
 use reference::handler::CLASSES;
 use reference::Handler;
@@ -44,8 +45,8 @@ pub struct Coverage {
     pub full: u64,
     /// The numbers of alerts asked for, 0 if none.
     pub counts: BTreeSet<u64>,
-    /// Registers with an accepted access: the record's bytes and the number.
-    pub registers: BTreeSet<(usize, u16)>,
+    /// Registers with an accepted access: the edition's name and the number.
+    pub registers: BTreeSet<(&'static str, u16)>,
     /// Alerts with a cause at the end of a trace.
     pub causes: BTreeSet<usize>,
     /// Alerts whose event was the only one of a tick.
@@ -59,6 +60,8 @@ pub struct Coverage {
     pub shadowed: Shadowed,
     /// What became of class locks by thresholds of 65534 and 65535.
     pub locking: Locking,
+    /// What the ping timer did.
+    pub turns: Turns,
 }
 
 impl Coverage {
@@ -70,7 +73,7 @@ impl Coverage {
         self.reads += u64::from(read && refusal == 0);
         self.showing += u64::from(read || word >> 52 != 0);
         if refusal == 0 && head.kind != NONE {
-            self.registers.insert((edition.bytes(), head.register));
+            self.registers.insert((edition.name(), head.register));
         }
     }
 
@@ -126,7 +129,7 @@ impl Coverage {
             self.registers.len(),
             self.causes.len()
         )?;
-        write!(out, "{}{}", self.handshakes, self.shadowed)?;
+        write!(out, "{}{}{}", self.handshakes, self.turns, self.shadowed)?;
         write!(out, "{}", self.locking)
     }
 

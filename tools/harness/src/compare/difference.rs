@@ -27,7 +27,7 @@ impl Difference {
             Some(records) => format!(" --records {records}"),
             None => String::new(),
         };
-        let (program, edition) = (self.program.display(), self.case.edition.bytes());
+        let (program, edition) = (self.program.display(), self.case.edition.name());
         format!("repeat {program} {kind} {seed} --edition {edition}{records}")
     }
 }

@@ -3,9 +3,11 @@
 use super::coverage::Coverage;
 use crate::calls::reference_edition;
 use crate::opened::opened;
-use crate::record::Head;
+use crate::record::{Head, WRITE};
+use handler::registers::PING_ENABLE;
+use handler::Edition;
 use reference::trace::parse;
-use reference::{batch, Handler, Sample};
+use reference::{batch, Handler};
 use std::fmt::Write;
 
 /// What the reference prints for the bytes; counts what it reached.
@@ -24,21 +26,18 @@ pub fn expected(bytes: &[u8], coverage: &mut Coverage) -> Vec<u8> {
     let mut text = String::new();
     coverage.shadowed.begin();
     coverage.handshakes.begin();
+    coverage.turns.begin();
     for record in records {
         let before = handler.clone();
         let mut word = [0];
         assert_eq!(batch(&mut handler, edition, record, &mut word), 0);
-        let head = Head::of(input.edition, record);
-        coverage.access(input.edition, head, word[0]);
-        coverage.tick(&before, &handler, word[0]);
-        let (_, pos, neg) = parse(edition, record);
-        let asks = [0; 4];
-        let sample = Sample { pos, neg, asks };
-        coverage.alone(&before, &handler, &sample);
-        coverage.handshakes.tick(&before, &handler, &sample);
-        let shadowed = &mut coverage.shadowed;
-        shadowed.tick(input.edition, head, word[0], &before, &handler);
-        coverage.locking.tick(input.edition, head, word[0], &before);
+        reached(
+            coverage,
+            input.edition,
+            record,
+            word[0],
+            [&before, &handler],
+        );
         writeln!(text, "{:016x}", word[0]).expect("a string takes all");
     }
     coverage.end(&handler);
@@ -47,4 +46,28 @@ pub fn expected(bytes: &[u8], coverage: &mut Coverage) -> Vec<u8> {
         text.push_str("cut\n");
     }
     text.into_bytes()
+}
+
+/// Takes in the tick of a record: its word, and the handler before and after.
+fn reached(
+    coverage: &mut Coverage,
+    edition: Edition,
+    record: &[u8],
+    word: u64,
+    [before, after]: [&Handler; 2],
+) {
+    let head = Head::of(edition, record);
+    coverage.access(edition, head, word);
+    coverage.tick(before, after, word);
+    let (_, sample) = parse(reference_edition(edition), record);
+    coverage.alone(before, after, &sample);
+    coverage.turns.tick(before, after, &sample);
+    let accepted = (word >> 52) & 15 == 0;
+    if (head.kind, head.register) == (WRITE, PING_ENABLE) && accepted {
+        coverage.turns.enabled(before, head.value);
+    }
+    coverage.handshakes.tick(before, after, &sample);
+    let shadowed = &mut coverage.shadowed;
+    shadowed.tick(edition, head, word, before, after);
+    coverage.locking.tick(edition, head, word, before);
 }

@@ -34,7 +34,7 @@ impl Handshakes {
 
     /// Takes in a tick: the handler before and after it, and its sample.
     pub fn tick(&mut self, before: &Handler, after: &Handler, sample: &Sample) {
-        self.met.tick(before, sample);
+        self.met.tick(before, after, sample);
         for i in 0..before.n as usize {
             let [was, is] = [before, after].map(|handler| handler.receivers[i].place);
             let pair = (wire(&sample.pos, i), wire(&sample.neg, i));

@@ -3,6 +3,7 @@
 
 use crate::record::{Head, WRITE};
 use handler::Edition;
+use reference::carried::without_timer;
 use reference::register::{ClassField, Register};
 use reference::{carried, Class, Handler};
 use std::fmt;
@@ -38,7 +39,8 @@ impl Locking {
     pub fn tick(&mut self, edition: Edition, head: Head, word: u64, before: &Handler) {
         let number = match edition {
             Edition::Alerts64 => carried(head.register),
-            Edition::Alerts248 => head.register,
+            Edition::Alerts248 => without_timer(head.register),
+            Edition::Pings => head.register,
         };
         let register = Register::decode(number, before.n);
         let register = match register {
@@ -99,11 +101,13 @@ fn staged(h: &Handler, k: usize) -> [Option<u32>; 2] {
 /// Whether a register is a lock, the class locks apart.
 fn is_lock(register: Register) -> bool {
     use reference::register::SourceField::Regwen;
+    use reference::timer::TimerField;
     matches!(
         register,
         Register::Alert(Regwen, _)
             | Register::Local(Regwen, _)
             | Register::Class(ClassField::ClrRegwen, _)
+            | Register::Timer(TimerField::Regwen)
     )
 }
 

@@ -2,9 +2,11 @@
 
 use crate::record::{Head, WRITE};
 use handler::Edition;
+use reference::carried::without_timer;
 use reference::handler::{ALERT_INTEGRITY, SHADOW_UPDATE};
 use reference::register::{ClassField, Register, SourceField};
 use reference::stages::ClassStages;
+use reference::timer::TimerField;
 use reference::{carried, Handler};
 use std::fmt;
 
@@ -58,14 +60,15 @@ impl Shadowed {
     ) {
         let number = match edition {
             Edition::Alerts64 => carried(head.register),
-            Edition::Alerts248 => head.register,
+            Edition::Alerts248 => without_timer(head.register),
+            Edition::Pings => head.register,
         };
         let register = match Register::decode(number, before.n) {
             Some(register) => register,
             None => return,
         };
         let refusal = (word >> 52) & 15;
-        let [was, is] = [before, after].map(|h| h.stages.staged(register).is_some());
+        let [was, is] = [before, after].map(|h| is_staged(h, register));
         self.open = self.open + u64::from(is) - u64::from(was);
         match (was, is) {
             (false, true) => self.staged += 1,
@@ -92,6 +95,14 @@ impl Shadowed {
     }
 }
 
+/// Whether a register's stage is open.
+fn is_staged(h: &Handler, register: Register) -> bool {
+    match register {
+        Register::Timer(field) => h.timer.staged(field).is_some(),
+        _ => h.stages.staged(register).is_some(),
+    }
+}
+
 /// Whether this register is a REGWEN and guards an open stage.
 fn guards_a_stage(h: &Handler, register: Register) -> bool {
     let stages = &h.stages;
@@ -103,6 +114,7 @@ fn guards_a_stage(h: &Handler, register: Register) -> bool {
             stages.locals.en[j] != 0 || stages.locals.class[j] != 0
         }
         Register::Class(ClassField::Regwen, k) => stages.classes[k] != ClassStages::new(),
+        Register::Timer(TimerField::Regwen) => h.timer.stage != 0,
         _ => false,
     }
 }

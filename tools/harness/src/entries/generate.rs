@@ -1,12 +1,12 @@
 //! Lists at random, of every way.
 
-use super::lent::{Entries, GUARD, UNITS};
+use super::lent::{Entries, GUARD, LISTS, UNITS};
 use super::row::Row;
 use super::spoil::{spoil, Way, WAYS};
 use crate::configure::configure;
 use crate::record::WRITE;
 use crate::rng::Rng;
-use handler::registers::{Field, Setting, INTR_ENABLE, MAP};
+use handler::registers::{Field, Setting, INTR_ENABLE, MAP, PING_ENABLE};
 
 /// The most entries of a list.
 const MOST: usize = 40;
@@ -20,7 +20,7 @@ impl Entries {
         let (few, any) = (rng.index(4), rng.index(MOST + 1));
         let count = rng.pick(&[few, any, any, MOST]);
         let mut rows: Vec<Row> = (0..count).map(|_| Row::good(rng)).collect();
-        if count >= 12 && rng.once_in(2) {
+        if count >= 14 && rng.once_in(2) {
             set_up(rng, n, &mut rows);
         }
         spoil(way, rng, &mut rows);
@@ -32,7 +32,8 @@ impl Entries {
     }
 }
 
-/// Enables the first and last alert, local 2, class 0 and the interrupts.
+/// Enables the first and last alert, local 2, class 0, the interrupts and the
+/// ping timer.
 fn set_up(rng: &mut Rng, n: usize, rows: &mut [Row]) {
     let writes = [
         (INTR_ENABLE, 15),
@@ -40,6 +41,9 @@ fn set_up(rng: &mut Rng, n: usize, rows: &mut [Row]) {
         (MAP.alert(Field::En, n - 1), 1),
         (MAP.local(Field::En, 2), rng.below(2) as u32),
         (MAP.class(0, Setting::Ctrl), 0x393D),
+        (MAP.alert(Field::Regwen, 0), rng.below(2) as u32),
+        (MAP.local(Field::En, rng.index(2)), 1),
+        (PING_ENABLE, rng.below(2) as u32),
     ];
     let writes = writes.into_iter();
     let writes = writes.flat_map(|(register, value)| configure(MAP, register, value));
@@ -49,12 +53,12 @@ fn set_up(rng: &mut Rng, n: usize, rows: &mut [Row]) {
 }
 
 /// Lengths around those of `count` entries that do not fit together.
-fn unequal(rng: &mut Rng, count: usize) -> [usize; 5] {
+fn unequal(rng: &mut Rng, count: usize) -> [usize; LISTS] {
     let mut lengths = UNITS.map(|unit| count * unit);
     let changes = 1 + rng.below(3);
     while lengths == UNITS.map(|unit| lengths[0] * unit) {
         for _ in 0..changes {
-            let at = rng.index(5);
+            let at = rng.index(LISTS);
             let (unit, need) = (UNITS[at], count * UNITS[at]);
             let shorter = need.saturating_sub(1 + rng.index(3));
             let fewer = need.saturating_sub(unit);

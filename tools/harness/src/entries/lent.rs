@@ -1,4 +1,4 @@
-//! A list as the writer borrows it: five slices, each between guards.
+//! A list as the writer borrows it: seven slices, each between guards.
 
 use super::row::Row;
 use super::spoil::Way;
@@ -11,9 +11,12 @@ use handler::{Wires, WORDS};
 pub const GUARD: usize = 4;
 
 /// The numbers that each slice has for an entry.
-pub const UNITS: [usize; 5] = [1, 1, 1, WORDS, WORDS];
+pub const UNITS: [usize; LISTS] = [1, 1, 1, WORDS, WORDS, 1, 1];
 
-/// The five slices as the writer borrows them.
+/// The slices of a list.
+pub const LISTS: usize = 7;
+
+/// The slices as the writer borrows them.
 #[derive(Clone, Copy)]
 pub struct Lent<'a> {
     /// Kinds.
@@ -26,17 +29,23 @@ pub struct Lent<'a> {
     pub positive: &'a [u64],
     /// Negative wires, as many.
     pub negative: &'a [u64],
+    /// Entropy words.
+    pub entropy: &'a [u32],
+    /// Answers.
+    pub answers: &'a [u8],
 }
 
 impl Lent<'_> {
     /// The lengths of the slices.
-    pub fn lengths(&self) -> [usize; 5] {
+    pub fn lengths(&self) -> [usize; LISTS] {
         [
             self.kinds.len(),
             self.registers.len(),
             self.values.len(),
             self.positive.len(),
             self.negative.len(),
+            self.entropy.len(),
+            self.answers.len(),
         ]
     }
 
@@ -57,6 +66,8 @@ impl Lent<'_> {
                 pos: side(self.positive, at),
                 neg: side(self.negative, at),
             },
+            word: self.entropy[at],
+            answers: self.answers[at],
         };
         (0..count).map(row).collect()
     }
@@ -79,7 +90,9 @@ pub struct Entries {
     values: Vec<u32>,
     positive: Vec<u64>,
     negative: Vec<u64>,
-    lengths: [usize; 5],
+    entropy: Vec<u32>,
+    answers: Vec<u8>,
+    lengths: [usize; LISTS],
 }
 
 impl Entries {
@@ -96,24 +109,28 @@ impl Entries {
             values: all.iter().map(|row| row.value).collect(),
             positive: all.iter().flat_map(|row| row.wires.pos).collect(),
             negative: all.iter().flat_map(|row| row.wires.neg).collect(),
+            entropy: all.iter().map(|row| row.word).collect(),
+            answers: all.iter().map(|row| row.answers).collect(),
             lengths: UNITS.map(|unit| rows.len() * unit),
         }
     }
 
     /// The same with slices of these lengths; a longer one takes guards in.
-    pub(super) fn cut(self, lengths: [usize; 5]) -> Entries {
+    pub(super) fn cut(self, lengths: [usize; LISTS]) -> Entries {
         Entries { lengths, ..self }
     }
 
     /// The slices without the guards.
     pub fn lent(&self) -> Lent<'_> {
-        let [kinds, registers, values, positive, negative] = self.lengths;
+        let [kinds, registers, values, positive, negative, entropy, answers] = self.lengths;
         Lent {
             kinds: &self.kinds[GUARD..][..kinds],
             registers: &self.registers[GUARD..][..registers],
             values: &self.values[GUARD..][..values],
             positive: &self.positive[GUARD * WORDS..][..positive],
             negative: &self.negative[GUARD * WORDS..][..negative],
+            entropy: &self.entropy[GUARD..][..entropy],
+            answers: &self.answers[GUARD..][..answers],
         }
     }
 }

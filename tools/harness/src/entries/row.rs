@@ -1,11 +1,11 @@
 //! One entry of a list.
 
-use crate::calls::{register, wires};
+use crate::calls::{answers, register, wires, word};
 use crate::generate::WRITTEN;
 use crate::record::largest;
 use crate::rng::Rng;
 use handler::registers::MAP;
-use handler::{Access, Edition, Wires};
+use handler::{Access, Edition, Sample, Wires};
 use std::array::from_fn;
 
 /// The largest register that the writer takes.
@@ -22,6 +22,10 @@ pub struct Row {
     pub value: u32,
     /// The wires.
     pub wires: Wires,
+    /// The entropy word.
+    pub word: u32,
+    /// The answers, line 0 at the lowest bit; bits 4 to 7 count for nothing.
+    pub answers: u8,
 }
 
 impl Row {
@@ -39,9 +43,12 @@ impl Row {
             register: rng.pick(&[near, near, near, far, 0, LARGEST]),
             value: rng.pick(&[0, 1, u32::MAX, any]),
             wires: wires(rng),
+            word: word(rng),
+            answers: answers(rng) as u8,
         };
         if rng.once_in(2) {
             row.wires = random;
+            row.word = any.rotate_left(7);
         }
         if rng.once_in(2) {
             row.value = rng.pick(&WRITTEN);
@@ -52,6 +59,15 @@ impl Row {
             _ => {}
         }
         row
+    }
+
+    /// The sample as a tick takes it.
+    pub fn sample(&self) -> Sample {
+        Sample {
+            alerts: self.wires,
+            word: self.word,
+            answers: self.answers.into(),
+        }
     }
 
     /// The access as a tick takes it; a kind over 2 is a malformed one.

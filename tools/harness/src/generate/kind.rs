@@ -1,5 +1,7 @@
 //! The kinds of traces.
 
+use handler::Edition;
+
 /// What a trace is about.
 #[derive(Clone, Copy, Debug, PartialEq, Eq)]
 pub enum Kind {
@@ -33,10 +35,12 @@ pub enum Kind {
     Edges,
     /// Handshakes: rises and equal wires in each of their places.
     Handshake,
+    /// The ping timer: turns, pings, answers and failures.
+    Pings,
 }
 
 /// Every kind with its name on the command line.
-pub const KINDS: [(Kind, &str); 15] = [
+pub const KINDS: [(Kind, &str); 16] = [
     (Kind::Mixed, "mixed"),
     (Kind::Escalate, "escalate"),
     (Kind::Timeout, "timeout"),
@@ -52,6 +56,7 @@ pub const KINDS: [(Kind, &str); 15] = [
     (Kind::Threshold, "threshold"),
     (Kind::Edges, "edges"),
     (Kind::Handshake, "handshake"),
+    (Kind::Pings, "pings"),
 ];
 
 impl Kind {
@@ -68,7 +73,17 @@ impl Kind {
             .map(|entry| entry.0)
     }
 
-    /// The kind of the trace at a place of a set: one in a hundred is long, three have edges, four are of handshakes.
+    /// The kind of the trace at a place of an edition's set: where it has the
+    /// ping timer, two of seven are of it.
+    pub fn of(edition: Edition, place: u64) -> Kind {
+        match Kind::at(place) {
+            Kind::Full => Kind::Full,
+            _ if edition.has_timer() && matches!(place % 7, 3 | 5) => Kind::Pings,
+            kind => kind,
+        }
+    }
+
+    /// The kind of the trace at a place of an older set: one in a hundred is long, three have edges, four are of handshakes.
     pub fn at(place: u64) -> Kind {
         const ROUND: [Kind; 10] = [
             Kind::Mixed,

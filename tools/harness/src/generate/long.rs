@@ -7,6 +7,7 @@ use super::scene::Scene;
 use super::Kind;
 use crate::rng::Rng;
 use handler::registers::{Field, Setting, INTR_ENABLE, INTR_STATE, INTR_TEST};
+use handler::registers::{PING_ENABLE, PING_TIMEOUT};
 use handler::{Edition, CLASSES};
 
 /// The most events an accumulator counts.
@@ -18,6 +19,7 @@ pub fn long(edition: Edition, mut rng: Rng, seed: u64) -> Vec<u8> {
     let n = rng.pick(match edition {
         Edition::Alerts64 => &[4, 9, 64],
         Edition::Alerts248 => &[4, 65, 248],
+        Edition::Pings => &[9, 65, 248],
     });
     let mut scene = Scene::new(edition, rng, n);
     scene.active = vec![0, scene.n - 1, 1, scene.n - 2];
@@ -27,6 +29,9 @@ pub fn long(edition: Edition, mut rng: Rng, seed: u64) -> Vec<u8> {
     // In turn: four alerts take turns, two of them, equal wires.
     let way = seed % 3;
     set_up(&mut scene, way);
+    if map.timer {
+        set_up_timer(&mut scene, way);
+    }
     let other = (k + 1) % CLASSES;
     let watched = [
         map.class(k, Setting::AccumCnt),
@@ -78,6 +83,26 @@ fn set_up(scene: &mut Scene, way: u64) {
     scene.configure(map.class(other, Setting::Ctrl), 0x1B3D);
     scene.write(INTR_ENABLE, 15);
     scene.write(INTR_TEST, 1 << other);
+}
+
+/// Alert 2, which rests, is pinged and never answers: of the longest wait and the longest timeout where there is time for both,
+/// else of a timeout at its end alone.
+fn set_up_timer(scene: &mut Scene, way: u64) {
+    let (k, map) = (scene.focus, scene.map);
+    let class = (k + 2) % CLASSES;
+    scene.configure(map.class(class, Setting::Ctrl), 0x393D);
+    scene.configure(map.local(Field::Class, 0), class as u32);
+    scene.configure(map.local(Field::En, 0), 1);
+    scene.configure(map.alert(Field::En, 2), 1);
+    scene.write(map.alert(Field::Regwen, 2), 0);
+    let timeout = scene.rng.pick(&[65534, 65535]);
+    scene.configure(PING_TIMEOUT, timeout);
+    if let Some(entropy) = &mut scene.entropy {
+        entropy.target = 2;
+        entropy.stirs = u64::MAX;
+        entropy.waits = if way == 1 { &[65535] } else { &[0] };
+    }
+    scene.write(PING_ENABLE, 1);
 }
 
 /// The wires that give an event in each tick, or in each second one: an alert rises once in a handshake, and is at rest else.

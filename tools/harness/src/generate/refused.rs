@@ -63,7 +63,11 @@ impl Scene {
         let k = self.rng.index(CLASSES);
         let absent = map.alerts - self.n;
         match self.rng.below(6) {
-            0 => self.between(INTR_TEST + 1, map.local(Field::Regwen, 0)),
+            0 => {
+                let low = self.between(INTR_TEST + 1, map.local(Field::Regwen, 0));
+                // Where it has the ping timer, three of them are assigned.
+                map.register(low).map_or(low, |_| INTR_TEST + 1)
+            }
             1 => self.rng.pick(&gaps(map)),
             2 => self.between(map.class(k, Setting::State) + 1, map.block(k + 1)),
             3 => self.rng.pick(&after(map, largest)),
@@ -82,6 +86,9 @@ impl Scene {
     /// A write with a bit outside the field, often the lowest such bit.
     fn too_wide(&mut self) {
         let map = self.map;
+        if map.timer && self.rng.once_in(5) {
+            return self.too_wide_for_the_timer();
+        }
         let field = self.rng.pick(&Field::ALL);
         // The others are read only, or have no bit outside.
         let setting = self.rng.pick(&[

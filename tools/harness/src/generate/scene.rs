@@ -1,8 +1,9 @@
 //! A trace under construction: the wires as they stand and the records so far.
 
+use super::entropy::Entropy;
 use crate::configure::configure;
 use crate::opened::opening;
-use crate::record::{pack, Head, Side, NONE, READ, WRITE};
+use crate::record::{pack, Head, Side, Tail, NONE, READ, WRITE};
 use crate::rng::Rng;
 use handler::registers::Map;
 use handler::{Edition, Wires, CLASSES};
@@ -34,6 +35,8 @@ pub struct Scene {
     pub pos: Side,
     /// Negative wires.
     pub neg: Side,
+    /// What the ping timer is handed, where the records have that.
+    pub entropy: Option<Entropy>,
     bytes: Vec<u8>,
 }
 
@@ -48,6 +51,7 @@ impl Scene {
         if edition != Edition::Alerts64 {
             active.push(rng.pick(&BORDERS).min(count - 1));
         }
+        let entropy = edition.has_timer().then(|| Entropy::new(rng.bits()));
         Scene {
             edition,
             map: edition.registers(),
@@ -59,6 +63,7 @@ impl Scene {
             moving: true,
             pos: Wires::REST.pos,
             neg: Wires::REST.neg,
+            entropy,
             bytes: opening(edition, n),
             rng,
         }
@@ -108,8 +113,16 @@ impl Scene {
 
     /// A tick with any record head.
     pub fn tick(&mut self, head: Head) {
+        self.tick_spoilt(head, 0);
+    }
+
+    /// The same with these bits set in the record's last byte, where it is not
+    /// a wire's.
+    pub fn tick_spoilt(&mut self, head: Head, bits: u8) {
         let wires = self.next_wires();
-        self.bytes.extend(pack(self.edition, head, wires));
+        let mut tail = self.entropy.as_mut().map_or(Tail::default(), Entropy::tail);
+        tail.last |= bits;
+        self.bytes.extend(pack(self.edition, head, wires, tail));
     }
 
     /// One of the active alerts.

@@ -2,7 +2,6 @@
 
 use super::profile::Values;
 use super::scene::Scene;
-use super::steps::OCCURRING;
 use handler::registers::{Field, Setting, INTR_ENABLE};
 use handler::{CLASSES, LOCALS};
 
@@ -24,7 +23,7 @@ impl Scene {
         for at in 0..self.active.len() {
             self.configure_alert(self.active[at]);
         }
-        for j in OCCURRING {
+        for &j in self.occurring() {
             if self.rng.once_in(2) {
                 self.configure_local(j);
             }
@@ -36,6 +35,22 @@ impl Scene {
         for k in 0..CLASSES {
             self.configure_class(k, values);
         }
+        if self.map.timer && !self.rng.once_in(4) {
+            self.set_up_turns();
+        }
+    }
+
+    /// The ping timer, mostly on, with some of the alerts locked: those that a
+    /// trace changes are the others.
+    fn set_up_turns(&mut self) {
+        for at in (0..self.active.len()).step_by(2) {
+            let i = self.active[at];
+            self.write(self.map.alert(Field::Regwen, i), 0);
+            if let Some(entropy) = &mut self.entropy {
+                entropy.target = i;
+            }
+        }
+        self.set_up_timer();
     }
 
     fn configure_alert(&mut self, i: usize) {
@@ -92,11 +107,11 @@ impl Scene {
         match self.rng.below(8) {
             0 => self.configure_alert(i),
             1 => {
-                let (j, en) = (self.rng.pick(&OCCURRING), self.rng.below(2) as u32);
+                let (j, en) = (self.rng.pick(self.occurring()), self.rng.below(2) as u32);
                 self.configure(self.map.local(Field::En, j), en);
             }
             2 => {
-                let j = self.rng.pick(&OCCURRING);
+                let j = self.rng.pick(self.occurring());
                 self.configure(self.map.local(Field::Class, j), k as u32);
             }
             3 | 4 => {

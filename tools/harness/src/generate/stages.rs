@@ -3,7 +3,7 @@
 
 use super::profile::Values;
 use super::scene::Scene;
-use handler::registers::{Field, Setting};
+use handler::registers::{Field, Setting, PING_REGWEN, PING_TIMEOUT, PING_TIMEOUT_BITS};
 use handler::LOCALS;
 
 /// A shadowed register, the REGWEN that guards it, and a value for it.
@@ -174,9 +174,10 @@ impl Scene {
 
     /// A register of this alert, this local alert or this class.
     fn shadowed(&mut self, values: &Values, (i, j, k): (usize, usize, usize)) -> Shadowed {
-        match self.rng.below(4) {
+        match self.rng.below(4 + u64::from(self.map.timer)) {
             0 => self.source(Ok(i)),
             1 => self.source(Err(j)),
+            4 => self.ping_timeout(),
             _ => {
                 let setting = self.rng.pick(&Setting::SHADOWED);
                 Shadowed {
@@ -186,6 +187,16 @@ impl Scene {
                     value: self.value_for(setting, values),
                 }
             }
+        }
+    }
+
+    /// The ping timer's timeout.
+    fn ping_timeout(&mut self) -> Shadowed {
+        Shadowed {
+            register: PING_TIMEOUT,
+            guard: PING_REGWEN,
+            bits: PING_TIMEOUT_BITS,
+            value: self.rng.pick(&[0, 1, 2, 5, 65535]),
         }
     }
 

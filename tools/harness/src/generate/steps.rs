@@ -2,12 +2,19 @@
 
 use super::scene::Scene;
 use handler::registers::{Field, Setting, INTR_ENABLE, INTR_STATE, INTR_TEST};
+use handler::registers::{PING_ENABLE, PING_REGWEN, PING_TIMEOUT};
 use handler::{CLASSES, LOCALS};
 
-/// The local alerts that occur: by equal wires, and by writes that differ.
-pub(super) const OCCURRING: [usize; 2] = [2, 5];
-
 impl Scene {
+    /// The local alerts that occur: by equal wires, by writes that differ, and
+    /// where there is a ping timer by pings that fail.
+    pub(super) fn occurring(&self) -> &'static [usize] {
+        match self.map.timer {
+            true => &[2, 5, 0, 1],
+            false => &[2, 5],
+        }
+    }
+
     /// Reads what shows the state.
     pub fn watch(&mut self) {
         let k = self.any_class();
@@ -18,7 +25,9 @@ impl Scene {
             2 => self.map.class(k, Setting::AccumCnt),
             3 => INTR_STATE,
             4 => self.map.alert(Field::Cause, i),
-            5 => self.map.local(Field::Cause, self.rng.pick(&OCCURRING)),
+            5 => self
+                .map
+                .local(Field::Cause, self.rng.pick(self.occurring())),
             6 => self.map.class(k, Setting::Ctrl),
             7 => self.map.class(k, Setting::ClrRegwen),
             _ => self.any_readable(),
@@ -30,6 +39,10 @@ impl Scene {
         let k = self.rng.index(CLASSES);
         let field = self.rng.pick(&Field::ALL);
         match self.rng.below(4) {
+            0 if self.map.timer => {
+                self.rng
+                    .pick(&[INTR_ENABLE, PING_REGWEN, PING_TIMEOUT, PING_ENABLE])
+            }
             0 => INTR_ENABLE,
             1 => self.map.local(field, self.rng.index(LOCALS)),
             2 => self.map.alert(field, self.rng.index(self.n)),
@@ -88,7 +101,8 @@ impl Scene {
         let value = u32::from(!self.rng.once_in(4));
         let i = self.any_active();
         let register = if self.rng.once_in(4) {
-            self.map.local(Field::Cause, self.rng.pick(&OCCURRING))
+            self.map
+                .local(Field::Cause, self.rng.pick(self.occurring()))
         } else {
             self.map.alert(Field::Cause, i)
         };
@@ -100,11 +114,12 @@ impl Scene {
         let k = self.any_class();
         let i = self.rng.index(self.n);
         let j = self.rng.index(LOCALS);
-        let register = match self.rng.below(4) {
+        let register = match self.rng.below(4 + u64::from(self.map.timer)) {
             0 => self.map.class(k, Setting::Regwen),
             1 => self.map.class(k, Setting::ClrRegwen),
             2 => self.map.alert(Field::Regwen, i),
-            _ => self.map.local(Field::Regwen, j),
+            3 => self.map.local(Field::Regwen, j),
+            _ => PING_REGWEN,
         };
         let value = self.rng.below(2) as u32;
         self.write(register, value);

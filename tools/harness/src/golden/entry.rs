@@ -42,9 +42,9 @@ impl Golden {
         let ran = program(path, &bytes)?;
         if let Some(ended) = ended(&ran) {
             let what = format!(
-                "trace {} {seed} of {}: {ended}",
+                "trace {} {seed} of edition {}: {ended}",
                 kind.name(),
-                edition.bytes()
+                edition.name()
             );
             return Err(io::Error::new(io::ErrorKind::Other, what));
         }
@@ -72,15 +72,13 @@ impl Golden {
     /// The trace of a line, as `Display` writes it.
     pub fn named(line: &str) -> Option<Golden> {
         let words: Vec<&str> = line.split(' ').collect();
-        let [bytes, kind, seed, trace, words] = match words[..] {
-            [bytes, kind, seed, trace, words] => [bytes, kind, seed, trace, words],
+        let [edition, kind, seed, trace, words] = match words[..] {
+            [edition, kind, seed, trace, words] => [edition, kind, seed, trace, words],
             _ => return None,
         };
         let hex = |digits: &str| u64::from_str_radix(digits, 16).ok();
-        let bytes: usize = bytes.parse().ok()?;
-        let mut editions = Edition::ALL.into_iter();
         Some(Golden {
-            edition: editions.find(|edition| edition.bytes() == bytes)?,
+            edition: Edition::named(edition)?,
             kind: Kind::named(kind)?,
             seed: seed.parse().ok()?,
             trace: hex(trace)?,
@@ -91,9 +89,9 @@ impl Golden {
 
 impl fmt::Display for Golden {
     fn fmt(&self, out: &mut fmt::Formatter) -> fmt::Result {
-        let (bytes, kind, seed) = (self.edition.bytes(), self.kind.name(), self.seed);
+        let (edition, kind, seed) = (self.edition.name(), self.kind.name(), self.seed);
         let (trace, words) = (self.trace, self.words);
-        write!(out, "{bytes} {kind} {seed} {trace:016x} {words:016x}")
+        write!(out, "{edition} {kind} {seed} {trace:016x} {words:016x}")
     }
 }
 
@@ -125,6 +123,7 @@ mod tests {
             "70 sweep 9 1",
             "sweep 9 1 2",
             "71 sweep 9 1 2",
+            "75 sweep 9 1 2",
             "70 swept 9 1 2",
             "24 sweep x 1 2",
             "24 sweep 9 1 2 3",

@@ -57,14 +57,14 @@ pub struct Other {
 impl fmt::Display for Other {
     fn fmt(&self, out: &mut fmt::Formatter) -> fmt::Result {
         let (kind, seed) = (self.kept.kind.name(), self.kept.seed);
-        let bytes = self.kept.edition.bytes();
+        let edition = self.kept.edition.name();
         let what = match self.kept.trace == self.now.trace {
             true => "the program gives other words",
             false => "the generator gives another trace",
         };
         writeln!(
             out,
-            "DIFFERENT: trace {kind} seed {seed} of {bytes} bytes: {what}"
+            "DIFFERENT: trace {kind} seed {seed} of edition {edition}: {what}"
         )?;
         writeln!(out, "kept: {}", self.kept)?;
         write!(out, "now:  {}", self.now)

@@ -1,5 +1,6 @@
 //! Random states that keep the rule of refusal 7.
 
+use super::pings::fit_turn;
 use super::place::Place;
 use crate::rng::Rng;
 use handler::registers::Setting;
@@ -32,6 +33,7 @@ pub fn fit(places: &[Place], rng: &mut Rng, state: &mut Handler) {
         let rests = matches!(class.state, 0 | 3);
         Place::Class(k, Setting::EscCnt).set(state, if rests { 0 } else { u64::from(count) });
     }
+    fit_turn(rng, state);
 }
 
 /// Half of the stages open, often with a value that a write has too.

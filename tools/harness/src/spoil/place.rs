@@ -2,7 +2,7 @@
 //! may hold and the bits that are kept for it.
 
 use super::receiver::Bit;
-use handler::registers::{Field, Setting, INTR_BITS};
+use handler::registers::{Field, Setting, INTR_BITS, PING_TIMEOUT_BITS};
 use handler::{ALERTS, CLASSES, LOCALS, WORDS};
 use std::fmt;
 
@@ -17,6 +17,22 @@ pub enum Place {
     IntrState,
     /// INTR_ENABLE.
     IntrEnable,
+    /// PING_TIMER_REGWEN.
+    PingRegwen,
+    /// PING_TIMEOUT_CYC.
+    PingTimeout,
+    /// PING_TIMER_EN.
+    PingEnable,
+    /// The stage of PING_TIMEOUT_CYC.
+    PingStage,
+    /// The number of the timer's turn.
+    TurnNumber,
+    /// The alert that it drew.
+    TurnAlert,
+    /// Its count.
+    TurnCount,
+    /// The lines whose ping is open.
+    Lines,
     /// A class's register.
     Class(usize, Setting),
     /// An alert's register.
@@ -32,9 +48,22 @@ pub enum Place {
 }
 
 impl Place {
+    /// Those of the ping timer.
+    pub const TIMER: [Place; 8] = [
+        Place::PingRegwen,
+        Place::PingTimeout,
+        Place::PingEnable,
+        Place::PingStage,
+        Place::TurnNumber,
+        Place::TurnAlert,
+        Place::TurnCount,
+        Place::Lines,
+    ];
+
     /// Every place of a state.
     pub fn all() -> Vec<Place> {
         let mut all = vec![Place::N, Place::IntrState, Place::IntrEnable];
+        all.extend(Place::TIMER);
         for bit in Bit::ALL {
             all.extend((0..WORDS).map(|word| Place::Receivers(bit, word)));
         }
@@ -55,10 +84,14 @@ impl Place {
     }
 
     /// The most that it may hold: the largest value of a register, and one
-    /// more in a stage. N and the receivers have another rule or none.
+    /// more in a stage. N, the receivers, the turn and the lines have another
+    /// rule or none.
     pub fn most(self) -> Option<u64> {
         let bits = match self {
             Place::N | Place::Receivers(..) => return None,
+            Place::TurnNumber | Place::TurnAlert | Place::TurnCount | Place::Lines => return None,
+            Place::PingRegwen | Place::PingEnable => 1,
+            Place::PingTimeout | Place::PingStage => PING_TIMEOUT_BITS,
             Place::IntrState | Place::IntrEnable => INTR_BITS,
             Place::Class(_, setting) | Place::ClassStage(_, setting) => setting.bits(),
             Place::Alert(field, _) | Place::Local(field, _) => field.bits(),
@@ -71,7 +104,10 @@ impl Place {
     pub fn is_stage(self) -> bool {
         matches!(
             self,
-            Place::ClassStage(..) | Place::AlertStage(..) | Place::LocalStage(..)
+            Place::ClassStage(..)
+                | Place::AlertStage(..)
+                | Place::LocalStage(..)
+                | Place::PingStage
         )
     }
 
@@ -86,6 +122,8 @@ impl Place {
     pub fn kept(self) -> u32 {
         match self {
             Place::N | Place::Receivers(..) => 64,
+            Place::PingTimeout | Place::TurnCount => 16,
+            Place::PingStage => 32,
             Place::Class(_, setting) => setting.bits().next_power_of_two().max(8),
             // One bit more, for the value plus 1; that of CTRL is as wide as
             // that of ACCUM_THRESH.
@@ -103,6 +141,14 @@ impl fmt::Display for Place {
             Place::Receivers(bit, word) => write!(out, "receivers' {}, word {word}", bit.name()),
             Place::IntrState => write!(out, "INTR_STATE"),
             Place::IntrEnable => write!(out, "INTR_ENABLE"),
+            Place::PingRegwen => write!(out, "PING_TIMER_REGWEN"),
+            Place::PingTimeout => write!(out, "PING_TIMEOUT_CYC"),
+            Place::PingEnable => write!(out, "PING_TIMER_EN"),
+            Place::PingStage => write!(out, "stage of PING_TIMEOUT_CYC"),
+            Place::TurnNumber => write!(out, "the turn's number"),
+            Place::TurnAlert => write!(out, "the turn's alert"),
+            Place::TurnCount => write!(out, "the turn's count"),
+            Place::Lines => write!(out, "open lines"),
             Place::Class(k, setting) => write!(out, "class {k} {}", setting.name()),
             Place::Alert(field, i) => write!(out, "alert {i} {}", field.name()),
             Place::Local(field, j) => write!(out, "local {j} {}", field.name()),

@@ -11,6 +11,10 @@ pub enum Way {
     Staged,
     /// Classes with EN or without, and a threshold of 65534 or 65535.
     Threshold,
+    /// The ping timer at any turn, its ping open, due or to come.
+    Turn,
+    /// Pings open, the turn's or others.
+    Pings,
     /// Random bytes in every field.
     Random,
     /// One bit flipped.
@@ -30,11 +34,13 @@ pub enum Way {
 }
 
 /// Every way with its name.
-pub const WAYS: [(Way, &str); 12] = [
+pub const WAYS: [(Way, &str); 14] = [
     (Way::Kept, "kept"),
     (Way::Fitted, "fitted"),
     (Way::Staged, "staged"),
     (Way::Threshold, "threshold"),
+    (Way::Turn, "turn"),
+    (Way::Pings, "pings"),
     (Way::Random, "random"),
     (Way::Flip, "flip"),
     (Way::Flips, "flips"),

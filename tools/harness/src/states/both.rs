@@ -5,11 +5,12 @@ use super::lists::Lists;
 use super::subject::Subject;
 use super::summary::Summary;
 use crate::calls::{
-    access, handler_of, reference_access, reference_edition, reference_of, reference_sample,
+    access, aimed, handler_of, reference_access, reference_edition, reference_of, reference_sample,
     sample, with_spare, Odd,
 };
 use crate::rng::Rng;
-use handler::{Edition, Handler, Heard, Ticked};
+use handler::registers::PING_ENABLE;
+use handler::{Access, Edition, Handler, Heard, Ticked};
 
 /// The answer to a state that breaks the rule.
 const BROKEN: i64 = -7;
@@ -21,17 +22,24 @@ pub fn tick(
     rng: &mut Rng,
     summary: &mut Summary,
 ) -> Option<Odd> {
-    let (access, sample) = (access(rng), sample(rng));
+    let access = match rng.once_in(8) {
+        true => aimed(state, rng),
+        false => access(rng),
+    };
+    let sample = sample(rng);
     let given = (reference_access(access), reference_sample(&sample));
     let mut twin = reference_of(state);
     let valid = twin.valid();
     let hears = heard(&twin, given.0, &given.1);
-    if valid {
-        summary.met.tick(&twin, &given.1);
-        summary.hears(&hears);
-    }
+    let before = twin.clone();
     let wanted = twin.tick(given.0, &given.1);
     if valid {
+        summary.met.tick(&before, &twin, &given.1);
+        summary.hears(&hears);
+        summary.turns.tick(&before, &twin, &given.1);
+        if let (Access::Write(PING_ENABLE, value), 0) = (access, wanted.answer) {
+            summary.turns.enabled(&before, value);
+        }
         summary.ticks[wanted.answer.min(0).unsigned_abs() as usize] += 1;
     }
     let got = (subject.tick)(*state, access, sample);
@@ -80,10 +88,22 @@ fn hear_odd(wanted: &Heard, got: &Heard) -> Option<Odd> {
     .or_else(|| words("answered pings", wanted.answers, got.answers))
 }
 
-/// One small batch of either edition on both sides.
-pub fn batch(
+/// One to three small batches on both sides, each of any edition.
+pub fn batches(
     subject: &Subject,
     state: &Handler,
+    rng: &mut Rng,
+    summary: &mut Summary,
+) -> Option<Odd> {
+    let mut state = *state;
+    let count = rng.pick(&[1, 1, 3]);
+    (0..count).find_map(|_| batch(subject, &mut state, rng, summary))
+}
+
+/// One batch; the state is then the one after it.
+fn batch(
+    subject: &Subject,
+    state: &mut Handler,
     rng: &mut Rng,
     summary: &mut Summary,
 ) -> Option<Odd> {
@@ -93,11 +113,13 @@ pub fn batch(
     let mut numbers = before.numbers();
     let mut twin = reference_of(state);
     let valid = twin.valid();
-    let refused = !valid || state.n > edition.alerts();
+    let older = state.timer.is_on() && !edition.has_timer();
+    let refused = !valid || state.n > edition.alerts() || older;
     let (bytes, words) = lists.lent();
     let wanted = reference::batch(&mut twin, reference_edition(edition), bytes, &mut numbers);
     let (after, answer) = (subject.batch)(*state, edition, bytes, words);
-    summary.batch(edition, wanted, valid);
+    summary.batch(edition, state, wanted, valid);
+    let given = std::mem::replace(state, after);
     let got = answer.0;
     let pairs = [
         ("answer 7", i64::from(refused), i64::from(got == BROKEN)),
@@ -110,7 +132,7 @@ pub fn batch(
             Some(Odd::new("batch", field, "as before", "changed"))
         })
         .or_else(|| {
-            let wanted = with_spare(handler_of(&twin), state);
+            let wanted = with_spare(handler_of(&twin), &given);
             Odd::state("batch", &wanted, &after)
         })
 }

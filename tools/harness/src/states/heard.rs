@@ -1,7 +1,6 @@
 //! What the reference hears in a tick. It does not say so itself: the places
 //! of its receivers and the causes that the tick sets tell it.
 
-use crate::calls::bit;
 use handler::{Answer, Heard, WORDS};
 use reference::{Access, Handler, Place, Sample};
 
@@ -27,7 +26,8 @@ pub fn heard(state: &Handler, access: Access, sample: &Sample) -> Heard {
     for i in 0..state.n as usize {
         let [was, is] = [state, &after].map(|handler| handler.receivers[i]);
         if (was.place, is.place) == (Place::Ready, Place::Acknowledged) {
-            let answered = was.open || bit(&sample.asks, i);
+            // A ping that opens in the tick changes its level.
+            let answered = was.open || was.ping != is.ping;
             let words = match answered {
                 true => &mut heard.answers,
                 false => &mut heard.events,

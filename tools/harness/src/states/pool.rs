@@ -1,12 +1,11 @@
 //! States that traces come to.
 
-use crate::calls::{asks, handler_of, reference_edition};
+use crate::calls::{handler_of, reference_edition};
 use crate::generate::{trace, Kind};
 use crate::opened::opened;
 use crate::rng::Rng;
 use handler::{Edition, Handler};
 use reference::trace::parse;
-use reference::Sample;
 
 /// States that are taken from the same trace.
 pub const BLOCK: u64 = 64;
@@ -20,13 +19,12 @@ pub struct Pool {
 }
 
 impl Pool {
-    /// Runs the block's trace in the reference, with pings asked for now and
-    /// then, and stops at random places.
+    /// Runs the block's trace in the reference, and stops at random places.
     pub fn new(block: u64) -> Pool {
         let mut rng = Rng::new(block);
-        // The kinds of a round come in both editions.
-        let edition = Edition::ALL[(block / 10 % 2) as usize];
-        let bytes = trace(edition, Kind::at(block), block);
+        // The kinds of a round come in every edition.
+        let edition = Edition::ALL[(block / 10 % Edition::ALL.len() as u64) as usize];
+        let bytes = trace(edition, Kind::of(edition, block), block);
         let input = opened(&bytes);
         let (n, edition) = (input.alerts(), input.edition);
         let records: Vec<&[u8]> = input.records.chunks_exact(edition.bytes()).collect();
@@ -40,13 +38,8 @@ impl Pool {
         let mut states = Vec::new();
         for stop in stops {
             for record in &records[done..stop as usize] {
-                let (access, pos, neg) = parse(edition, record);
-                let asks = if rng.once_in(32) {
-                    asks(&mut rng)
-                } else {
-                    [0; 4]
-                };
-                state.tick(access, &Sample { pos, neg, asks });
+                let (access, sample) = parse(edition, record);
+                state.tick(access, &sample);
             }
             done = stop as usize;
             states.push(handler_of(&state));

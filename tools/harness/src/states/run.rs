@@ -1,6 +1,6 @@
 //! The run over states, one seed each.
 
-use super::both::{batch, tick};
+use super::both::{batches, tick};
 use super::pool::{Pool, BLOCK};
 use super::subject::Subject;
 use super::summary::Summary;
@@ -28,7 +28,7 @@ pub fn try_all(subject: &Subject, seed: u64, states: u64, summary: &mut Summary)
         summary.states += 1;
         summary.ways[way as usize][usize::from(valid)] += 1;
         let odd = tick(subject, &state, &mut rng, summary)
-            .or_else(|| batch(subject, &state, &mut rng, summary));
+            .or_else(|| batches(subject, &state, &mut rng, summary));
         if let Some(odd) = odd {
             return Some(Found {
                 seed,

@@ -3,7 +3,8 @@
 use crate::compare::ANSWERS;
 use crate::met::Met;
 use crate::spoil::WAYS;
-use handler::{Edition, Heard, WORDS};
+use crate::turns::Turns;
+use handler::{Edition, Handler, Heard, WORDS};
 use std::fmt;
 
 /// Counts over all states of a set.
@@ -17,6 +18,9 @@ pub struct Summary {
     pub batches: [[u64; 10]; Edition::ALL.len()],
     /// Batches that were refused with 7 for more alerts than the edition has.
     pub over: u64,
+    /// Batches of an older edition that were refused with 7 for the ping timer
+    /// alone.
+    pub older: u64,
     /// Ticks of accepted states by refusal number, 0 for accepted.
     pub ticks: [u64; 15],
     /// What the receivers of accepted states met in them.
@@ -24,13 +28,17 @@ pub struct Summary {
     /// Those with an event, with an answered ping, with an occurring local
     /// alert.
     pub heard: [u64; 3],
+    /// What the ping timer did in them.
+    pub turns: Turns,
 }
 
 impl Summary {
     /// Takes in a batch by its answer.
-    pub(super) fn batch(&mut self, edition: Edition, answer: i64, valid: bool) {
+    pub(super) fn batch(&mut self, edition: Edition, state: &Handler, answer: i64, valid: bool) {
         self.batches[edition as usize][answer.unsigned_abs() as usize] += 1;
-        self.over += u64::from(valid && answer == -7);
+        let over = state.n > edition.alerts();
+        self.over += u64::from(valid && over && answer == -7);
+        self.older += u64::from(valid && !over && answer == -7);
     }
 
     /// Takes in what a tick of an accepted state hears.
@@ -76,16 +84,20 @@ impl fmt::Display for Summary {
         let [events, answers, locals] = self.heard;
         write!(
             out,
-            "\n{}ticks with an event {events}, with an answered ping {answers}, with a local alert {locals}",
-            self.met
+            "\n{}{}ticks with an event {events}, with an answered ping {answers}, with a local alert {locals}",
+            self.met, self.turns
         )?;
         for (edition, batches) in Edition::ALL.into_iter().zip(self.batches) {
-            let bytes = edition.bytes();
-            write!(out, "\nbatches of {bytes} bytes: accepted {}", batches[0])?;
+            let name = edition.name();
+            write!(out, "\nbatches of edition {name}: accepted {}", batches[0])?;
             for number in [7, 8, 9] {
                 write!(out, ", refusal {number}: {}", batches[number])?;
             }
         }
-        write!(out, "; refused for their alerts alone: {}", self.over)
+        write!(
+            out,
+            "; refused for their alerts alone: {}, for the ping timer alone: {}",
+            self.over, self.older
+        )
     }
 }

@@ -5,7 +5,7 @@ use super::subject::Subject;
 use super::summary::Summary;
 use crate::calls::Odd;
 use crate::entries::{Buffer, Entries, Row, Way};
-use crate::record::{Side, WRITTEN_BYTES};
+use crate::record::WRITTEN_BYTES;
 use crate::rng::Rng;
 use handler::Wires;
 use reference::trace::parse;
@@ -41,6 +41,7 @@ fn well_formed(rng: &mut Rng) -> [u8; WRITTEN_BYTES] {
     let mut record = [0; WRITTEN_BYTES].map(|_: u8| rng.bits() as u8);
     record[1] &= 0xF8;
     record[2..4].fill(0);
+    record[WRITTEN_BYTES - 1] &= 0x0F;
     match record[0] >> 6 {
         0 => record[..8].fill(0),
         1 => record[4..8].fill(0),
@@ -52,7 +53,7 @@ fn well_formed(rng: &mut Rng) -> [u8; WRITTEN_BYTES] {
 
 /// The entry of a record as the reference reads it; a malformed one gets a
 /// kind that the writer refuses.
-fn row_of((access, pos, neg): (reference::Access, Side, Side)) -> Row {
+fn row_of((access, sample): (reference::Access, reference::Sample)) -> Row {
     let (kind, register, value) = match access {
         reference::Access::None => (0, 0, 0),
         reference::Access::Read { register } => (1, register, 0),
@@ -63,7 +64,12 @@ fn row_of((access, pos, neg): (reference::Access, Side, Side)) -> Row {
         kind,
         register,
         value,
-        wires: Wires { pos, neg },
+        wires: Wires {
+            pos: sample.pos,
+            neg: sample.neg,
+        },
+        word: sample.word,
+        answers: sample.answers,
     }
 }
 
@@ -78,9 +84,9 @@ mod tests {
         let mut rng = Rng::new(10);
         let mut kinds = [0; 3];
         for _ in 0..3000 {
-            let (access, pos, neg) = parse(WRITTEN, &well_formed(&mut rng));
+            let (access, sample) = parse(WRITTEN, &well_formed(&mut rng));
             assert_ne!(access, reference::Access::Malformed);
-            let row = row_of((access, pos, neg));
+            let row = row_of((access, sample));
             assert_eq!(reference_access(row.access()), access);
             assert_ne!(row.access(), Access::Malformed);
             kinds[usize::from(row.kind)] += 1;

@@ -2,7 +2,7 @@
 
 use super::again::AGAIN;
 use crate::calls::Odd;
-use crate::entries::{Way, WAYS};
+use crate::entries::{Way, LISTS, WAYS};
 use std::fmt;
 
 /// A list that shows a difference.
@@ -13,7 +13,7 @@ pub struct Found {
     /// What the list has that no record holds.
     pub way: Way,
     /// The lengths of its slices.
-    pub lengths: [usize; 5],
+    pub lengths: [usize; LISTS],
     /// The length of the buffer.
     pub buffer: usize,
     /// What differs.

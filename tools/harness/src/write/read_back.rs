@@ -5,7 +5,7 @@ use super::summary::Summary;
 use crate::calls::{reference_access, reference_sample, Odd};
 use crate::entries::{Entries, Row};
 use crate::record::{wires_of, WRITTEN_BYTES};
-use handler::{Edition, Handler, Sample, Ticked, Word};
+use handler::{Edition, Handler, Ticked, Word};
 use reference::trace::{parse, word};
 use reference::writer::WRITTEN;
 
@@ -36,11 +36,14 @@ fn parse_odd(rows: &[Row], bytes: &[u8]) -> Option<Odd> {
     }
     let records = bytes.chunks_exact(WRITTEN_BYTES);
     for (at, (row, record)) in rows.iter().zip(records).enumerate() {
-        let wanted = (
-            reference_access(row.access()),
-            wires_of(row.wires.pos),
-            wires_of(row.wires.neg),
-        );
+        // What no record holds of it is left out.
+        let sample = reference::Sample {
+            pos: wires_of(row.wires.pos),
+            neg: wires_of(row.wires.neg),
+            word: row.word,
+            answers: row.answers & 15,
+        };
+        let wanted = (reference_access(row.access()), sample);
         let got = parse(WRITTEN, record);
         if wanted != got {
             let field = format!("record {at}");
@@ -60,7 +63,7 @@ fn proved_odd(subject: &Subject, n: usize, rows: &[Row], bytes: &[u8]) -> Option
         return Some(Odd::new(PROVED_BATCH, "answer", 0, answer.0));
     }
     for (at, (row, got)) in rows.iter().zip(&words).enumerate() {
-        let given = (subject.tick)(state, row.access(), Sample::of(row.wires));
+        let given = (subject.tick)(state, row.access(), row.sample());
         state = given.handler;
         let wanted = ticked_word(&given);
         if wanted != got.0 {
@@ -91,7 +94,7 @@ fn reference_odd(n: usize, rows: &[Row], bytes: &[u8], summary: &mut Summary) ->
     }
     for (at, (row, got)) in rows.iter().zip(&words).enumerate() {
         let access = reference_access(row.access());
-        let sample = reference_sample(&Sample::of(row.wires));
+        let sample = reference_sample(&row.sample());
         let wanted = word(&state.tick(access, &sample).outcome());
         if wanted != *got {
             return Some(Odd::word(REFERENCE_BATCH, at, wanted, *got));
@@ -150,7 +153,7 @@ mod tests {
             assert!(reference_odd(entries.n, &rows, &bytes, &mut summary).is_none());
             // The wires the wrong way round show in words or in the state.
             for record in bytes.chunks_exact_mut(WRITTEN_BYTES) {
-                record[8..].rotate_left(31);
+                record[8..70].rotate_left(31);
             }
             let proved = proved_odd(&PROVED, entries.n, &rows, &bytes).is_some();
             let twin = reference_odd(entries.n, &rows, &bytes, &mut summary).is_some();

@@ -24,14 +24,25 @@ pub const PROVED: Subject = Subject {
 
 /// The proved writer.
 fn proved_record(list: Lent, out: &mut [u8]) -> Answer {
-    handler::record_numbers(
-        list.kinds,
-        list.registers,
-        list.values,
-        list.positive,
-        list.negative,
-        out,
-    )
+    let Lent {
+        kinds,
+        registers,
+        values,
+        positive,
+        negative,
+        entropy,
+        answers,
+    } = list;
+    let lists = handler::Lists {
+        kinds,
+        registers,
+        values,
+        positive,
+        negative,
+        entropy,
+        answers,
+    };
+    handler::record_numbers(lists, out)
 }
 
 /// The wires of whole entries, as the reference takes them.
@@ -53,6 +64,8 @@ pub fn reference_record(list: Lent, out: &mut [u8]) -> Answer {
         list.values,
         &positive,
         &negative,
+        list.entropy,
+        list.answers,
         out,
     ))
 }

@@ -53,11 +53,14 @@ pub const TICKS: &[Slip] = &[
     Ticks("all wires low", |entry| {
         rewired(entry, |wires| wires.neg.fill(0))
     }),
-    Ticks("pings asked for", |entry| {
+    Ticks("another word", |entry| {
         let mut ticks = inputs(entry);
+        ticks.iter_mut().for_each(|tick| tick.sample.word = 1 << 16);
         ticks
-            .iter_mut()
-            .for_each(|tick| tick.sample.asks.fill(u64::MAX));
+    }),
+    Ticks("pings of lines answered", |entry| {
+        let mut ticks = inputs(entry);
+        ticks.iter_mut().for_each(|tick| tick.sample.answers = 15);
         ticks
     }),
     Ticks("only 64 alerts at rest", |entry| {

@@ -17,7 +17,7 @@ pub struct Slip {
 }
 
 /// The reference's sources, copied for each slip and never changed.
-const REFERENCE: &str = concat!(env!("CARGO_MANIFEST_DIR"), "/../../reference/src");
+pub const REFERENCE: &str = concat!(env!("CARGO_MANIFEST_DIR"), "/../../reference/src");
 
 /// Copies the sources, `bin` included, with the slip put in.
 fn copy(slip: &Slip, from: &Path, to: &Path) {

@@ -41,6 +41,25 @@ pub const HEARD: &[(&str, Hear)] = &[
             }
         },
     ),
+    ("a failed ping not told", |h, access, sample| {
+        let heard = h.hear(access, sample);
+        Heard {
+            locals: heard.locals & !3,
+            ..heard
+        }
+    }),
+    (
+        "a failed ping told though its local alert is disabled",
+        |mut h, access, sample| {
+            let answer = h.hear(access, sample).answer;
+            h.locals.en[0] |= 1;
+            h.locals.en[1] |= 1;
+            Heard {
+                answer,
+                ..h.hear(access, sample)
+            }
+        },
+    ),
     (
         "what is heard told without the access",
         |h, access, sample| {

@@ -1,13 +1,15 @@
-//! What pairs and pings show, and no word does: ticks and accounts of them that go wrong in one reading of request (viii). The
-//! run over states must find each.
+//! What pairs, pings and states show, and no word does: ticks and accounts of them that go wrong in one reading of requests
+//! (viii) and (ix). The run over states must find each.
 
 use harness::calls::Found;
 use harness::states::{try_all, Subject, Summary, PROVED};
 use heard::HEARD;
-use ticks::{ACKNOWLEDGE, ANSWERED, ASKED, NOWHERE};
+use ticks::{ACKNOWLEDGE, ANSWERED, NOWHERE, OPENED};
+use turns::{OPEN, TURNS};
 
 mod heard;
 mod ticks;
+mod turns;
 mod words;
 
 /// What is found with a wrong subject; its seed alone repeats it.
@@ -35,7 +37,7 @@ fn missed<'a>(wrong: impl Iterator<Item = (&'a str, Subject)>) -> Vec<&'a str> {
 
 #[test]
 fn the_run_over_states_finds_every_wrong_tick() {
-    let all = [ACKNOWLEDGE, ASKED, ANSWERED, NOWHERE]
+    let all = [ACKNOWLEDGE, OPENED, ANSWERED, NOWHERE, TURNS, OPEN]
         .into_iter()
         .flatten();
     let wrong = all.map(|(name, tick)| {

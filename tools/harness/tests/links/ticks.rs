@@ -18,18 +18,28 @@ fn after(
     given
 }
 
-/// The same with the pings of another tick: their levels, and which are open.
-fn with_pings(mut given: Ticked, right: &Ticked) -> Ticked {
-    given.handler.links.receivers.level = right.handler.links.receivers.level;
-    given.handler.links.receivers.pending = right.handler.links.receivers.pending;
+/// The same with the links of another tick: levels, open pings, the turn.
+fn with_links(mut given: Ticked, right: &Ticked) -> Ticked {
+    given.handler.links = right.handler.links;
+    given.handler.timer = right.handler.timer;
     given.output.ping = right.output.ping;
     given
 }
 
-/// A state without open pings, and a sample that asks for none.
-fn unasked(mut h: Handler, sample: Sample) -> (Handler, Sample) {
-    h.links.receivers.pending = [0; WORDS];
-    (h, Sample::of(sample.alerts))
+/// A due ping comes one tick later.
+fn later(mut h: Handler) -> Handler {
+    if h.timer.is_on() && h.links.turn.count == 0 {
+        h.links.turn.count = 1;
+    }
+    h
+}
+
+/// The timer off, and no ping open.
+fn without_pings(mut h: Handler) -> Handler {
+    h.links.receivers.pending = but(h.links.receivers.pending, live(h.n));
+    h.links.lines = 0;
+    h.timer.enable = 0;
+    h
 }
 
 /// Wrong acknowledge pairs.
@@ -62,21 +72,17 @@ pub const ACKNOWLEDGE: &[(&str, Tick)] = &[
     ),
 ];
 
-/// Wrong askings.
-pub const ASKED: &[(&str, Tick)] = &[
-    ("one ping at a time", |h, access, sample| {
-        let open = and(h.links.receivers.pending, live(h.n)) != [0; WORDS];
-        let none = Sample::of(sample.alerts);
-        h.tick(access, if open { none } else { sample })
-    }),
+/// Wrong openings.
+pub const OPENED: &[(&str, Tick)] = &[
     (
-        "asking again while open changes the level",
+        "the level changes while the ping is open",
         |h, access, sample| {
-            after(h, access, sample, |given, h, sample| {
-                let again = and(and(sample.asks, h.links.receivers.pending), live(h.n));
-                let level = &mut given.handler.links.receivers.level;
-                *level = each(*level, again, |level, again| level ^ again);
-                given.output.ping = live_pairs(*level, h.n);
+            after(h, access, sample, |given, h, _| {
+                let receivers = &mut given.handler.links.receivers;
+                let open = and(receivers.pending, h.links.receivers.pending);
+                let open = and(open, live(h.n));
+                receivers.level = each(receivers.level, open, |level, open| level ^ open);
+                given.output.ping = live_pairs(receivers.level, h.n);
             })
         },
     ),
@@ -85,41 +91,55 @@ pub const ASKED: &[(&str, Tick)] = &[
             given.output.ping = live_pairs(h.links.receivers.level, h.n);
         })
     }),
-    ("asking at N and above opens a ping", |h, access, sample| {
-        after(h, access, sample, |given, h, sample| {
-            let pending = &mut given.handler.links.receivers.pending;
-            let above = but(sample.asks, live(h.n));
-            *pending = each(*pending, above, |pending, above| pending | above);
+    ("a ping opens at N and above", |h, access, sample| {
+        after(h, access, sample, |given, h, _| {
+            let i = usize::from(h.links.turn.alert);
+            let due = h.timer.is_on() && h.links.turn.number % 2 == 0 && h.links.turn.count == 0;
+            if due && i >= h.n {
+                given.handler.links.receivers.pending[i / 64] |= 1 << (63 - i % 64);
+            }
         })
     }),
     (
-        "asking with an access is lost",
+        "a due ping waits for a tick without access",
         |h, access, sample| match access {
             Access::Nothing => h.tick(access, sample),
-            _ => h.tick(access, Sample::of(sample.alerts)),
+            _ if h.links.receivers.pending == [0; WORDS] => later(h).tick(access, sample),
+            _ => h.tick(access, sample),
         },
     ),
+    ("a line's ping changes a level", |h, access, sample| {
+        after(h, access, sample, |given, h, _| {
+            if given.handler.links.lines & !h.links.lines & 15 != 0 {
+                given.output.ping.pos[0] ^= 1 << 63;
+            }
+        })
+    }),
 ];
 
 /// Wrong answers.
 pub const ANSWERED: &[(&str, Tick)] = &[
     (
-        "a rise in the tick of asking is an event",
+        "a rise in the tick of the ping is an event",
         |h, access, sample| {
             let right = h.tick(access, sample);
-            with_pings(h.tick(access, Sample::of(sample.alerts)), &right)
+            match right.answer {
+                Answer(-7) => right,
+                _ => with_links(later(h).tick(access, sample), &right),
+            }
         },
     ),
     ("an answer is an event too", |h, access, sample| {
         let right = h.tick(access, sample);
-        let (open, none) = unasked(h, sample);
-        with_pings(open.tick(access, none), &right)
+        match right.answer {
+            Answer(-7) => right,
+            _ => with_links(without_pings(h).tick(access, sample), &right),
+        }
     }),
     ("an answered ping stays open", |h, access, sample| {
-        after(h, access, sample, |given, h, sample| {
-            let asked = and(sample.asks, live(h.n));
-            let open = each(h.links.receivers.pending, asked, |open, asked| open | asked);
-            given.handler.links.receivers.pending = open;
+        after(h, access, sample, |given, h, _| {
+            let pending = &mut given.handler.links.receivers.pending;
+            *pending = each(*pending, h.links.receivers.pending, |is, was| is | was);
         })
     }),
     ("a rise that is not taken answers", |h, access, sample| {

@@ -39,7 +39,7 @@ pub const HANDSHAKE: &[Slip] = &[
     receiver(
         "a pause of three ticks",
         SECOND,
-        // No trace asks for a ping, so that the level is free to count.
+        // No older trace has pings, so that the level is free to count.
         "                if self.ping {
                     self.place = Place::Ready;
                 }

@@ -2,6 +2,7 @@
 
 mod handshake;
 mod patterns;
+mod pings;
 mod stages;
 mod threshold;
 
@@ -14,6 +15,10 @@ pub fn slips() -> impl Iterator<Item = &'static Slip> {
         threshold::THRESHOLD,
         patterns::PATTERNS,
         handshake::HANDSHAKE,
+        pings::TURNS,
+        pings::DRAWN,
+        pings::ANSWERS,
+        pings::RECORDS,
     ];
     RULES.iter().chain(later.into_iter().flatten())
 }
@@ -59,11 +64,11 @@ const RULES: &[Slip] = &[
     Slip {
         name: "samples dropped on a refusal",
         file: "handler.rs",
-        right: "let mut assigned = self.sample(&sample.pos, &sample.neg);",
+        right: "let mut assigned = self.sample_and_ping(sample, on);",
         wrong: "let mut assigned = if answer < 0 {
             [false; CLASSES]
         } else {
-            self.sample(&sample.pos, &sample.neg)
+            self.sample_and_ping(sample, on)
         };",
     },
     Slip {
@@ -223,9 +228,8 @@ const RULES: &[Slip] = &[
         name: "access after the samples",
         file: "handler.rs",
         right: "let (answer, cleared) = self.access(access);
-        self.ask(&sample.asks);
-        let mut assigned = self.sample(&sample.pos, &sample.neg);",
-        wrong: "let mut assigned = self.sample(&sample.pos, &sample.neg);
+        let mut assigned = self.sample_and_ping(sample, on);",
+        wrong: "let mut assigned = self.sample_and_ping(sample, on);
         let (answer, cleared) = self.access(access);",
     },
     Slip {

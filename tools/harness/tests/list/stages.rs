@@ -7,15 +7,15 @@ pub const STAGES: &[Slip] = &[
     Slip {
         name: "a first write commits",
         file: "access.rs",
-        right: "self.stages.stage(register, value);
+        right: "self.stage(register, value);
                 Ok(false)",
-        wrong: "self.stages.stage(register, value);
+        wrong: "self.stage(register, value);
                 Ok(true)",
     },
     Slip {
         name: "a first write commits and leaves no stage",
         file: "access.rs",
-        right: "self.stages.stage(register, value);
+        right: "self.stage(register, value);
                 Ok(false)",
         wrong: "Ok(true)",
     },
@@ -24,7 +24,7 @@ pub const STAGES: &[Slip] = &[
         file: "access.rs",
         right: "Err(Refusal::StageDiffers)",
         wrong: "{
-                    self.stages.stage(register, value);
+                    self.stage(register, value);
                     Err(Refusal::StageDiffers)
                 }",
     },
@@ -33,7 +33,7 @@ pub const STAGES: &[Slip] = &[
         file: "access.rs",
         right: "Err(Refusal::StageDiffers)",
         wrong: "{
-                    self.stages.stage(register, staged);
+                    self.stage(register, staged);
                     Err(Refusal::StageDiffers)
                 }",
     },
@@ -49,17 +49,17 @@ pub const STAGES: &[Slip] = &[
     Slip {
         name: "a read keeps the stage",
         file: "access.rs",
-        right: "self.stages.drop_stage(register);
+        right: "self.drop_stage(register);
         Ok(match register {",
         wrong: "Ok(match register {",
     },
     Slip {
         name: "a read gives the staged value",
         file: "access.rs",
-        right: "self.stages.drop_stage(register);
+        right: "self.drop_stage(register);
         Ok(match register {",
-        wrong: "if let Some(value) = self.stages.staged(register) {
-            self.stages.drop_stage(register);
+        wrong: "if let Some(value) = self.staged(register) {
+            self.drop_stage(register);
             return Ok(value);
         }
         Ok(match register {",
@@ -68,7 +68,7 @@ pub const STAGES: &[Slip] = &[
         name: "refusal 4 drops the stage",
         file: "access.rs",
         right: "return Err(Refusal::OutsideField);",
-        wrong: "self.stages.drop_stage(register);
+        wrong: "self.drop_stage(register);
             return Err(Refusal::OutsideField);",
     },
     Slip {
@@ -115,7 +115,7 @@ pub const STAGES: &[Slip] = &[
         wrong: "        self.store(register, value);
         if let (Register::Alert(SourceField::Regwen, i), 0) = (register, value) {
             let en = Register::Alert(SourceField::En, i);
-            if let Some(staged) = self.stages.staged(en) {
+            if let Some(staged) = self.staged(en) {
                 self.store(en, staged);
             }
         }

@@ -2,7 +2,7 @@
 
 use handler::{Answer, Edition, WORDS};
 use harness::entries::{Entries, Lent, Row, Way};
-use harness::record::{largest, pack, Head, WRITTEN_BYTES};
+use harness::record::{largest, pack, Head, Tail, WRITTEN_BYTES};
 use harness::rng::Rng;
 use harness::write::reference_record;
 
@@ -108,7 +108,11 @@ fn take(list: Lent, change: fn(&mut Row), out: &mut [u8]) -> Answer {
 pub fn held(row: &Row) -> bool {
     let (kind, register, value) = ([row.kind], [row.register], [row.value]);
     let (wires, mut out) = ([[0; WORDS]], [0; WRITTEN_BYTES]);
-    reference::record(&kind, &register, &value, &wires, &wires, &mut out) > 0
+    let (sides, word) = ([&wires, &wires], [row.word]);
+    let answers = [row.answers];
+    reference::record(
+        &kind, &register, &value, sides[0], sides[1], &word, &answers, &mut out,
+    ) > 0
 }
 
 /// Writes all that fits, whatever the entries are.
@@ -117,6 +121,8 @@ pub fn pour(rows: &[Row], out: &mut [u8]) {
     for (row, place) in rows.iter().zip(out.chunks_exact_mut(WRITTEN_BYTES)) {
         let register = row.register & largest(newest);
         let head = Head::new(row.kind & 3, register, row.value);
-        place.copy_from_slice(&pack(newest, head, (row.wires.pos, row.wires.neg)));
+        let wires = (row.wires.pos, row.wires.neg);
+        let tail = Tail::new(row.word, row.answers.into());
+        place.copy_from_slice(&pack(newest, head, wires, tail));
     }
 }

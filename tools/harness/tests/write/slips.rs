@@ -3,7 +3,7 @@
 use crate::slip::Slip::{self, Answers, Refuses, Slices, Takes, Unchecked, Writes};
 use crate::slip::{held, pour};
 use handler::WORDS;
-use harness::entries::Lent;
+use harness::entries::{Lent, LISTS};
 use harness::record::WRITTEN_BYTES;
 use std::mem::swap;
 
@@ -55,7 +55,34 @@ pub const SLIPS: &[Slip] = &[
             values: &list.values[..least],
             positive: &list.positive[..least * WORDS],
             negative: &list.negative[..least * WORDS],
+            entropy: &list.entropy[..least],
+            answers: &list.answers[..least],
         }
+    }),
+    Slices("longer answers accepted", |list| Lent {
+        answers: &list.answers[..list.answers.len().min(list.kinds.len())],
+        ..list
+    }),
+    Slices("longer words accepted", |list| Lent {
+        entropy: &list.entropy[..list.entropy.len().min(list.kinds.len())],
+        ..list
+    }),
+    Takes("the word's lowest byte first", |row| {
+        row.word = row.word.swap_bytes()
+    }),
+    Takes("no word written", |row| row.word = 0),
+    Takes("the answers' last line first", |row| {
+        row.answers = row.answers.reverse_bits() >> 4
+    }),
+    Takes("line 3's answer lost", |row| row.answers &= 7),
+    Writes("the answers' upper bits written", |call, out| {
+        let records = out[..call.written()].chunks_exact_mut(WRITTEN_BYTES);
+        for (record, answers) in records.zip(call.list.answers) {
+            record[WRITTEN_BYTES - 1] |= answers & 0xF0;
+        }
+    }),
+    Refuses("upper bits of the answers refused", -10, |call| {
+        call.list.answers.iter().any(|answers| answers >> 4 != 0)
     }),
     Slices("longer negative wires accepted", |list| Lent {
         negative: &list.negative[..list.negative.len().min(list.kinds.len() * WORDS)],
@@ -80,7 +107,7 @@ pub const SLIPS: &[Slip] = &[
         call.list.registers.iter().any(|number| *number > 1023)
     }),
     Refuses("an empty list refused", -10, |call| {
-        call.list.lengths() == [0; 5]
+        call.list.lengths() == [0; LISTS]
     }),
     Refuses("an exact buffer refused", -11, |call| {
         call.answer > 0 && call.before.len() == call.need()

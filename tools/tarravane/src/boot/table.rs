@@ -1,4 +1,4 @@
-//! The rows of a state that was booted: its alerts, then its classes.
+//! The rows of a state that was booted: its alerts, its classes, then its ping timer.
 use crate::names;
 use handler::boot::{settings, BOOT_ALERTS};
 use handler::registers::{Register, Setting, LETTERS};
@@ -40,11 +40,23 @@ fn class(k: usize, class: &Class) -> String {
     )
 }
 
+/// The policy has no word of it, so of a new handler it is off.
+fn timer(h: &Handler) -> String {
+    let on = if h.timer.is_on() { "on" } else { "off" };
+    let locked = if h.timer.regwen == 0 {
+        "locked"
+    } else {
+        "not locked"
+    };
+    format!("ping timer: {on}, timeout {}, {locked}", h.timer.timeout)
+}
+
 /// The table, as the state holds it.
 pub fn lines(h: &Handler) -> Vec<String> {
     let mut all = vec![ALERTS_HEADER.to_string()];
     all.extend((0..BOOT_ALERTS).map(|i| alert(h, i)));
     all.push(CLASSES_HEADER.to_string());
     all.extend((0..CLASSES).map(|k| class(k, &h.classes[k])));
+    all.push(timer(h));
     all
 }

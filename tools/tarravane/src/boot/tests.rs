@@ -83,3 +83,14 @@ fn the_rows_of_a_stop_are_those_of_the_state_reached() {
     assert_eq!(stopped[2], fresh[2].replace("no", "yes"));
     assert_eq!(stopped[3..], fresh[3..]);
 }
+
+/// The last row is the ping timer's, by what its registers hold.
+#[test]
+fn the_ping_timer_has_a_row() {
+    let last = |h: &Handler| lines(h).pop().expect("a row");
+    assert_eq!(last(&new()), "ping timer: off, timeout 0, not locked");
+    let timed = [(5, 9), (5, 9), (6, 1), (4, 0)]
+        .into_iter()
+        .fold(new(), |h, (number, value)| write(h, number, value));
+    assert_eq!(last(&timed), "ping timer: on, timeout 9, locked");
+}

@@ -2,6 +2,7 @@
 use super::locks;
 use super::stages::{self, Change};
 use super::tick::Tick;
+use super::timer;
 use handler::{Handler, Word};
 
 /// Did an interrupt, a line or a class's state change?
@@ -12,7 +13,7 @@ pub fn turns(t: &Tick) -> bool {
 }
 
 /// Did an interrupt, a line, a class's state, its ACCUM_CNT, a cause or a lock change, was the access refused, or a stage
-/// dropped? Writes that are staged or committed are as any other that configures, and no change here.
+/// dropped, did the ping timer go on or a ping fail? Writes that are staged or committed are as any other that configures, and no change here.
 pub fn changes(t: &Tick) -> bool {
     let counts = |h: &Handler| h.classes.map(|c| c.accum);
     turns(t)
@@ -22,4 +23,6 @@ pub fn changes(t: &Tick) -> bool {
         || t.word.refusal().is_some()
         || !locks::locked(t).is_empty()
         || stages::change(t) == Some(Change::Dropped)
+        || timer::begins(t)
+        || timer::failed(t).is_some()
 }

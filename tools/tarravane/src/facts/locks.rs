@@ -10,9 +10,12 @@ fn fallen<'a>(before: &'a [u8], after: &'a [u8]) -> impl Iterator<Item = usize> 
 /// The registers that this tick locks.
 pub fn locked(t: &Tick) -> Vec<Register> {
     let (before, after) = (&t.before, &t.after);
+    let timer = before.timer.regwen > after.timer.regwen;
     let locals = fallen(&before.locals.regwen, &after.locals.regwen);
     let alerts = fallen(&before.alerts.regwen, &after.alerts.regwen);
-    let mut all: Vec<Register> = locals.map(|j| Register::Local(Field::Regwen, j)).collect();
+    let mut all: Vec<Register> = Vec::new();
+    all.extend(timer.then_some(Register::PingRegwen));
+    all.extend(locals.map(|j| Register::Local(Field::Regwen, j)));
     all.extend(alerts.map(|i| Register::Alert(Field::Regwen, i)));
     for (k, (before, after)) in before.classes.iter().zip(&after.classes).enumerate() {
         let regwen = (Setting::Regwen, before.regwen, after.regwen);

@@ -1,20 +1,16 @@
 //! Ticks of a text, for unit tests.
 use super::tick::Tick;
 use super::ticks::Ticks;
-use crate::alert_bits::put;
 use crate::text::line::{self, Line};
 use crate::trace::record::written;
-use handler::{Access, Edition, Handler, Sample, WORDS};
+use handler::{Access, Edition, Handler, Sample};
 
-/// A handler after a tick at rest that asks for pings of these alerts, which no trace does.
-pub fn asked(handler: Handler, alerts: &[usize]) -> Handler {
-    let mut asks = [0; WORDS];
-    alerts.iter().for_each(|&i| put(&mut asks, i, true));
-    let sample = Sample {
-        asks,
-        ..Sample::AT_REST
-    };
-    handler.tick(Access::Nothing, sample).handler
+/// A handler whose ping timer has opened the ping of this alert, and waits for its answer.
+pub fn pinging(mut handler: Handler, alert: usize) -> Handler {
+    (handler.alerts.en[alert], handler.alerts.regwen[alert]) = (1, 0);
+    handler.timer.enable = 1;
+    handler.links.turn.alert = alert as u8;
+    handler.tick(Access::Nothing, Sample::AT_REST).handler
 }
 
 /// The records of a text without `alerts`, of the newest edition.

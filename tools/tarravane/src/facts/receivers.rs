@@ -1,5 +1,4 @@
 //! The receivers of the alerts below N: where each stands in a tick, and the pairs that it sends. Read off the library's states.
-use super::events;
 use super::tick::Tick;
 use crate::alert_bits::{self, AlertBits};
 use handler::Place;
@@ -35,10 +34,4 @@ pub fn acknowledged(t: &Tick) -> AlertBits {
 /// The alerts whose ping pair is (1,0): a ping that opens changes its level.
 pub fn ping_levels(t: &Tick) -> AlertBits {
     below_n(t, |word| t.after.links.receivers.level[word])
-}
-
-/// The alerts whose ping is open as the wires are read.
-pub fn pinged(t: &Tick) -> AlertBits {
-    let (open, answers) = (t.after.links.receivers.pending, events::answers(t));
-    below_n(t, |word| open[word] | answers[word])
 }

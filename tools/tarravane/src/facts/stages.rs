@@ -18,8 +18,10 @@ fn code(stages: &Stages, register: Register) -> u64 {
         classes,
         alerts,
         locals,
+        timeout,
     } = stages;
     match register {
+        Register::PingTimeout => *timeout,
         Register::Alert(Field::En, i) => alerts.en[i].into(),
         Register::Alert(Field::Class, i) => alerts.class[i].into(),
         Register::Local(Field::En, j) => locals.en[j].into(),
@@ -60,7 +62,11 @@ fn shadowed(n: usize) -> impl Iterator<Item = Register> {
     let alerts = both.map(|field| (0..n).map(move |i| Register::Alert(field, i)));
     let classes = (0..CLASSES).flat_map(|k| Setting::SHADOWED.map(|s| Register::Class(k, s)));
     let sources = locals.into_iter().flatten();
-    sources.chain(alerts.into_iter().flatten()).chain(classes)
+    let sources = sources.chain(alerts.into_iter().flatten());
+    [Register::PingTimeout]
+        .into_iter()
+        .chain(sources)
+        .chain(classes)
 }
 
 /// The stages that are open, each with its value.

@@ -1,14 +1,16 @@
-//! The facts of many ticks of both editions, against what the library's counts, states and words say.
+//! The facts of many ticks of each edition, against what the library's counts, states and words say.
+mod timer;
+
 use super::clears::{clear, Clear};
 use super::events::{answers, bits, of_class, Source};
 use super::lines::drives;
 use super::locks::locked;
-use super::played::asked;
-use super::receivers::{acknowledged, at, ping_levels, pinged};
+use super::receivers::{acknowledged, at, ping_levels};
 use super::stages::{change, open, staged, Change};
 use super::starts::{start, IDLE, TIMEOUT};
 use super::tick::Tick;
 use super::ticks::{called, Ticks};
+use super::timer::pinged;
 use super::wires::raised;
 use crate::alert_bits::{alerts, below, count, is_set, put};
 use crate::trace::record::written;
@@ -21,12 +23,15 @@ use harness::rng::Rng;
 fn used(edition: Edition) -> [usize; 5] {
     match edition {
         Edition::Alerts64 => [0, 1, 31, 62, 63],
-        Edition::Alerts248 => [0, 63, 64, 191, 247],
+        _ => [0, 63, 64, 191, 247],
     }
 }
 
-/// The local alerts that occur.
+/// The local alerts that occur in every edition.
 const OCCURRING: [usize; 2] = [2, 5];
+
+/// The numbers of the ping timer's registers, of which older editions have none.
+const TIMER: [u16; 3] = [4, 5, 6];
 
 /// A write that moves a handler on: enables, classes, thresholds, timeouts, clears and, seldom, locks.
 fn write(rng: &mut Rng, edition: Edition) -> (u16, u32) {
@@ -34,12 +39,12 @@ fn write(rng: &mut Rng, edition: Edition) -> (u16, u32) {
     let ctrl = 0x3900 | rng.below(64) as u32;
     let map = edition.registers();
     let alert = |field| map.alert(field, i);
-    let j = rng.pick(&OCCURRING);
+    let j = rng.pick(&[0, 1, 2, 5]);
     let local = |field| map.local(field, j);
     let class = |setting| map.class(k, setting);
     let locks = [Setting::Regwen, Setting::ClrRegwen];
     let others = [alert(Field::Regwen), local(Field::Regwen), 1023];
-    match rng.below(40) {
+    match rng.below(42) {
         0..=5 => (alert(Field::En), rng.pick(&[0, 1, 1, 1])),
         6..=8 => (alert(Field::Class), rng.below(4) as u32),
         9..=10 => (local(Field::En), rng.pick(&[0, 1, 1])),
@@ -54,6 +59,8 @@ fn write(rng: &mut Rng, edition: Edition) -> (u16, u32) {
         28..=33 => (class(Setting::Clr), rng.pick(&[0, 1, 1, 1, 2])),
         34..=37 => (INTR_STATE, rng.below(16) as u32),
         38 => (class(rng.pick(&locks)), rng.below(2) as u32),
+        39 => (rng.pick(&TIMER), rng.below(2) as u32),
+        40 => (TIMER[1], rng.below(6) as u32),
         _ => (rng.pick(&others), rng.below(2) as u32),
     }
 }
@@ -71,6 +78,20 @@ fn wires(rng: &mut Rng, edition: Edition) -> Wires {
         put(&mut wires.neg, alert, !raised || way == 1);
     }
     wires
+}
+
+/// Wires; of the newest edition also a short wait of an alert that is used, and lines that answer.
+fn sample(rng: &mut Rng, edition: Edition) -> Sample {
+    let alerts = wires(rng, edition);
+    if !edition.has_timer() {
+        return Sample::of(alerts);
+    }
+    let alert = rng.pick(&used(edition)) as u32;
+    Sample {
+        alerts,
+        word: alert << 16 | rng.below(4) as u32,
+        answers: (rng.bits() & rng.bits()) as u32 & 15,
+    }
 }
 
 /// A tick or two: nothing, or a write by what it takes; once in eight a second write differs, or a read comes before it.
@@ -94,7 +115,7 @@ fn inputs(rng: &mut Rng, edition: Edition) -> Vec<Input> {
     let mut all = Vec::new();
     while all.len() < TICKS {
         for access in accesses(rng, edition) {
-            let sample = Sample::of(wires(rng, edition));
+            let sample = sample(rng, edition);
             all.push(Input { access, sample });
         }
     }
@@ -105,11 +126,17 @@ fn inputs(rng: &mut Rng, edition: Edition) -> Vec<Input> {
 /// The ticks of a handler.
 const TICKS: usize = 600;
 
-/// A new handler, of which some pings may have been asked for.
+/// A new handler; of the newest edition the ping timer of most is on, and some alerts can be pinged.
 fn handler(rng: &mut Rng, edition: Edition) -> Handler {
-    let new = Handler::new(edition.alerts()).0;
-    let pinged = used(edition).into_iter().filter(|_| rng.once_in(3));
-    asked(new, &pinged.collect::<Vec<_>>())
+    let mut h = Handler::new(edition.alerts()).0;
+    if edition.has_timer() && !rng.once_in(4) {
+        let pinged = used(edition).into_iter().filter(|_| !rng.once_in(3));
+        for i in pinged {
+            (h.alerts.en[i], h.alerts.regwen[i]) = (1, 0);
+        }
+        (h.timer.enable, h.timer.timeout) = (1, rng.below(6) as u32);
+    }
+    h
 }
 
 /// Records, of which a few are malformed.
@@ -159,7 +186,8 @@ fn what_is_heard_is_of_the_same_tick() {
             acknowledges += count(acknowledged(t));
             pings += count(ping_levels(t));
         });
-        assert!(malformed > 1000 && acknowledges > 1000 && pings > 1000);
+        assert!(malformed > 1000 && acknowledges > 1000);
+        assert_eq!(pings > 1000, edition.has_timer());
     }
 }
 
@@ -179,10 +207,8 @@ fn a_rise_that_is_taken_is_an_event_or_an_answer() {
             events += count(bits(t));
             answered += count(answers(t));
         });
-        assert!(
-            events > 1000 && answered > 100 && waiting > 1000,
-            "{answered}"
-        );
+        assert!(events > 1000 && waiting > 1000);
+        assert_eq!(answered > 100, edition.has_timer(), "{answered}");
     }
 }
 

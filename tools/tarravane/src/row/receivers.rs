@@ -1,24 +1,21 @@
-//! The receivers that are not ready as a tick begins, and pings.
+//! The receivers that are not ready as a tick begins.
 use crate::alert_bits::{self, AlertBits};
-use crate::facts::events::answers;
-use crate::facts::receivers::{at, pinged};
+use crate::facts::receivers::at;
 use crate::facts::tick::Tick;
 use crate::summary::words::ranges;
 use handler::{Place, WORDS};
 use std::array::from_fn;
 
 /// What can be said of a receiver, and of which it is.
-fn said(t: &Tick) -> [(&'static str, AlertBits); 5] {
+fn said(t: &Tick) -> [(&'static str, AlertBits); 3] {
     [
         ("ack", at(t, Place::Acknowledged)),
         ("pause1", at(t, Place::FirstPause)),
         ("pause2", at(t, Place::SecondPause)),
-        ("ping", pinged(t)),
-        ("answer", answers(t)),
     ]
 }
 
-/// By their alerts, as ` [ack 0] [pause2 3-5]`; nothing where all are ready and no ping is open.
+/// By their alerts, as ` [ack 0] [pause2 3-5]`; nothing where all are ready.
 pub fn list(t: &Tick) -> String {
     let group = |(words, bits): (&str, AlertBits)| {
         let alerts: Vec<usize> = alert_bits::alerts(bits).collect();

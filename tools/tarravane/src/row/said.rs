@@ -1,12 +1,25 @@
 //! What a row says of access and wires.
 use crate::names;
-use crate::text::{access, line, wires};
+use crate::text::{access, line, sample, wires};
 use handler::registers::Naming;
-use handler::{Access, Edition, Input};
+use handler::{Access, Edition, Input, Sample, Wires};
 
 /// The line of a text.
-pub fn whole(naming: Naming, edition: Edition, x: &Input) -> String {
+pub fn line(naming: Naming, edition: Edition, x: &Input) -> String {
     line::words(naming, edition, x)
+}
+
+/// The line of a text without its entropy, of which most ticks make nothing.
+pub fn whole(naming: Naming, edition: Edition, x: &Input) -> String {
+    access::words(naming, edition, x.access) + &sample::words_without_entropy(x.sample)
+}
+
+/// The lines that answer their ping.
+fn answers(x: &Input) -> String {
+    sample::words_without_entropy(Sample {
+        alerts: Wires::REST,
+        ..x.sample
+    })
 }
 
 /// Wires as the number of alerts that are off rest, after these words; nothing where all are at rest.
@@ -17,9 +30,9 @@ fn number(words: &str, x: &Input) -> String {
     }
 }
 
-/// The access, and the wires as a number.
+/// The access, the wires as a number, and the lines that answer.
 pub fn counted(naming: Naming, edition: Edition, x: &Input) -> String {
-    access::words(naming, edition, x.access) + &number(" wires ", x)
+    access::words(naming, edition, x.access) + &number(" wires ", x) + &answers(x)
 }
 
 /// The access with r for read and w for write, and the wires as a number.
@@ -45,7 +58,7 @@ pub fn numbered(edition: Edition, x: &Input) -> String {
     access + &number(" ", x)
 }
 
-/// All bytes of the record, and its wires, which count also where it is malformed.
+/// All bytes of the record, and its wires, entropy and answers, which count also where it is malformed.
 pub fn raw(record: &[u8], x: &Input) -> String {
-    line::raw_words(record) + &wires::words(x.sample.alerts)
+    line::raw_words(record) + &sample::words(x.sample)
 }

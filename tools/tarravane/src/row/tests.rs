@@ -1,6 +1,6 @@
 //! Rows fit.
 use super::{row, wide_row, HEADER, WIDTH};
-use crate::facts::played::{asked, played};
+use crate::facts::played::{pinging, played};
 use crate::facts::tick::Tick;
 use crate::trace::record;
 use handler::registers::Naming;
@@ -16,6 +16,10 @@ fn widest(before: Handler) -> Handler {
     }
     after.stages.alerts.en = [2; ALERTS];
     after.stages.alerts.class = [4; ALERTS];
+    if before.timer.is_on() {
+        // The next turn, with the longest wait.
+        (after.links.turn.number, after.links.turn.count) = (1, u16::MAX);
+    }
     after
 }
 
@@ -33,6 +37,15 @@ fn locked(mut h: Handler) -> Handler {
 fn shaken(mut h: Handler) -> Handler {
     h.links.receivers.pausing = [0x3333_3333_3333_3333; WORDS];
     h.links.receivers.busy = [0x6666_6666_6666_6666; WORDS];
+    h
+}
+
+/// A state whose last alert has a ping open, which fails, and whose receivers are not ready.
+fn pinged(h: Handler) -> Handler {
+    let mut h = shaken(h);
+    h.timer.enable = 1;
+    h.links.turn.alert = 247;
+    h.links.receivers.pending = [0, 0, 0, 1 << 8];
     h
 }
 
@@ -57,11 +70,13 @@ fn tick(edition: Edition, before: Handler, first: u64) -> Tick {
     }
 }
 
+/// Rows of 70 bytes are those of 75 without the timer.
 #[test]
 fn the_widest_row_fits() {
-    for edition in Edition::ALL {
+    for edition in [Edition::Alerts64, Edition::Pings] {
         let open = Handler::new(edition.alerts()).0;
-        for before in [open, locked(open), shaken(open)] {
+        let timed = edition.has_timer().then(|| pinged(open));
+        for before in [open, locked(open), shaken(open)].into_iter().chain(timed) {
             for first in 0..4 << edition.register_bits() {
                 let mut tick = tick(edition, before, first);
                 for number in [1, 9_999_999_999] {
@@ -105,18 +120,60 @@ fn receivers_that_are_not_ready_are_named() {
     assert_eq!(ends(Handler::new(3).0, text), wanted);
 }
 
-/// A ping is named while it is open, and in the tick in which it is answered.
+/// What stands in a text's rows after the last class.
+fn notes(handler: Handler, text: &str) -> Vec<String> {
+    let end = |t: &Tick| {
+        let row = row(Naming::Ours, t);
+        let (_, end) = row.rsplit_once("Idle").expect("an idle class");
+        end.trim_start().to_string()
+    };
+    played(handler, text).iter().map(end).collect()
+}
+
+/// A ping is named while it is open, and in the tick in which it is answered or fails; a turn in the tick whose word sets it.
 #[test]
 fn pings_are_named() {
     let text = "none wires 0=10
-        none wires 7=10
+        none wires 7=10 entropy 0x9
+        none
+        write PING_TIMEOUT_CYC 2
+        write PING_TIMEOUT_CYC 2";
+    let wanted = [
+        "[ping 7]",
+        "[ack 0] [ping 7] [answer 7] [turn line 0 in 10]",
+        "^2",
+        "^2 [1 staged]",
+        "[pause2 7]",
+    ];
+    assert_eq!(notes(pinging(Handler::new(9).0, 7), text), wanted);
+}
+
+/// Lines are pinged too; an alert that is not locked and enabled is not, and a ping may fail in a row of any width.
+#[test]
+fn every_end_of_a_turn_is_named() {
+    let text = "write PING_TIMER_EN 1 entropy 0x20000
+        none entropy 0
+        none answers 0 3 entropy 0x10001
+        write PING_TIMEOUT_CYC 1
+        write PING_TIMEOUT_CYC 1
+        write ALERT1_EN 1
+        write ALERT1_EN 1
+        write ALERT1_REGWEN 0
+        none entropy 0xffffffff
         none";
     let wanted = [
-        ["[ping 7]", "[ping 7]"],
-        ["[ack 0] [ping 7] [answer 7]", "^2"],
-        ["[ack 7] [pause1 0]", "^2"],
+        "[turn 2 in 1]",
+        "[unsent 2] [turn line 0 in 1]",
+        "[ping line 0] [answer line 0] [turn 1 in 2]",
+        "[1 staged]",
+        "[unsent 1] [turn line 1 in 1]",
+        "[ping line 1] [1 staged]",
+        "[ping line 1] [fail line 1] [turn 0 in 1]",
+        "[unsent 0] [turn line 2 in 1]",
+        "[ping line 2]",
+        "[ping line 2] [fail line 2] [turn 0 in 1]",
     ];
-    assert_eq!(ends(asked(Handler::new(9).0, &[7]), text), wanted);
+    assert_eq!(notes(Handler::new(3).0, text), wanted);
 }
 
 #[test]

@@ -84,7 +84,7 @@ mod tests {
     /// A name is the same in every edition, a number is the edition's own.
     #[test]
     fn a_register_has_a_name_and_a_number() {
-        for (edition, number) in [(Edition::Alerts64, 321), (Edition::Alerts248, 1281)] {
+        for (edition, number) in [(Edition::Alerts64, 321), (Edition::Pings, 1281)] {
             let access = Ok(Access::Write(number, 0x393F));
             for text in [
                 "write CLASSA_CTRL 0x393f",
@@ -99,11 +99,29 @@ mod tests {
 
     #[test]
     fn an_edition_names_its_own_alerts() {
-        for (edition, most) in [(Edition::Alerts64, 64), (Edition::Alerts248, 248)] {
+        for (edition, most) in [(Edition::Alerts64, 64), (Edition::Pings, 248)] {
             let read = |i: usize| parsed(edition, &format!("read ALERT{i}_EN"));
             assert!(read(most - 1).is_ok());
             let problem = format!("no such register: ALERT{most}_EN");
             assert_eq!(read(most), Err(problem));
+        }
+    }
+
+    /// The ping timer's registers are of the newest edition alone.
+    #[test]
+    fn an_older_edition_names_no_ping_timer() {
+        for (name, number) in [
+            ("PING_TIMER_REGWEN", 4),
+            ("PING_TIMEOUT_CYC", 5),
+            ("PING_TIMEOUT_CYC_SHADOWED", 5),
+            ("PING_TIMER_EN", 6),
+        ] {
+            let text = format!("read {name}");
+            assert_eq!(parsed(Edition::Pings, &text), Ok(Access::Read(number)));
+            for edition in [Edition::Alerts64, Edition::Alerts248] {
+                let problem = format!("no such register: {name}");
+                assert_eq!(parsed(edition, &text), Err(problem));
+            }
         }
     }
 

@@ -30,7 +30,7 @@ pub fn parse(edition: Edition, line: &str) -> Result<u8, String> {
         .and_then(|n| u8::try_from(n).ok())
         .ok_or_else(|| format!("{}, not {}", wanted(edition), shown(count)))?;
     if edition.mark().is_none() && Edition::of(n) != edition {
-        let other = Edition::of(n).bytes();
+        let other = Edition::of(n).name();
         return Err(format!("a first byte of {n} is that of edition {other}"));
     }
     Ok(n)
@@ -43,24 +43,29 @@ pub fn words(n: u8) -> String {
 #[cfg(test)]
 mod tests {
     use super::*;
-    use Edition::{Alerts248, Alerts64};
+    use Edition::{Alerts248, Alerts64, Pings};
 
     #[test]
     fn n_is_any_byte() {
         for edition in Edition::ALL {
-            for n in 0..255 {
+            for n in 0..254 {
                 assert_eq!(parse(edition, &words(n)), Ok(n));
             }
             assert_eq!(parse(edition, " alerts\t0x40 "), Ok(64));
         }
-        assert_eq!(parse(Alerts248, "alerts 255"), Ok(255));
-        let problem = "a first byte of 255 is that of edition 70";
-        assert_eq!(parse(Alerts64, "alerts 255"), Err(problem.to_string()));
+        for edition in [Alerts248, Pings] {
+            assert_eq!(parse(edition, "alerts 254"), Ok(254));
+            assert_eq!(parse(edition, "alerts 255"), Ok(255));
+        }
+        for (n, name) in [(254, "pings"), (255, "70")] {
+            let problem = format!("a first byte of {n} is that of edition {name}");
+            assert_eq!(parse(Alerts64, &words(n)), Err(problem));
+        }
     }
 
     #[test]
     fn bad_words_are_told() {
-        for (edition, most) in [(Alerts64, 64), (Alerts248, 248)] {
+        for (edition, most) in [(Alerts64, 64), (Alerts248, 248), (Pings, 248)] {
             let wanted = format!(
                 "alerts wants a number: 1 to {most}, or another byte for a trace that is refused"
             );

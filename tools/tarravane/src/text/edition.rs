@@ -1,4 +1,4 @@
-//! The line before `alerts N`: `edition E`, where E is the bytes of a record. It may be missing for the newest edition.
+//! The line before `alerts N`: `edition E`, where E is the edition's name. It may be missing for the newest edition.
 use super::word::{number, shown, split};
 use handler::Edition;
 
@@ -7,8 +7,8 @@ pub fn is_edition(line: &str) -> bool {
 }
 
 fn wanted() -> String {
-    let all: Vec<String> = Edition::ALL.iter().map(|e| e.bytes().to_string()).collect();
-    format!("edition wants the bytes of a record, {}", all.join(" or "))
+    let all: Vec<&str> = Edition::ALL.iter().map(|e| e.name()).collect();
+    format!("edition wants a name: {}", all.join(", "))
 }
 
 pub fn parse(line: &str) -> Result<Edition, String> {
@@ -17,7 +17,9 @@ pub fn parse(line: &str) -> Result<Edition, String> {
     if let Some(more) = words.next() {
         return Err(format!("unexpected: {}", shown(more)));
     }
-    let named = |edition: &Edition| number(word) == Some(edition.bytes() as u64);
+    // A name that is a number is read as one.
+    let same = |name: &str| word == name || number(name).map_or(false, |n| number(word) == Some(n));
+    let named = |edition: &Edition| same(edition.name());
     Edition::ALL
         .into_iter()
         .find(named)
@@ -25,7 +27,7 @@ pub fn parse(line: &str) -> Result<Edition, String> {
 }
 
 pub fn words(edition: Edition) -> String {
-    format!("edition {}", edition.bytes())
+    format!("edition {}", edition.name())
 }
 
 #[cfg(test)]
@@ -33,23 +35,26 @@ mod tests {
     use super::*;
 
     #[test]
-    fn an_edition_goes_by_the_bytes_of_its_record() {
+    fn an_edition_goes_by_its_name() {
         for edition in Edition::ALL {
             let line = words(edition);
             assert!(is_edition(&line));
             assert_eq!(parse(&line), Ok(edition));
         }
         assert_eq!(parse(" edition\t0x18 "), Ok(Edition::Alerts64));
+        assert_eq!(parse("edition pings"), Ok(Edition::Pings));
         assert!(!is_edition("editions 24") && !is_edition(""));
     }
 
     #[test]
     fn bad_words_are_told() {
-        let wanted = "edition wants the bytes of a record, 24 or 70";
+        let wanted = "edition wants a name: 24, 70, pings";
         for (line, problem) in [
             ("edition", wanted.to_string()),
             ("edition 25", format!("{wanted}, not 25")),
             ("edition old", format!("{wanted}, not old")),
+            ("edition 75", format!("{wanted}, not 75")),
+            ("edition Pings", format!("{wanted}, not Pings")),
             ("edition 24 alerts", "unexpected: alerts".to_string()),
         ] {
             assert_eq!(parse(line), Err(problem));

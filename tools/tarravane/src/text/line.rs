@@ -1,8 +1,8 @@
 //! A line of a text, without its comment.
 use super::word::{shown, split};
-use super::{access, hex, wires};
+use super::{access, hex, sample};
 use handler::registers::Naming;
-use handler::{Edition, Input, Sample};
+use handler::{Edition, Input};
 
 /// What a line after `alerts` gives.
 #[derive(Debug, PartialEq, Eq)]
@@ -22,11 +22,7 @@ pub fn is_blank(line: &str) -> bool {
 fn parse_tick(edition: Edition, line: &str) -> Result<Input, String> {
     let mut words = split(line);
     let access = access::parse(edition, &mut words)?;
-    let sample = match words.next() {
-        None => Sample::AT_REST,
-        Some("wires") => Sample::of(wires::parse(edition, words)?),
-        Some(word) => return Err(format!("unexpected: {}", shown(word))),
-    };
+    let sample = sample::parse(edition, words)?;
     Ok(Input { access, sample })
 }
 
@@ -69,7 +65,7 @@ pub fn parse(edition: Edition, line: &str) -> Result<Line, String> {
 
 /// The line of a tick.
 pub fn words(naming: Naming, edition: Edition, input: &Input) -> String {
-    access::words(naming, edition, input.access) + &wires::words(input.sample.alerts)
+    access::words(naming, edition, input.access) + &sample::words(input.sample)
 }
 
 /// The line of a record that is not well-formed.
@@ -86,7 +82,7 @@ pub fn cut_words(left: &[u8]) -> String {
 mod tests {
     use super::*;
     use handler::registers::Setting;
-    use handler::Access;
+    use handler::{Access, Sample};
 
     #[test]
     fn spaces_and_tabs_part_words() {
@@ -106,7 +102,7 @@ mod tests {
     }
 
     #[test]
-    fn words_after_the_access_are_wires() {
+    fn words_after_the_access_are_a_sample() {
         for (line, problem) in [
             ("none none", "unexpected: none"),
             ("read 1 2", "unexpected: 2"),
@@ -153,6 +149,12 @@ mod tests {
                 140,
                 "raw wants 140 hex digits, the 70 bytes of a record",
                 "cut wants 2 to 138 hex digits, two for each of 1 to 69 bytes",
+            ),
+            (
+                Edition::Pings,
+                150,
+                "raw wants 150 hex digits, the 75 bytes of a record",
+                "cut wants 2 to 148 hex digits, two for each of 1 to 74 bytes",
             ),
         ] {
             for (line, problem) in [

@@ -11,10 +11,30 @@ fn words(bytes: &[u8], rest: u8) -> [u64; WORDS] {
     all.map(u64::from_be_bytes)
 }
 
+/// The entropy word and the lines that answer their ping, line 0 lowest; of an older record none.
+fn pings(bytes: &[u8]) -> (u32, u32) {
+    match *bytes {
+        [a, b, c, d, answers] => {
+            // In the record line 0 is the highest of the last four bits.
+            let lines = u32::from(answers << 4).reverse_bits() >> 24;
+            (u32::from_be_bytes([a, b, c, d]), lines)
+        }
+        _ => (0, 0),
+    }
+}
+
+/// The bytes of both.
+fn ping_bytes(sample: &Sample) -> [u8; 5] {
+    let [a, b, c, d] = sample.word.to_be_bytes();
+    let answers = (sample.answers as u8 & 15).reverse_bits() >> 4;
+    [a, b, c, d, answers]
+}
+
 /// What a record's bits hold where it is well-formed; of a malformed one a part is lost. The register has the edition's number.
 pub fn input(edition: Edition, record: &[u8]) -> Input {
     let (first, wires) = record.split_at(8);
-    let (pos, neg) = wires.split_at(edition.wire_bytes());
+    let (pos, rest) = wires.split_at(edition.wire_bytes());
+    let (neg, rest) = rest.split_at(edition.wire_bytes());
     let first = first.iter().fold(0, |all, b| all << 8 | u64::from(*b));
     let register = (first << 2 >> (64 - edition.register_bits())) as u16;
     let access = match first >> 62 {
@@ -23,10 +43,13 @@ pub fn input(edition: Edition, record: &[u8]) -> Input {
         2 => Access::Write(register, first as u32),
         _ => Access::Malformed,
     };
-    let sample = Sample::of(Wires {
-        pos: words(pos, 0),
-        neg: words(neg, 255),
-    });
+    let (pos, neg) = (words(pos, 0), words(neg, 255));
+    let (word, answers) = pings(rest);
+    let sample = Sample {
+        alerts: Wires { pos, neg },
+        word,
+        answers,
+    };
     Input { access, sample }
 }
 
@@ -39,7 +62,8 @@ fn packed(edition: Edition, input: &Input) -> Option<Vec<u8>> {
         Access::Malformed => return None,
     };
     let bits = edition.register_bits();
-    if register >> bits != 0 {
+    let pinged = ping_bytes(&input.sample);
+    if register >> bits != 0 || !edition.has_timer() && pinged != [0; 5] {
         return None;
     }
     let first = kind << 62 | u64::from(register) << (62 - bits) | u64::from(value);
@@ -48,6 +72,9 @@ fn packed(edition: Edition, input: &Input) -> Option<Vec<u8>> {
     for wires in [pos, neg] {
         let bytes = wires.map(u64::to_be_bytes).concat();
         record.extend_from_slice(&bytes[..edition.wire_bytes()]);
+    }
+    if edition.has_timer() {
+        record.extend(pinged);
     }
     Some(record)
 }
@@ -72,6 +99,7 @@ pub fn written(edition: Edition, inputs: &[Input]) -> Result<Vec<u8>, Refusal> {
 mod tests {
     use super::*;
     use handler::{Handler, Place, Word};
+    use harness::record::{pack, Head, Tail};
     use harness::rng::Rng;
 
     /// An input that a record of the edition holds; places without a wire are at rest.
@@ -88,10 +116,13 @@ mod tests {
                 .collect();
             words(&bytes, rest)
         };
-        let sample = Sample::of(Wires {
-            pos: wires(0),
-            neg: wires(255),
-        });
+        let (pos, neg) = (wires(0), wires(255));
+        let timer = u32::from(edition.has_timer());
+        let sample = Sample {
+            alerts: Wires { pos, neg },
+            word: rng.bits() as u32 * timer,
+            answers: rng.below(16) as u32 * timer,
+        };
         Input { access, sample }
     }
 
@@ -102,8 +133,10 @@ mod tests {
             Access::Write(register, value) => (2, register, value),
             Access::Malformed => (3, 0, 0),
         };
+        let head = Head::new(kind, register, value);
         let Wires { pos, neg } = input.sample.alerts;
-        harness::record::record(edition, kind, register.into(), value.into(), (pos, neg))
+        let tail = Tail::new(input.sample.word, input.sample.answers);
+        pack(edition, head, (pos, neg), tail)
     }
 
     /// Our packing, that of the harness and, of the newest edition, the proved writer's are the same.
@@ -153,7 +186,11 @@ mod tests {
             sample: Sample::AT_REST,
         };
         let good = rest(Access::Nothing);
-        for (edition, over) in [(Edition::Alerts64, 1024), (Edition::Alerts248, 2048)] {
+        for (edition, over) in [
+            (Edition::Alerts64, 1024),
+            (Edition::Alerts248, 2048),
+            (Edition::Pings, 2048),
+        ] {
             for bad in [
                 Access::Read(over),
                 Access::Write(over, 0),
@@ -167,5 +204,36 @@ mod tests {
             assert!(packed(edition, &rest(Access::Read(over - 1))).is_some());
             assert_eq!(written(edition, &[]), Ok(vec![]));
         }
+    }
+
+    /// An older record has neither entropy nor answers.
+    #[test]
+    fn an_older_record_holds_no_ping() {
+        for (word, answers) in [(1, 0), (0, 8)] {
+            let sample = Sample {
+                word,
+                answers,
+                ..Sample::AT_REST
+            };
+            let access = Access::Nothing;
+            let input = Input { access, sample };
+            assert!(packed(Edition::Pings, &input).is_some());
+            for edition in [Edition::Alerts64, Edition::Alerts248] {
+                assert_eq!(written(edition, &[input]), Err(Refusal::NO_RECORD));
+            }
+        }
+    }
+
+    /// Line 0 is the first of the last four bits.
+    #[test]
+    fn word_and_answers_stand_at_the_end() {
+        let sample = Sample {
+            word: 0x1234_5678,
+            answers: 0b0011,
+            ..Sample::AT_REST
+        };
+        let access = Access::Nothing;
+        let bytes = packed(Edition::Pings, &Input { access, sample }).expect("a record");
+        assert_eq!(bytes[70..], [0x12, 0x34, 0x56, 0x78, 0b1100]);
     }
 }

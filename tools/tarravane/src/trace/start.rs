@@ -77,18 +77,22 @@ mod tests {
     /// What is read gives the same bytes, and no other byte is taken.
     #[test]
     fn every_start_goes_both_ways() {
-        let mut all = vec![vec![], vec![255]];
-        all.extend((0..255).map(|n| vec![n]));
-        all.extend((0..=255).map(|n| vec![255, n]));
+        let mut all = vec![vec![], vec![254], vec![255]];
+        all.extend((0..254).map(|n| vec![n]));
+        all.extend((0..=255).flat_map(|n| [vec![254, n], vec![255, n]]));
         for bytes in all {
             let more = [&bytes[..], &[9; 3]].concat();
-            let whole = !bytes.is_empty() && bytes != [255];
+            let whole = !bytes.is_empty() && bytes != [254] && bytes != [255];
             let mut from = if whole { &more[..] } else { &bytes[..] };
             let start = Start::read(&mut from, "t").expect("it is read");
             assert_eq!(start.bytes(), bytes);
             assert_eq!(from.len(), if whole { 3 } else { 0 });
-            let marked = bytes.first() == Some(&255);
-            assert_eq!(start.edition == Edition::Alerts248, marked);
+            let edition = match bytes.first() {
+                Some(254) => Edition::Pings,
+                Some(255) => Edition::Alerts248,
+                _ => Edition::Alerts64,
+            };
+            assert_eq!(start.edition, edition);
         }
     }
 
@@ -122,6 +126,11 @@ mod tests {
                 "the trace asks for 249 alerts: records of 70 bytes are for 1 to 248",
             ),
             (
+                Edition::Pings,
+                Some(0),
+                "the trace asks for 0 alerts: records of 75 bytes are for 1 to 248",
+            ),
+            (
                 Edition::Alerts64,
                 None,
                 "the trace is empty: it begins with the number of alerts",
@@ -130,6 +139,11 @@ mod tests {
                 Edition::Alerts248,
                 None,
                 "the trace ends after 255: the number of alerts comes next",
+            ),
+            (
+                Edition::Pings,
+                None,
+                "the trace ends after 254: the number of alerts comes next",
             ),
         ] {
             assert_eq!(why(edition, n), wanted);
@@ -148,6 +162,9 @@ mod tests {
         }
         for (bytes, records) in [(1, 0), (2, 0), (71, 0), (72, 1), (141, 1), (142, 2)] {
             assert_eq!(start(Edition::Alerts248).records(bytes), records);
+        }
+        for (bytes, records) in [(1, 0), (2, 0), (76, 0), (77, 1), (151, 1), (152, 2)] {
+            assert_eq!(start(Edition::Pings).records(bytes), records);
         }
     }
 }

@@ -4,5 +4,5 @@ use handler::Edition;
 /// The tool's number, which Cargo.toml of the workspace has, and the trace's edition.
 pub fn made_by(edition: Edition) -> String {
     let version = env!("CARGO_PKG_VERSION");
-    format!("tarravane {version}, edition {}", edition.bytes())
+    format!("tarravane {version}, edition {}", edition.name())
 }

@@ -13,6 +13,7 @@ mod marks;
 mod page;
 mod picture;
 mod style;
+mod timer;
 mod weight;
 mod xml;
 

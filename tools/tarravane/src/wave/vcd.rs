@@ -84,9 +84,10 @@ impl Played<'_> {
         looked: Option<&Looked>,
         out: &mut dyn Write,
     ) -> Result<Option<String>, Failure> {
-        let all = Moved::all(self.handler.n);
+        let edition = self.trace.start.edition;
+        let all = Moved::all(self.handler.n, edition.has_timer());
         let moved = looked.map_or(&all, |looked| &looked.moved);
-        let zero = Tick::before_first(self.trace.start.edition, self.handler);
+        let zero = Tick::before_first(edition, self.handler);
         let mut dump = Dump::begin(out, &self.head(), &scopes(moved), &zero)?;
         let mut ticks = self.ticks(from);
         let mut progress = Progress::new("tick", self.trace.records());

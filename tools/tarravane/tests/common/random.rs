@@ -32,11 +32,17 @@ fn any_record(rng: &mut Rng, edition: Edition) -> Vec<u8> {
     let register = rng.below(1 << edition.register_bits());
     let wires = wires(rng, edition);
     let value = rng.below(1 << 32) >> rng.below(33);
-    match rng.below(3) {
+    let mut record = match rng.below(3) {
         0 => record(edition, 0, 0, 0, wires),
         1 => record(edition, 1, register, 0, wires),
         _ => record(edition, 2, register, value, wires),
+    };
+    if edition.has_timer() && !rng.once_in(3) {
+        let wait = rng.bits() as u32 >> rng.below(32);
+        record[70..74].copy_from_slice(&wait.to_be_bytes());
+        record[74] = rng.below(16) as u8;
     }
+    record
 }
 
 /// A well-formed trace.

@@ -1,5 +1,6 @@
 //! The bytes of traces, packed by the harness.
 use handler::{Edition, Wires};
+use harness::record::{pack, Head, Tail};
 
 /// All wires of a record of 24 bytes at (0,1).
 pub const REST: (u64, u64) = (0, u64::MAX);
@@ -33,6 +34,21 @@ pub fn record_64(kind: u64, register: u64, value: u64, (pos, neg): (u64, u64)) -
 /// A record of 70 bytes.
 pub fn record_248(kind: u64, register: u64, value: u64, wires: Wires) -> Vec<u8> {
     record(Edition::Alerts248, kind, register, value, wires)
+}
+
+/// A record of 75 bytes that has an entropy word and answers, line 0 lowest.
+pub fn record_pings(
+    kind: u8,
+    register: u16,
+    value: u32,
+    wires: Wires,
+    pings: (u32, u32),
+) -> Vec<u8> {
+    let (head, tail) = (
+        Head::new(kind, register, value),
+        Tail::new(pings.0, pings.1),
+    );
+    pack(Edition::Pings, head, (wires.pos, wires.neg), tail)
 }
 
 /// Wires at rest but for these alerts; 0b10 has the positive wire at 1, the negative at 0.

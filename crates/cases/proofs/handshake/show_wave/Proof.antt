@@ -6,13 +6,10 @@ use Rattle.cases.proofs.handshake.show_wave.Statement.{statement}
 use Rattle.cases.proofs.handshake.show_wave.Tie as tie
 
 abbrev Inv-loop : tie.InvT-loop
-Inv-loop positive negative asks g₀ pos₀ neg₀ i₀ i-end g pos neg i = Unit {0}
+Inv-loop positive negative g₀ pos₀ neg₀ i₀ i-end g pos neg i = Unit {0}
 
 abbrev μ-loop : tie.MeasureT-loop
-μ-loop positive negative asks g₀ pos₀ neg₀ i₀ i-end g pos neg i = i-end - i
-
-watched-requires : tie.Need-watched-requires Inv-loop μ-loop
-watched-requires c κs = search needs
+μ-loop positive negative g₀ pos₀ neg₀ i₀ i-end g pos neg i = i-end - i
 
 loop-holds : tie.Need-loop-holds Inv-loop μ-loop
 loop-holds c = search needs
@@ -23,16 +20,13 @@ wire-at-requires c κs = search needs
 wire-at-requires-2 : tie.Need-wire-at-requires-2 Inv-loop μ-loop
 wire-at-requires-2 c κs = search needs
 
-wire-at-requires-3 : tie.Need-wire-at-requires-3 Inv-loop μ-loop
-wire-at-requires-3 c κs = search needs
-
 show-receiver-requires : tie.Need-show-receiver-requires Inv-loop μ-loop
 show-receiver-requires c κs = search needs
 
 add-i : tie.Need-add-i Inv-loop μ-loop
 add-i c =
-    let test = c .before .before .before .before in
-    let begin = test .before .before .before .before .before .before in
+    let test = c .before .before .before in
+    let begin = test .before .before .before .before in
     search (test .loop-test .taken, begin .good .0 .1, needs)
 
 loop-less : tie.Need-loop-less Inv-loop μ-loop
@@ -50,11 +44,9 @@ show-wave-spec =
     (tie.spec
     Inv-loop
     μ-loop
-    watched-requires
     loop-holds
     wire-at-requires
     wire-at-requires-2
-    wire-at-requires-3
     show-receiver-requires
     add-i
     loop-less

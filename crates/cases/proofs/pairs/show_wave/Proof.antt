@@ -33,7 +33,10 @@ show-pair-requires : tie.Need-show-pair-requires Inv-loop μ-loop
 show-pair-requires c κs = search needs
 
 add-i : tie.Need-add-i Inv-loop μ-loop
-add-i c = search needs
+add-i c =
+    let test = c .before .before .before .before .before in
+    let begin = test .before .before .before .before .before in
+    search (test .loop-test .taken, begin .good .0 .1, needs)
 
 loop-less : tie.Need-loop-less Inv-loop μ-loop
 loop-less c = search needs

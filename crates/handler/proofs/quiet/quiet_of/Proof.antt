@@ -1,12 +1,17 @@
 -- `quiet::quiet_of` meets its contract: the facts that its calls ensure, put together.
 -- Assumes nothing.
-use mathlib.Core.Path.{_≡_}
+use mathlib.Core.Path.{_≡_, subst}
+use mathlib.Core.Bool.{Bool}
 use borrow.Author.Needs.{needs}
 use lib.ListN.{length}
 use Rattle.rules.specs.State.{most, localCount}
+use Rattle.samples.specs.Linked.{LinkedBy}
 use Rattle.handler.proofs.QuietTicks.{quiet-tick}
 use Rattle.handler.proofs.quiet.quiet_of.Statement.{statement}
 use Rattle.handler.proofs.quiet.quiet_of.Tie as tie
+
+is-pingable-requires : tie.Need-is-pingable-requires
+is-pingable-requires c κs = search needs
 
 links-after-requires : tie.Need-links-after-requires
 links-after-requires c κs = search needs
@@ -24,8 +29,12 @@ locals-long c = search (c .before .good .0 .1 .1 .1 .1 .1 .1 .0, needs)
 returns : tie.Need-returns
 returns c =
     let r = c .before .before .before .before in
-    let s = r .before .before in
-    λ t. quiet-tick (s .args .h) (s .args .x) _ _ _ (s .pre) (alerts-long (r .before)) (locals-long (r .before)) (r .links-after .ensures) (c .before .before .before .unmoved-by .ensures) t
+    let b = r .before .before .before .before .before .before in
+    let h = b .before .args .h in
+    let x = b .before .args .x in
+    λ t. quiet-tick h x _ _ _ (b .before .pre) (alerts-long b) (locals-long b)
+    (subst (λ (p : Bool). LinkedBy (h .n) (h .links) (h .timer) p (x .sample) (r .links-after .result)) (r .before .is-pingable .ensures) (r .links-after .ensures))
+    (c .before .before .before .unmoved-by .ensures) t
 
 pub quiet-of-spec : {M : Type 1} → statement M
-quiet-of-spec = tie.close (tie.spec links-after-requires unmoved-by-requires returns)
+quiet-of-spec = tie.close (tie.spec is-pingable-requires links-after-requires unmoved-by-requires returns)

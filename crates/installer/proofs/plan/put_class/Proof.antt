@@ -4,6 +4,7 @@ use mathlib.Core.Path.{refl}
 use Rattle.installer.proofs.AskParts.{next, end}
 use Rattle.policy.specs.Plan.{classEntries}
 use Rattle.rules.specs.Map.{numberOf, isShadowed}
+use native.Mathlib.Omega.{arith}
 use borrow.Author.Needs.{needs}
 use Rattle.installer.proofs.plan.put_class.Statement.{statement}
 use Rattle.installer.proofs.plan.put_class.Tie as tie
@@ -81,10 +82,10 @@ put-twice-requires-6 : tie.Need-put-twice-requires-6
 put-twice-requires-6 c κs = search needs
 
 add-put-twice-7 : tie.Need-add-put-twice-7
-add-put-twice-7 c = search needs
+add-put-twice-7 c = omega (arith, c .before .before .before .before .before .before .before .before .before .before .pre)
 
 cast-put-twice-7 : tie.Need-cast-put-twice-7
-cast-put-twice-7 c = search needs
+cast-put-twice-7 c = omega (arith, c .before .before .before .before .before .before .before .before .before .before .pre)
 
 ctrl-value-requires : tie.Need-ctrl-value-requires
 ctrl-value-requires c κs = search needs

@@ -11,9 +11,13 @@ use Rattle.register_file.proofs.write.stored.Tie as tie
 enum-known-q : tie.Need-enum-known-q
 enum-known-q c = search needs
 
-set-single-requires : tie.Need-set-single-requires
+set-interrupt-requires : tie.Need-set-interrupt-requires
 unfolding bits
-set-single-requires c κs = rw (c .before .q .given .1) at (c .before .before .before .pre)
+set-interrupt-requires c κs = rw (c .before .q .given .1) at (c .before .before .before .pre)
+
+set-ping-requires : tie.Need-set-ping-requires
+unfolding bits
+set-ping-requires c κs = rw (c .before .before .q .given .1) at (c .before .before .before .before .pre)
 
 enum-known-q-2 : tie.Need-enum-known-q-2
 enum-known-q-2 c = search needs
@@ -67,7 +71,7 @@ enum-told c = search needs
 
 returns : tie.Need-returns
 unfolding store
-returns c = rw (c .before .before .q .given .1, c .set-single .ensures)
+returns c = rw (c .before .before .before .q .given .1, c .set-ping .ensures, c .before .set-interrupt .ensures)
 
 returns-2 : tie.Need-returns-2
 unfolding store
@@ -90,7 +94,8 @@ stored-spec =
     tie.close
     (tie.spec
     enum-known-q
-    set-single-requires
+    set-interrupt-requires
+    set-ping-requires
     enum-known-q-2
     local-value-requires
     cast-field-stored

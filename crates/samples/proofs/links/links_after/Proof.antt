@@ -1,12 +1,12 @@
 -- `links::links_after` meets its contract.
 -- Assumes nothing.
+use Rattle.samples.proofs.QuietLinks.{linked-by}
 use borrow.Author.Needs.{needs}
-use Rattle.samples.proofs.QuietSamples.{linked-by}
 use Rattle.samples.proofs.links.links_after.Statement.{statement}
 use Rattle.samples.proofs.links.links_after.Tie as tie
 
-receive-all-requires : tie.Need-receive-all-requires
-receive-all-requires c κs = search needs
+pace-requires : tie.Need-pace-requires
+pace-requires c κs = search needs
 
 none-set-requires : tie.Need-none-set-requires
 none-set-requires c κs = search needs
@@ -16,10 +16,9 @@ none-set-requires-2 c κs = search needs
 
 returns : tie.Need-returns
 returns c =
-    let r = c .before .before .before .before .before in
-    let a = r .before .before .args in
-    linked-by (a .n) (a .links) (a .s) _ _ _ (r .receive-all .ensures) (c .before .none-set .ensures) (c .none-set2 .ensures)
+    let r = c .before .before .before .before .before .before in
+    let a = r .before .args in
+    linked-by (a .n) (a .links) (a .timer) (a .pingable) (a .s) _ _ _ (r .pace .ensures) (c .before .none-set .ensures) (c .none-set2 .ensures)
 
 pub links-after-spec : {M : Type 1} → statement M
-links-after-spec =
-    tie.close (tie.spec receive-all-requires none-set-requires none-set-requires-2 returns)
+links-after-spec = tie.close (tie.spec pace-requires none-set-requires none-set-requires-2 returns)

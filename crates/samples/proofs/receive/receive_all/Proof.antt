@@ -20,7 +20,7 @@ receive-word-requires-4 c κs = search needs
 returns : tie.Need-returns
 returns c =
     let a = c .before .before .before .before .args in
-    received-all (a .n) (a .r) (a .s) _ _ _ _ (c .before .before .before .receive-word .ensures)
+    received-all (a .n) (a .r) (a .asks) (a .w) _ _ _ _ (c .before .before .before .receive-word .ensures)
     (c .before .before .receive-word2 .ensures) (c .before .receive-word3 .ensures) (c .receive-word4 .ensures)
 
 pub receive-all-spec : {M : Type 1} → statement M

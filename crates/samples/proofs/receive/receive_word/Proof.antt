@@ -1,9 +1,9 @@
 -- `receive::receive_word` meets its contract: word v has the places of its alerts.
 -- Assumes nothing.
+use Rattle.samples.proofs.ReceivedWords.{told-word}
 use borrow.Author.Needs.{needs}
 use Rattle.samples.proofs.receive.receive_word.Statement.{statement}
 use Rattle.samples.proofs.receive.receive_word.Tie as tie
-use Rattle.samples.proofs.ReceivedWords.{told-word}
 
 mul-receive : tie.Need-mul-receive
 mul-receive c = search needs
@@ -32,20 +32,20 @@ element-copy-out-receive-4 c = search needs
 mul-receive-5 : tie.Need-mul-receive-5
 mul-receive-5 c = search needs
 
-element-copy-out-receive-5 : tie.Need-element-copy-out-receive-5
-element-copy-out-receive-5 c = search needs
+array-read-receive : tie.Need-array-read-receive
+array-read-receive c = search needs
 
 mul-receive-6 : tie.Need-mul-receive-6
 mul-receive-6 c = search needs
 
-element-copy-out-receive-6 : tie.Need-element-copy-out-receive-6
-element-copy-out-receive-6 c = search needs
+element-copy-out-receive-5 : tie.Need-element-copy-out-receive-5
+element-copy-out-receive-5 c = search needs
 
 mul-receive-7 : tie.Need-mul-receive-7
 mul-receive-7 c = search needs
 
-element-copy-out-receive-7 : tie.Need-element-copy-out-receive-7
-element-copy-out-receive-7 c = search needs
+element-copy-out-receive-6 : tie.Need-element-copy-out-receive-6
+element-copy-out-receive-6 c = search needs
 
 mul-live : tie.Need-mul-live
 mul-live c = search needs
@@ -58,8 +58,8 @@ receive-requires c κs = search needs
 
 returns : tie.Need-returns
 returns c =
-    let a = c .before .before .before .before .before .before .before .before .before .before .args in
-    told-word (a .n) (a .t2) (a .t3) (a .v) (c .before .live .result) (c .receive .result) (c .before .live .ensures) (c .receive .ensures)
+    let a = c .before .before .before .before .before .before .before .before .args in
+    told-word (a .n) (a .t2) (a .t3) (a .t4) (a .v) (c .before .live .result) (c .receive .result) (c .before .live .ensures) (c .receive .ensures)
     (record {
       pausing = search needs;
       busy = search needs;
@@ -83,11 +83,11 @@ receive-word-spec =
     mul-receive-4
     element-copy-out-receive-4
     mul-receive-5
-    element-copy-out-receive-5
+    array-read-receive
     mul-receive-6
-    element-copy-out-receive-6
+    element-copy-out-receive-5
     mul-receive-7
-    element-copy-out-receive-7
+    element-copy-out-receive-6
     mul-live
     live-requires
     receive-requires

@@ -1,7 +1,8 @@
 -- `stages::fit` meets its contract.
 -- Assumes nothing.
-use mathlib.Core.Path.{ap₂}
-use mathlib.Core.Bool.{_&&_}
+use mathlib.Core.Path.{ap, ap₂}
+use mathlib.Core.Bool.{Bool, _&&_}
+use lib.Dec.{leb}
 use Rattle.rules.specs.Valid.{stagesFit}
 use borrow.Author.Needs.{needs}
 use Rattle.state.proofs.stages.fit.Statement.{statement}
@@ -18,7 +19,10 @@ classes-fit-requires c κs = search needs
 
 returns : tie.Need-returns
 unfolding stagesFit
-returns c = ap₂ _&&_ (c .before .before .locals-fit .ensures) (ap₂ _&&_ (c .before .alerts-fit .ensures) (c .classes-fit .ensures))
+returns c =
+    let s = c .before .before .before .before .before .args .s in
+    ap₂ _&&_ (c .before .before .before .locals-fit .ensures)
+    (ap₂ _&&_ (c .before .before .alerts-fit .ensures) (ap (λ (b : Bool). b && leb (s .timeout) 65536) (c .before .classes-fit .ensures)))
 
 pub fit-spec : {M : Type 1} → statement M
 fit-spec =

@@ -7,6 +7,9 @@ use borrow.Author.Needs.{needs}
 use Rattle.trace.proofs.edition.carry_64.Statement.{statement}
 use Rattle.trace.proofs.edition.carry_64.Tie as tie
 
+without-timer-requires : tie.Need-without-timer-requires
+without-timer-requires c κs = search needs
+
 mul-result : tie.Need-mul-result
 mul-result c = search needs
 
@@ -17,8 +20,8 @@ add-result-2 : tie.Need-add-result-2
 add-result-2 c = search needs
 
 returns : tie.Need-returns
-unfolding carried64 numberOf
-returns c = rw (lt-ltb _ _ (c .if1 .taken))
+unfolding carried64
+returns c = rw (lt-ltb _ _ (c .before .if1 .taken)) (c .without-timer .ensures)
 
 returns-2 : tie.Need-returns-2
 unfolding carried64 numberOf
@@ -34,4 +37,13 @@ returns-4 c = rw (le-ltb _ _ (c .before .before .if1 .left), le-ltb _ _ (c .befo
 
 pub carry-64-spec : {M : Type 1} → statement M
 carry-64-spec =
-    tie.close (tie.spec mul-result add-result add-result-2 returns returns-2 returns-3 returns-4)
+    tie.close
+    (tie.spec
+    without-timer-requires
+    mul-result
+    add-result
+    add-result-2
+    returns
+    returns-2
+    returns-3
+    returns-4)

@@ -16,13 +16,31 @@ enum-told-2 c = search needs
 head-248-requires : tie.Need-head-248-requires
 head-248-requires c κs = search needs
 
+enum-told-3 : tie.Need-enum-told-3
+enum-told-3 c = search needs
+
+head-248-requires-2 : tie.Need-head-248-requires-2
+head-248-requires-2 c κs = search needs
+
 returns : tie.Need-returns
 returns c = rw (c .before .enum-told .given .1) (c .head-64 .ensures)
 
 returns-2 : tie.Need-returns-2
 returns-2 c = rw (c .before .enum-told2 .given .1) (c .head-248 .ensures)
 
+returns-3 : tie.Need-returns-3
+returns-3 c = rw (c .before .enum-told3 .given .1) (c .head-2482 .ensures)
+
 pub head-of-spec : {M : Type 1} → statement M
 head-of-spec =
     tie.close
-    (tie.spec enum-told head-64-requires enum-told-2 head-248-requires returns returns-2)
+    (tie.spec
+    enum-told
+    head-64-requires
+    enum-told-2
+    head-248-requires
+    enum-told-3
+    head-248-requires-2
+    returns
+    returns-2
+    returns-3)

@@ -1,9 +1,10 @@
--- `record::input_at` meets its contract: the first eight bytes, the positive wires and the negative wires.
+-- `record::input_at` meets its contract: the first eight bytes, the tail, the positive wires and the negative wires.
 -- Assumes nothing.
 use Prim.Native.Nat.{ℕ, _/_}
-use mathlib.Core.Path.{ap}
+use mathlib.Core.Path.{ap, _∙_}
 use native.Mathlib.Omega.{arith}
 use borrow.Author.Needs.{needs}
+use Rattle.trace_laws.proofs.OtherWay.{other-pack}
 use Rattle.trace.proofs.Records.{record-parts, record-input}
 use Rattle.trace.proofs.record.input_at.Statement.{statement}
 use Rattle.trace.proofs.record.input_at.Tie as tie
@@ -13,6 +14,23 @@ word-at-requires c κs = omega (arith, record-parts (c .before .args .edition), 
 
 head-of-requires : tie.Need-head-of-requires
 head-of-requires c κs = search needs
+
+alerts-requires : tie.Need-alerts-requires
+alerts-requires c κs = search needs
+
+add-tail-at : tie.Need-add-tail-at
+add-tail-at c = search needs
+
+add-tail-at-2 : tie.Need-add-tail-at-2
+add-tail-at-2 c = search needs
+
+add-tail-at-3 : tie.Need-add-tail-at-3
+add-tail-at-3 c = search needs
+
+tail-at-requires : tie.Need-tail-at-requires
+tail-at-requires c κs =
+    let b = c .before .before .before .before in
+    omega (arith, record-parts (b .args .edition), b .pre, ap (λ (n : ℕ). n / 8) (c .alerts .ensures))
 
 access-in-requires : tie.Need-access-in-requires
 access-in-requires c κs = search needs
@@ -24,29 +42,36 @@ add-wires-at : tie.Need-add-wires-at
 add-wires-at c = search needs
 
 wires-at-requires : tie.Need-wires-at-requires
-wires-at-requires c κs = let b = c .before .before .before .before .before in omega (arith, record-parts (b .args .edition), b .pre)
+wires-at-requires c κs = let b = c .before .before .before .before .before .before .before in omega (arith, record-parts (b .args .edition), b .pre)
 
 add-wires-at-2 : tie.Need-add-wires-at-2
 add-wires-at-2 c = search needs
-
-alerts-requires : tie.Need-alerts-requires
-alerts-requires c κs = search needs
 
 add-wires-at-3 : tie.Need-add-wires-at-3
 add-wires-at-3 c = search needs
 
 wires-at-requires-2 : tie.Need-wires-at-requires-2
 wires-at-requires-2 c κs =
-    let b = c .before .before .before .before .before .before .before in
-    omega (arith, record-parts (b .args .edition), b .pre, ap (λ (n : ℕ). n / 8) (c .alerts .ensures))
+    let s = c .before .before .before .before in
+    let b = s .before .before .before .before in
+    omega (arith, record-parts (b .args .edition), b .pre, ap (λ (n : ℕ). n / 8) (s .alerts .ensures))
+
+four-requires : tie.Need-four-requires
+four-requires c κs = search needs
+
+cast-answers : tie.Need-cast-answers
+cast-answers c = search needs
 
 returns : tie.Need-returns
 returns c =
-    let first = c .before .before .before .before .before .before in
+    let second = c .before in
+    let access = second .before .before .before in
+    let sizes = access .before .before in
+    let first = sizes .before .before in
     let begin = first .before .before in
-    record-input (begin .args .edition) (begin .args .at) (begin .args .bytes .now) (λ i. first .before .shared-slice-known .given i .fits) (begin .pre) _ _ _ _ _ _ _
-    (first .word-at .ensures) (c .before .before .before .before .before .head-of .ensures) (c .before .before .before .before .access-in .ensures) (c .before .before .before .carried .ensures) (c .before .alerts .ensures)
-    (c .before .before .wires-at .ensures) (c .wires-at2 .ensures)
+    record-input (begin .args .edition) (begin .args .at) (begin .args .bytes .now) (λ i. first .before .shared-slice-known .given i .fits) (begin .pre) _ _ _ _ _ _ _ _ _
+    (first .word-at .ensures) (sizes .before .head-of .ensures) (sizes .alerts .ensures) (access .before .tail-at .ensures) (access .access-in .ensures)
+    (second .before .before .carried .ensures) (second .before .wires-at .ensures) (second .wires-at2 .ensures) (c .four .ensures .0 ∙ other-pack _)
 
 pub input-at-spec : {M : Type 1} → statement M
 input-at-spec =
@@ -54,12 +79,18 @@ input-at-spec =
     (tie.spec
     word-at-requires
     head-of-requires
+    alerts-requires
+    add-tail-at
+    add-tail-at-2
+    add-tail-at-3
+    tail-at-requires
     access-in-requires
     carried-requires
     add-wires-at
     wires-at-requires
     add-wires-at-2
-    alerts-requires
     add-wires-at-3
     wires-at-requires-2
+    four-requires
+    cast-answers
     returns)

@@ -19,13 +19,31 @@ enum-told-2 c = search needs
 wires-248-requires : tie.Need-wires-248-requires
 wires-248-requires c κs = omega (arith, ap wireBytes (c .enum-told2 .given .1), c .before .before .before .pre)
 
+enum-told-3 : tie.Need-enum-told-3
+enum-told-3 c = search needs
+
+wires-248-requires-2 : tie.Need-wires-248-requires-2
+wires-248-requires-2 c κs = omega (arith, ap wireBytes (c .enum-told3 .given .1), c .before .before .before .pre)
+
 returns : tie.Need-returns
 returns c = rw (c .before .enum-told .given .1) (c .wires-64 .ensures)
 
 returns-2 : tie.Need-returns-2
 returns-2 c = rw (c .before .enum-told2 .given .1) (c .wires-248 .ensures)
 
+returns-3 : tie.Need-returns-3
+returns-3 c = rw (c .before .enum-told3 .given .1) (c .wires-2482 .ensures)
+
 pub wires-at-spec : {M : Type 1} → statement M
 wires-at-spec =
     tie.close
-    (tie.spec enum-told wires-64-requires enum-told-2 wires-248-requires returns returns-2)
+    (tie.spec
+    enum-told
+    wires-64-requires
+    enum-told-2
+    wires-248-requires
+    enum-told-3
+    wires-248-requires-2
+    returns
+    returns-2
+    returns-3)

@@ -1,4 +1,4 @@
--- `records::put_record` meets its contract: eight bytes of access and two wire sets.
+-- `records::put_record` meets its contract: eight bytes of access, two wire sets, the word and the answers.
 -- Assumes nothing.
 use Prim.Native.Nat.{_+_, _*_}
 use Rattle.rules.specs.State.{words}
@@ -26,11 +26,27 @@ add-put-wires-2 c = search needs
 put-wires-requires-2 : tie.Need-put-wires-requires-2
 put-wires-requires-2 c κs = search needs
 
+add-put-pings : tie.Need-add-put-pings
+add-put-pings c = search needs
+
+put-pings-requires : tie.Need-put-pings-requires
+put-pings-requires c κs = search needs
+
 same-length : tie.Need-same-length
 same-length c = search needs
 
 returns : tie.Need-returns
-returns c = let a = c .before .before .before .before .before .before .before .before .before .before .before .before .before .before .before .before .args in let word = c .before .before .before .before .before .before .before .before .before .before .before .first-word in put-parts (a .kind) (a .register) (a .value) (wordAt (a .positive .now) (a .i)) (wordAt (a .negative .now) (a .i)) (λ v. c .before .before .before .before .before .before .before .before .before .before .before .before .before .before .shared-slice-known .given (a .i * words + v) .fits) (λ v. c .before .before .before .before .before .before .before .before .before .before .before .before .before .shared-slice-known2 .given (a .i * words + v) .fits) _ _ _ _ (a .at) (word .result) (search needs) (word .ensures) (c .before .before .before .before .before .before .before .before .before .before .put-word .ensures) (c .before .before .before .before .before .before .put-wires .ensures) (c .before .before .put-wires2 .ensures)
+returns c =
+    let last = c .before .before in
+    let second = last .before .before .before .before in
+    let first = second .before .before .before .before in
+    let access = first .before .before .before .before in
+    let known = access .before .before .before in
+    let a = known .before .before .before .args in
+    put-parts (a .kind) (a .register) (a .value) (wordAt (a .positive .now) (a .i)) (wordAt (a .negative .now) (a .i)) (a .word) (a .answers)
+    (λ v. known .before .shared-slice-known .given (a .i * words + v) .fits) (λ v. known .shared-slice-known2 .given (a .i * words + v) .fits) (search needs)
+    _ _ _ _ _ (a .at) (access .before .first-word .result) (search needs) (access .before .first-word .ensures)
+    (access .put-word .ensures) (first .put-wires .ensures) (second .put-wires2 .ensures) (last .put-pings .ensures)
 
 pub put-record-spec : {M : Type 1} → statement M
 put-record-spec =
@@ -42,5 +58,7 @@ put-record-spec =
     put-wires-requires
     add-put-wires-2
     put-wires-requires-2
+    add-put-pings
+    put-pings-requires
     same-length
     returns)

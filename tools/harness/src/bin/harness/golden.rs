@@ -14,7 +14,7 @@ pub const FILE: &str = "tools/harness/golden.txt";
 
 /// The first line of the file.
 const TITLE: &str =
-    "# bytes of a record, kind, seed, checksum of the trace, checksum of the words: harness golden REPLAY --write";
+    "# edition, kind, seed, checksum of the trace, checksum of the words: harness golden REPLAY --write";
 
 /// Prints the set as the program gives it.
 pub fn keep(path: &str) -> Result<bool, Trouble> {
@@ -41,8 +41,11 @@ pub fn hold(path: &str, file: &str) -> Result<bool, Trouble> {
     let found = compare(&program(path), &traces, &mut kept).map_err(Trouble::Run)?;
     let command = |other: &Other| {
         let (kind, seed) = (other.kept.kind.name(), other.kept.seed);
-        let (path, bytes) = (program(path), other.kept.edition.bytes());
-        format!("repeat {} {kind} {seed} --edition {bytes}", path.display())
+        let (path, edition) = (program(path), other.kept.edition.name());
+        format!(
+            "repeat {} {kind} {seed} --edition {edition}",
+            path.display()
+        )
     };
     tell(begin, &kept, found, command)
 }

@@ -5,7 +5,7 @@ use crate::trouble::Trouble;
 use crate::words::Options;
 use handler::Edition;
 use harness::compare::{
-    compare, compare_all, generated, Case, Coverage, Difference, DEFAULT_SEED, DEFAULT_TRACES,
+    compare, compare_all, in_turn, Case, Coverage, Difference, DEFAULT_SEED, DEFAULT_TRACES,
 };
 use harness::report::progress;
 use std::fmt::{self, Display};
@@ -22,14 +22,14 @@ struct Reached(Edition, Coverage);
 
 impl Display for Reached {
     fn fmt(&self, out: &mut fmt::Formatter) -> fmt::Result {
-        write!(out, "records of {} bytes\n{}", self.0.bytes(), self.1)
+        write!(out, "edition {}\n{}", self.0.name(), self.1)
     }
 }
 
 /// The edition that was asked for, or all.
-fn editions(options: &Options) -> Result<Vec<Edition>, Trouble> {
-    let asked = options.edition()?;
-    Ok(asked.map_or(Edition::ALL.to_vec(), |edition| vec![edition]))
+fn editions(options: &Options) -> Vec<Edition> {
+    let asked = options.edition();
+    asked.map_or(Edition::ALL.to_vec(), |edition| vec![edition])
 }
 
 /// Compares a set of each edition and prints what it reached.
@@ -40,7 +40,7 @@ pub fn set<I: Iterator<Item = Case>>(
 ) -> Result<bool, Trouble> {
     let seed = options.get("--seed").unwrap_or(DEFAULT_SEED);
     let traces = options.get("--traces").unwrap_or(DEFAULT_TRACES);
-    for edition in editions(options)? {
+    for edition in editions(options) {
         let begin = Instant::now();
         let cases = cases(edition, seed).take(traces as usize);
         let mut reached = Reached(edition, Coverage::default());
@@ -57,17 +57,11 @@ pub fn fuzz(path: &str, seconds: u64, options: &Options) -> Result<bool, Trouble
     let begin = Instant::now();
     let end = begin + Duration::from_secs(seconds);
     let seed = options.get("--seed").unwrap_or_else(fresh_seed);
-    let editions = editions(options)?;
+    let editions = editions(options);
     let mut coverage = Coverage::default();
     let (mut told, mut traces) = (begin, 0);
     progress(format_args!("first seed {seed}"));
-    let in_turn = |case: Case| {
-        editions.iter().map(move |e| Case {
-            edition: *e,
-            ..case
-        })
-    };
-    let all = generated(Edition::NEWEST, seed).flat_map(in_turn);
+    let all = in_turn(editions, seed);
     let cases = all.take_while(|_| {
         let now = Instant::now();
         if now.duration_since(told) > Duration::from_secs(5) {

@@ -6,10 +6,9 @@ use harness::compare::Case;
 use harness::generate::Kind;
 use std::str::FromStr;
 
-/// The options, each with a number.
-const NAMES: [&str; 7] = [
+/// The options with a number.
+const NAMES: [&str; 6] = [
     "--boots",
-    "--edition",
     "--lists",
     "--records",
     "--seed",
@@ -17,52 +16,64 @@ const NAMES: [&str; 7] = [
     "--traces",
 ];
 
+/// The option with an edition's name.
+const EDITION: &str = "--edition";
+
 /// The options that were given.
-pub struct Options(Vec<(&'static str, u64)>);
+pub struct Options {
+    numbers: Vec<(&'static str, u64)>,
+    edition: Option<Edition>,
+}
+
+/// Takes an option and its word out of the words.
+fn taken(words: &mut Vec<String>, name: &str) -> Result<Option<String>, Trouble> {
+    let at = match words.iter().position(|word| word == name) {
+        Some(at) => at,
+        None => return Ok(None),
+    };
+    if at + 1 == words.len() {
+        return Err(usage(format!("{name} needs a word")));
+    }
+    words.remove(at);
+    Ok(Some(words.remove(at)))
+}
 
 impl Options {
-    /// Takes the options and their numbers out of the words.
+    /// Takes the options out of the words.
     pub fn take(words: &mut Vec<String>) -> Result<Options, Trouble> {
-        let mut given = Vec::new();
+        let mut numbers = Vec::new();
         for name in NAMES {
-            let at = match words.iter().position(|word| word == name) {
-                Some(at) => at,
-                None => continue,
-            };
-            if at + 1 == words.len() {
-                return Err(usage(format!("{name} needs a number")));
+            if let Some(word) = taken(words, name)? {
+                numbers.push((name, number(&word)?));
             }
-            given.push((name, number(&words[at + 1])?));
-            words.drain(at..at + 2);
         }
-        Ok(Options(given))
+        let edition = taken(words, EDITION)?.map(|word| {
+            let named = Edition::named(&word);
+            named.ok_or_else(|| usage(format!("no edition {word}")))
+        });
+        let edition = edition.transpose()?;
+        Ok(Options { numbers, edition })
     }
 
     /// The number of an option, if it was given.
     pub fn get(&self, name: &str) -> Option<u64> {
-        let mut given = self.0.iter();
+        let mut given = self.numbers.iter();
         given.find(|option| option.0 == name).map(|option| option.1)
     }
 
     /// A command takes these options and no others.
     pub fn only(self, command: &str, names: &[&str]) -> Result<Options, Trouble> {
-        match self.0.iter().find(|option| !names.contains(&option.0)) {
-            Some((name, _)) => Err(usage(format!("{name} is not for {command}"))),
+        let numbers = self.numbers.iter().map(|option| option.0);
+        let mut given = numbers.chain(self.edition.map(|_| EDITION));
+        match given.find(|name| !names.contains(name)) {
+            Some(name) => Err(usage(format!("{name} is not for {command}"))),
             None => Ok(self),
         }
     }
 
-    /// The edition that was asked for, by the bytes of its record.
-    pub fn edition(&self) -> Result<Option<Edition>, Trouble> {
-        let bytes = match self.get("--edition") {
-            Some(bytes) => bytes,
-            None => return Ok(None),
-        };
-        let mut all = Edition::ALL.into_iter();
-        let edition = all.find(|edition| edition.bytes() as u64 == bytes);
-        edition
-            .map(Some)
-            .ok_or_else(|| usage(format!("no edition {bytes}")))
+    /// The edition that was asked for, by its name.
+    pub fn edition(&self) -> Option<Edition> {
+        self.edition
     }
 }
 
@@ -76,7 +87,7 @@ pub fn case(kind: &str, seed: &str, options: &Options) -> Result<Case, Trouble> 
     let kind = Kind::named(kind).ok_or_else(|| usage(format!("no kind {kind}")))?;
     let seed = number(seed)?;
     Ok(Case {
-        edition: options.edition()?.unwrap_or(Edition::Alerts64),
+        edition: options.edition().unwrap_or(Edition::Alerts64),
         kind,
         seed,
         records: options.get("--records").map(|records| records as usize),

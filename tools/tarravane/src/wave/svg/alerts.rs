@@ -3,6 +3,7 @@ use crate::alert_bits::{self, is_set, put, AlertBits};
 use crate::facts::events::{self, is_enabled};
 use crate::facts::receivers::{at, ping_levels, BUSY};
 use crate::facts::tick::Tick;
+use crate::facts::timer::pinged;
 use crate::facts::wires;
 use handler::{Place, LOCALS, WORDS};
 use std::array::from_fn;
@@ -38,8 +39,9 @@ pub struct Alerts {
     pub broken: Over,
     /// Whose receiver stands at each place but ready, in the order of the handshake.
     busy: [Over; BUSY.len()],
-    /// Whose ping pair is (1,0).
+    /// Whose ping pair is (1,0), and whose ping is open.
     pub pings: Over,
+    pinged: Over,
     /// With an event while enabled, and while disabled.
     pub events: AlertBits,
     pub disabled: AlertBits,
@@ -67,6 +69,7 @@ impl Alerts {
             broken: Over::new(wires::broken(t)),
             busy: BUSY.map(|place| Over::new(at(t, place))),
             pings: Over::new(ping_levels(t)),
+            pinged: Over::new(pinged(t)),
             events: enabled,
             disabled,
             locals,
@@ -81,6 +84,7 @@ impl Alerts {
             broken: self.broken.joined(&next.broken),
             busy: from_fn(|at| self.busy[at].joined(&next.busy[at])),
             pings: self.pings.joined(&next.pings),
+            pinged: self.pinged.joined(&next.pinged),
             events: or(&self.events, &next.events),
             disabled: or(&self.disabled, &next.disabled),
             locals: from_fn(|j| self.locals[j] || next.locals[j]),
@@ -90,9 +94,9 @@ impl Alerts {
 
     /// The alerts that rose or broke, or whose receiver is not at rest.
     pub fn moved(&self) -> AlertBits {
-        let [ack, first, second] = &self.busy;
-        let over = [&self.raised, &self.broken, ack, first, second, &self.pings];
-        let some = over.map(|over| &over.some).into_iter();
+        let wires = [&self.raised, &self.broken, &self.pings, &self.pinged];
+        let over = wires.into_iter().chain(&self.busy);
+        let some = over.map(|over| &over.some);
         let all = some.chain([&self.events, &self.disabled]);
         from_fn(|word| all.clone().fold(0, |or, bits| or | bits[word]))
     }

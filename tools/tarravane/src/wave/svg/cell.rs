@@ -2,6 +2,7 @@
 use super::access::Accesses;
 use super::alerts::Alerts;
 use super::held::Held;
+use super::timer::Timer;
 use super::weight::{weight, Weight};
 use crate::facts::tick::Tick;
 use handler::CLASSES;
@@ -19,6 +20,7 @@ pub struct Cell {
     pub interrupts: [Held<bool>; CLASSES],
     pub lines: [Held<bool>; LINES],
     pub alerts: Alerts,
+    pub timer: Timer,
     pub accesses: Accesses,
 }
 
@@ -34,6 +36,7 @@ impl Cell {
             interrupts: from_fn(|k| Held::new(t.word.interrupt(k))),
             lines: from_fn(|e| Held::new(t.word.line(e))),
             alerts,
+            timer: Timer::new(t),
             accesses: Accesses::new(t),
         }
     }
@@ -70,6 +73,7 @@ impl Cell {
             interrupts: from_fn(|k| self.interrupts[k].joined(next.interrupts[k])),
             lines: from_fn(|e| self.lines[e].joined(next.lines[e])),
             alerts: self.alerts.joined(&next.alerts),
+            timer: self.timer.joined(next.timer),
             accesses: self.accesses.joined(&next.accesses),
         }
     }

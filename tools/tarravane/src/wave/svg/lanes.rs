@@ -5,6 +5,7 @@ mod classes;
 mod outputs;
 mod receivers;
 mod spans;
+mod timer;
 
 use super::axis::Axis;
 use super::layout::LEFT;
@@ -49,6 +50,7 @@ fn cut_line(page: &mut Page, axis: &Axis, from: f64, to: f64) {
 pub fn draw(page: &mut Page, axis: &Axis, cut: bool) {
     let (under, top) = (page.mark(), page.y);
     alerts::draw(page, axis);
+    timer::draw(page, axis);
     classes::draw(page, axis);
     page.y += BETWEEN;
     outputs::draw_interrupts(page, axis);

@@ -60,6 +60,16 @@ const HANDSHAKE: [Sign; 2] = [
     }),
 ];
 
+/// Of the ping timer, where it is on.
+const TIMER: [Sign; 2] = [
+    ("wait for a ping", |page, x, y| {
+        page.rect("pause", x, y, SIGN, 9.0)
+    }),
+    ("failed ping", |page, x, y| {
+        marks::access(page, Mark::Refused, x + 7.0, y)
+    }),
+];
+
 /// Draws a sign right of the last one, or where there is no room on the next line; gives where it ends.
 fn entry(page: &mut Page, x: f64, words: &str, sign: impl Fn(&mut Page, f64, f64)) -> f64 {
     let width = SIGN + 4.0 + text_width(words, SMALL) + 8.0;
@@ -73,8 +83,8 @@ fn entry(page: &mut Page, x: f64, words: &str, sign: impl Fn(&mut Page, f64, f64
     x + width
 }
 
-/// `handshake`: is one shown?
-pub fn draw(page: &mut Page, handshake: bool) {
+/// `handshake`: is one shown? `timer`: is the ping timer?
+pub fn draw(page: &mut Page, handshake: bool, timer: bool) {
     page.y += 10.0;
     let mut x = MARGIN;
     for state in STATES {
@@ -83,7 +93,8 @@ pub fn draw(page: &mut Page, handshake: bool) {
         });
     }
     let shaken = HANDSHAKE.into_iter().filter(|_| handshake);
-    for (words, sign) in SIGNS.into_iter().chain(shaken) {
+    let pinged = TIMER.into_iter().filter(|_| timer);
+    for (words, sign) in SIGNS.into_iter().chain(shaken).chain(pinged) {
         x = entry(page, x, words, sign);
     }
     page.y += STEP + 4.0;

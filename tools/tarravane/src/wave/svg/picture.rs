@@ -77,7 +77,9 @@ pub fn draw(drawn: &Drawn) -> String {
         let axis = Axis::new(&drawn.cells);
         axis.draw(&mut page);
         lanes::draw(&mut page, &axis, drawn.cut.is_some());
-        legend::draw(&mut page, drawn.cells.iter().any(Cell::has_handshake));
+        let handshake = drawn.cells.iter().any(Cell::has_handshake);
+        let timer = drawn.cells.iter().any(|cell| cell.timer.on);
+        legend::draw(&mut page, handshake, timer);
     }
     foot(&mut page, &drawn.made);
     page.finished(&format!("{}: {}", drawn.name, drawn.told.join("; ")))

@@ -4,7 +4,7 @@ use super::cell::Cell;
 use super::held::Held;
 use super::weight::Weight;
 use super::{drawn, picture, Opened};
-use crate::facts::played::{asked, played, records};
+use crate::facts::played::{pinging, played, records};
 use crate::facts::tick::Tick;
 use crate::output::Failure;
 use crate::range::Range;
@@ -153,7 +153,7 @@ fn receivers_and_pings_are_drawn_where_they_move() {
         none
         none
         none";
-    let picture = picture_of(asked(new, &[1]), text);
+    let picture = picture_of(pinging(new, 1), text);
     for title in [
         "ALERT0: Acknowledged, ticks 2 to 3",
         "ALERT0: Pause 1, tick 4",

@@ -3,6 +3,7 @@ use crate::facts::changes::{changes, turns};
 use crate::facts::clears::clear;
 use crate::facts::events;
 use crate::facts::tick::Tick;
+use crate::facts::timer::{ping, End};
 use handler::{Access, CLASSES};
 
 /// From the least to the most; what matters least is folded first.
@@ -14,9 +15,10 @@ pub enum Weight {
     Handshake,
     Read,
     Write,
-    /// Wires that move, an event, a local alert.
+    /// Wires that move, an event, a local alert, a ping that is sent or answered.
     Alert,
-    /// A cause, an accumulator or a lock changes, an access is refused, or a stage is dropped.
+    /// A cause, an accumulator or a lock changes, an access is refused, a stage is dropped, the ping timer goes on, or a ping
+    /// fails.
     Change,
     /// A state, a line or an interrupt changes, or a clear is asked for.
     Turn,
@@ -34,6 +36,11 @@ impl Weight {
     ];
 }
 
+/// Is a ping sent or answered?
+fn pings(t: &Tick) -> bool {
+    ping(t).map_or(false, |ping| ping.sent || ping.end == Some(End::Answered))
+}
+
 /// `moved`: are the wires other ones than in the tick before? `goes_on`: does a receiver go on?
 pub fn weight(t: &Tick, moved: bool, goes_on: bool) -> Weight {
     let asks_clear = (0..CLASSES).any(|k| clear(t, k).is_some());
@@ -41,7 +48,7 @@ pub fn weight(t: &Tick, moved: bool, goes_on: bool) -> Weight {
     match t.input.access {
         _ if turns(t) || asks_clear => Weight::Turn,
         _ if changes(t) => Weight::Change,
-        _ if moved || occurs => Weight::Alert,
+        _ if moved || occurs || pings(t) => Weight::Alert,
         Access::Write(..) => Weight::Write,
         Access::Nothing if goes_on => Weight::Handshake,
         Access::Nothing => Weight::Calm,

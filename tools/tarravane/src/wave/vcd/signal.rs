@@ -5,6 +5,7 @@ use crate::alert_bits::{self, is_set};
 use crate::facts::clears::{clear, Clear};
 use crate::facts::receivers::{acknowledged, ping_levels};
 use crate::facts::tick::Tick;
+use crate::facts::timer::{self, End, Ping};
 use crate::facts::{answer, events};
 use crate::names;
 use handler::registers::{Field, Naming, Register, Setting, LETTERS};
@@ -32,6 +33,13 @@ pub enum Signal {
     Interrupt(usize),
     AcceptedClear(usize),
     Line(usize),
+    /// Is the ping timer on after the tick?
+    TimerOn,
+    /// Whose turn it is.
+    PingTurn,
+    PingOpen,
+    PingAnswered,
+    PingFailed,
     AccessKind,
     /// The register that is read or written.
     Accessed,
@@ -90,6 +98,10 @@ pub fn scopes(moved: &Moved) -> Vec<Scope> {
         all.push(scope(&format!("class_{letter}"), class(k)));
     }
     all.push(scope("lines", (0..4).map(Line).collect()));
+    if moved.timer {
+        let timer = vec![TimerOn, PingTurn, PingOpen, PingAnswered, PingFailed];
+        all.push(scope("pings", timer));
+    }
     all.push(scope("access", vec![AccessKind, Accessed, Written, Answer]));
     all
 }
@@ -97,6 +109,15 @@ pub fn scopes(moved: &Moved) -> Vec<Scope> {
 fn pair(t: &Tick, i: usize) -> u64 {
     let wires = &t.input.sample.alerts;
     u64::from(is_set(&wires.pos, i)) << 1 | u64::from(is_set(&wires.neg, i))
+}
+
+/// Whose turn the tick meets; nothing where the timer is off.
+fn turn(t: &Tick) -> Option<String> {
+    timer::turn(&t.before).map(names::pinged)
+}
+
+fn is_ping(t: &Tick, of: impl Fn(Ping) -> bool) -> bool {
+    timer::ping(t).map_or(false, of)
 }
 
 fn access_kind(t: &Tick) -> &'static str {
@@ -147,6 +168,11 @@ impl Signal {
             Interrupt(k) => format!("CLASS{}_INTERRUPT", LETTERS[k]),
             AcceptedClear(k) => format!("CLASS{}_CLEAR", LETTERS[k]),
             Line(e) => format!("LINE{e}"),
+            TimerOn => Register::PingEnable.to_string(),
+            PingTurn => "TURN".to_string(),
+            PingOpen => "OPEN".to_string(),
+            PingAnswered => "ANSWERED".to_string(),
+            PingFailed => "FAILED".to_string(),
             AccessKind => "KIND".to_string(),
             Accessed => "REGISTER".to_string(),
             Written => "VALUE".to_string(),
@@ -158,7 +184,8 @@ impl Signal {
         match self {
             Pair(_) => Kind::Pair,
             State(_) | EscCnt(_) | AccumCnt(_) => Kind::Number,
-            StateName(_) | Stands(_) | AccessKind | Accessed | Written | Answer => Kind::Text,
+            StateName(_) | Stands(_) | PingTurn => Kind::Text,
+            AccessKind | Accessed | Written | Answer => Kind::Text,
             _ => Kind::Bit,
         }
     }
@@ -192,6 +219,11 @@ impl Signal {
             Interrupt(k) => Value::Bit(t.word.interrupt(k)),
             AcceptedClear(k) => Value::Bit(clear(t, k) == Some(Clear::Accepted)),
             Line(e) => Value::Bit(t.word.line(e)),
+            TimerOn => Value::Bit(t.after.timer.is_on()),
+            PingTurn => text(turn(t)),
+            PingOpen => Value::Bit(is_ping(t, |ping| ping.open)),
+            PingAnswered => Value::Bit(is_ping(t, |ping| ping.end == Some(End::Answered))),
+            PingFailed => Value::Bit(timer::failed(t).is_some()),
             AccessKind => Value::text(access_kind(t)),
             Accessed => text(accessed(t).0),
             Written => text(accessed(t).1),

@@ -1,7 +1,7 @@
 //! A trace that is not the same the second time.
 use super::again::Again;
 use super::{Opened, Played};
-use crate::facts::played::{asked, records};
+use crate::facts::played::{pinging, records};
 use crate::output::Failure;
 use crate::trace::Start;
 use handler::{Edition, Handler};
@@ -79,13 +79,13 @@ fn receivers_are_shown_where_they_move() {
     let shaken = [&wires[..], &["PLACE", "ACK"]].concat();
     let pinged = [&shaken[..], &["PING", "ANSWER"]].concat();
     let wanted = [of(0, &shaken), of(1, &pinged), of(2, &wires)].concat();
-    assert_eq!(alert_signals(asked(Handler::new(4).0, &[1]), text), wanted);
+    assert_eq!(alert_signals(pinging(Handler::new(4).0, 1), text), wanted);
 }
 
 #[test]
 fn another_start_is_told() {
     let name = std::env::temp_dir().join(format!("tarravane-again-{}", std::process::id()));
-    fs::write(&name, [255, 2]).expect("a file");
+    fs::write(&name, [254, 2]).expect("a file");
     let name = name.to_string_lossy();
     let again = Again::File(&name);
     let start = |n| Start {

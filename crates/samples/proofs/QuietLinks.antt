@@ -1,0 +1,71 @@
+-- The links alone, by the words of what `pace` tells: where none has a place set, no alert has what they tell.
+-- Assumes nothing.
+use Prim.Native.Nat.{ℕ, zero, suc, _/_, _%_, _-_, _<_}
+use mathlib.Core.Path.{_≡_, refl, sym, ap, _∙_}
+use mathlib.Core.Bool.{Bool, true, false, false≢true, not, _&&_, _||_}
+use mathlib.Core.List.{List}
+use native.Mathlib.Omega.{arith}
+use borrow.Author.Tests.{eqb-true}
+use lib.Dec.{eqb}
+use lib.ListN.{getD}
+use Rattle.bits.specs.Bits.{place}
+use Rattle.bits.specs.Index.{placeIn, wordsBy}
+use Rattle.bits.proofs.BitLaws.{bit-none}
+use Rattle.bits.proofs.IndexLaws.{and-true}
+use Rattle.bits.proofs.WordLaws.{placeIn-each}
+use Rattle.rules.specs.State.{most, words}
+use Rattle.rules.specs.declared.Links.{Links}
+use Rattle.rules.specs.declared.Sample.{Sample}
+use Rattle.rules.specs.declared.Timer.{Timer}
+use Rattle.samples.specs.Linked.{noneSet, LinkedBy}
+use Rattle.samples.specs.Paced.{asksBy, PacedBy}
+use Rattle.samples.specs.Received.{happensAt, equalAt}
+use Rattle.samples.specs.declared.pace.Paced.{Paced}
+
+-- ── words with no place set ──
+
+module _ (ws : List ℕ) (e : noneSet ws ≡ true) where
+  word-none : (v : ℕ) → v < words → getD ws v 0 ≡ 0
+  word-none zero l = eqb-true _ _ (and-true (eqb (getD ws 0 0) 0) _ e .0)
+  word-none (suc zero) l = eqb-true _ _ (and-true (eqb (getD ws 1 0) 0) _ (and-true (eqb (getD ws 0 0) 0) _ e .1) .0)
+  word-none (suc (suc zero)) l =
+      eqb-true _ _ (and-true (eqb (getD ws 2 0) 0) _ (and-true (eqb (getD ws 1 0) 0) _ (and-true (eqb (getD ws 0 0) 0) _ e .1) .1) .0)
+  word-none (suc (suc (suc zero))) l =
+      eqb-true _ _ (and-true (eqb (getD ws 2 0) 0) _ (and-true (eqb (getD ws 1 0) 0) _ (and-true (eqb (getD ws 0 0) 0) _ e .1) .1) .1)
+  word-none (suc (suc (suc (suc v)))) l = absurd (omega arith)
+
+  place-none : (i : ℕ) → i < most → placeIn ws i ≡ false
+  place-none i l =
+      let d : i / 64 < words = omega arith in
+      ap (λ (x : ℕ). place x (i % 64)) (word-none (i / 64) d) ∙ bit-none (63 - i % 64)
+
+  -- a rule whose words they are holds of no alert
+  rule-none : (f : ℕ → Bool) → ws ≡ wordsBy words f → (i : ℕ) → i < most → f i ≡ false
+  rule-none f z i l = sym (placeIn-each words f i (omega arith)) ∙ ap (λ (xs : List ℕ). placeIn xs i) (sym z) ∙ place-none i l
+
+-- ── pings ──
+
+-- neither fails
+neither : (a b : Bool) → not (a || b) ≡ true → (a ≡ false) × (b ≡ false)
+neither true b e = absurd (false≢true e)
+neither false true e = absurd (false≢true e)
+neither false false e = (refl, refl)
+
+-- what `pace` tells is what the links alone promise
+module _ (n : ℕ) (k : Links) (c : Timer) (pingable : Bool) (s : Sample) (r : Paced) (a b : Bool) (p : PacedBy n k c false pingable s r)
+    (y : a ≡ noneSet (r .events)) (z : b ≡ noneSet (r .equal)) where
+  abbrev steady : Bool
+  steady = not (r .«fails_alert» || r .«fails_line»)
+
+  pub linked-by : LinkedBy n k c pingable s (record { links = r .links; quiet = a && (b && steady) })
+  linked-by =
+      record {
+        links = p .links;
+        no-event =
+            λ q i l. rule-none (r .events) (sym y ∙ and-true a (b && steady) q .0) (happensAt n (k .receivers) (asksBy n k c false pingable s) (s .alerts)) (p .happened) i l;
+        none-equal =
+            λ q i l. rule-none (r .equal) (sym z ∙ and-true b steady (and-true a (b && steady) q .1) .0)
+            (equalAt n (k .receivers) (asksBy n k c false pingable s) (s .alerts)) (p .equals) i l;
+        no-alert-fails = λ q. sym (p .alert-fails) ∙ neither (r .«fails_alert») (r .«fails_line») (and-true b steady (and-true a (b && steady) q .1) .1) .0;
+        no-line-fails = λ q. sym (p .line-fails) ∙ neither (r .«fails_alert») (r .«fails_line») (and-true b steady (and-true a (b && steady) q .1) .1) .1;
+      }

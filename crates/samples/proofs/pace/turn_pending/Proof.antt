@@ -1,0 +1,38 @@
+-- `pace::turn_pending` meets its contract.
+-- Assumes nothing.
+use borrow.Author.Needs.{needs}
+use Rattle.samples.proofs.pace.turn_pending.Statement.{statement}
+use Rattle.samples.proofs.pace.turn_pending.Tie as tie
+
+is-line-requires : tie.Need-is-line-requires
+is-line-requires c κs = search needs
+
+line-of-requires : tie.Need-line-of-requires
+line-of-requires c κs = search needs
+
+is-line-set-requires : tie.Need-is-line-set-requires
+is-line-set-requires c κs = search needs
+
+cast-result : tie.Need-cast-result
+cast-result c = search needs
+
+is-at-requires : tie.Need-is-at-requires
+is-at-requires c κs = search needs
+
+returns : tie.Need-returns
+returns c = simp (← c .before .before .before .is-line .ensures, c .before .before .if1 .taken, c .is-line-set .ensures, c .before .line-of .ensures .0)
+
+returns-2 : tie.Need-returns-2
+returns-2 c = simp (← c .before .before .before .before .before .is-line .ensures, c .before .before .before .before .if1 .left, c .is-at .ensures)
+
+pub turn-pending-spec : {M : Type 1} → statement M
+turn-pending-spec =
+    tie.close
+    (tie.spec
+    is-line-requires
+    line-of-requires
+    is-line-set-requires
+    cast-result
+    is-at-requires
+    returns
+    returns-2)
