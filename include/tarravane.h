@@ -13,14 +13,16 @@
  * The promises are proved for the functions of crates/boundary. Trusted: the compiler's back end, the C ABI, this header.
  *
  * The stack that a call takes below its caller's frame, argument and result included, whatever the lengths of its lists:
- *   tarravane_new 3176 bytes
- *   tarravane_tick 38600 bytes
- *   tarravane_hear 22456 bytes
- *   tarravane_batch_24 41576 bytes
- *   tarravane_batch_70 41576 bytes
- *   tarravane_batch_pings 41576 bytes
- *   tarravane_record 136 bytes
- *   tarravane_install 70120 bytes
+ *   tarravane_new 3208 bytes
+ *   tarravane_tick 41304 bytes
+ *   tarravane_hear 22680 bytes
+ *   tarravane_batch_24 44472 bytes
+ *   tarravane_batch_70 44472 bytes
+ *   tarravane_batch_pings 44472 bytes
+ *   tarravane_batch_wires 44472 bytes
+ *   tarravane_receive 64 bytes
+ *   tarravane_record 152 bytes
+ *   tarravane_install 73160 bytes
  * Measured, not proved (tests/stack, the gate): each call ran on a stack filled with a pattern, with accesses of every kind
  * and lists of 0 to 300 entries, linked with -z now. Else the dynamic loader binds memcpy within the first call and takes
  * stack there: with it the first tarravane_new took 6344 bytes on the machine that was measured, the other calls no more. */
@@ -41,7 +43,7 @@ extern "C" {
 
 /* It rises with each change of the structs or of a function's parameters. In the library it is part of each function's name,
  * so that what was compiled against another layout does not link. */
-#define TARRAVANE_LAYOUT 3
+#define TARRAVANE_LAYOUT 4
 
 #define TARRAVANE_JOINED(name, layout) name##_layout_##layout
 #define TARRAVANE_NAMED(name, layout) TARRAVANE_JOINED(name, layout)
@@ -51,6 +53,8 @@ extern "C" {
 #define tarravane_batch_24 TARRAVANE_NAMED(tarravane_batch_24, TARRAVANE_LAYOUT)
 #define tarravane_batch_70 TARRAVANE_NAMED(tarravane_batch_70, TARRAVANE_LAYOUT)
 #define tarravane_batch_pings TARRAVANE_NAMED(tarravane_batch_pings, TARRAVANE_LAYOUT)
+#define tarravane_batch_wires TARRAVANE_NAMED(tarravane_batch_wires, TARRAVANE_LAYOUT)
+#define tarravane_receive TARRAVANE_NAMED(tarravane_receive, TARRAVANE_LAYOUT)
 #define tarravane_record TARRAVANE_NAMED(tarravane_record, TARRAVANE_LAYOUT)
 #define tarravane_install TARRAVANE_NAMED(tarravane_install, TARRAVANE_LAYOUT)
 
@@ -74,11 +78,12 @@ extern "C" {
 #define TARRAVANE_PHASES 4
 #define TARRAVANE_LINES 4
 
-/* Bytes of a trace record: of the first edition, of the one for 248 alerts, and of the newest, with what the ping timer is
- * handed; the newest is the one that is written. */
+/* Bytes of a trace record: of the first edition, of the one for 248 alerts, of the one with what the ping timer is handed,
+ * and of the newest, with the lines' receive pairs; the newest is the one that is written. */
 #define TARRAVANE_RECORD_24 24
 #define TARRAVANE_RECORD_70 70
 #define TARRAVANE_RECORD_PINGS 75
+#define TARRAVANE_RECORD_WIRES 75
 
 /* ---- The state. Read, copy and compare it freely; change it by ticks. ---- */
 
@@ -116,12 +121,27 @@ struct tarravane_turn {
                        staying at 65535 */
 };
 
+/* The senders of the four lines: line 0 is the lowest bit of each. Any bits are senders, and refusal 7 does not look at them.
+ * Bits from 4 up count for nothing, and each tick makes them 0.
+ * Where the right answer to what was sent stands, by its bits of last and deep: 0 0 at rest, 1 0 after the first tick of a
+ * pair that is on, 0 1 in the answer to a ping, 1 1 in an escalation. */
+struct tarravane_senders {
+    uint32_t on;     /* the line was on in the last tick */
+    uint32_t first;  /* that tick was the first of its being on */
+    uint32_t last;   /* the pair was on in the last tick */
+    uint32_t deep;
+    uint32_t answer; /* the right answer of the coming tick: 1 for (1,0), 0 for (0,1) */
+};
+
 /* What stands between the wires and the registers. */
 struct tarravane_links {
     struct tarravane_receivers receivers;
     struct tarravane_turn turn;
     uint32_t lines; /* the lines whose ping is open: line 0 is the lowest bit; only the turn's may be. Bits from 4 up are not
                        looked at, and no call changes them */
+    struct tarravane_senders senders;
+    uint32_t right; /* all answers to the open ping of the turn's line were right so far: the lowest bit, no other is looked
+                       at */
 };
 
 /* Entry i is alert i's. Entries at n and above are no registers: refusal 7 does not look at them, no call changes them. */
@@ -202,26 +222,42 @@ struct tarravane_wires {
 /* The sample of a tick: all that comes in beside the access. */
 struct tarravane_sample {
     struct tarravane_wires alerts;
-    uint32_t word;    /* the entropy word, fresh in every tick and unpredictable: see tarravane_tick */
-    uint32_t answers; /* the lines whose ping is answered in this tick: line 0 is the lowest bit; bits from 4 up count for
-                         nothing */
+    uint32_t word;             /* the entropy word, fresh in every tick and unpredictable: see tarravane_tick */
+    uint16_t receive_positive; /* what the lines' receivers send back: the positive and the negative wires of their pairs, */
+    uint16_t receive_negative; /* line 0 at the lowest bit; bits from 4 up count for nothing */
 };
 
-/* A sample at rest, to initialise one or a constant: all wires at (0,1), the word 0 and no answer. Start from it and set what
- * is not at rest: a caller who does needs no change when inputs join, as they are at rest there. Where the ping timer is on,
- * the word is not left at rest. */
-#define TARRAVANE_SAMPLE_AT_REST {{{0, 0, 0, 0}, {UINT64_MAX, UINT64_MAX, UINT64_MAX, UINT64_MAX}}, 0, 0}
+/* The pairs of the four lines at (0,1): the positive and the negative wires. */
+#define TARRAVANE_LINES_AT_REST_POSITIVE 0
+#define TARRAVANE_LINES_AT_REST_NEGATIVE 15
+
+/* A sample at rest, to initialise one or a constant: all wires at (0,1), the receive pairs too, and the word 0. Start from it
+ * and set what is not at rest: a caller who does needs no change when inputs join, as they are at rest there. Where the ping
+ * timer is on, the word is not left at rest; and where a line comes on or is pinged, nor are the receive pairs, as (0,1) is
+ * not what a sound receiver sends then. */
+#define TARRAVANE_SAMPLE_AT_REST \
+    {{{0, 0, 0, 0}, {UINT64_MAX, UINT64_MAX, UINT64_MAX, UINT64_MAX}}, 0, TARRAVANE_LINES_AT_REST_POSITIVE, \
+     TARRAVANE_LINES_AT_REST_NEGATIVE}
 
 /* ---- What comes back ---- */
 
+/* The lines' pairs: line 0 is the lowest bit of both. Bits from 4 up are 0 in what comes back. */
+struct tarravane_line_pairs {
+    uint32_t pos;
+    uint32_t neg;
+};
+
 /* Interrupts and escalation lines: class and line 0 are the lowest bits. Then what the handler sends to the alerts, a pair to
  * each, in the wires' order of bits. The pair (0,1) has the positive bit 0 and the negative bit 1; so has every place at n and
- * above, 248 to 255 too. */
+ * above, 248 to 255 too. Then what it sends on the lines, a pair on each: the line as classes have it is its bit of lines, the
+ * pair has a lone tick of it lengthened and the pings beside. */
 struct tarravane_output {
     uint32_t interrupts;
     uint32_t lines;
     struct tarravane_wires acknowledge; /* (1,0) from the tick after a rise is taken up to the one in which its drop is read */
     struct tarravane_wires ping;        /* each ping that opens changes its level */
+    struct tarravane_line_pairs escalation; /* (1,0) while the line is on, in the tick after a lone tick of it, and for one
+                                               tick as a ping */
 };
 
 struct tarravane_made {
@@ -255,6 +291,23 @@ struct tarravane_installed {
     uint8_t spare[6];         /* 0 */
 };
 
+/* The receivers at the ends of the four lines, one for each: see tarravane_receive. Line 0 is the lowest bit of each; bits from
+ * 4 up count for nothing, and 0 in all are new receivers. */
+struct tarravane_line_receivers {
+    uint32_t last;   /* its pair was on in the last tick */
+    uint32_t deep;   /* with last: 0 0 at rest, 1 0 after the first tick of a pair, 0 1 answering a ping, 1 1 escalating */
+    uint32_t answer; /* the answer of the coming tick */
+    uint32_t broken; /* its wires were equal in the last tick */
+};
+
+/* What they send back in a tick, and what they see in it: bits from 4 up are 0. */
+struct tarravane_listened {
+    struct tarravane_line_receivers receivers; /* after the tick */
+    uint32_t positive;                         /* the pairs that they send in it */
+    uint32_t negative;
+    uint32_t seen; /* the lines whose receiver sees an escalation in it */
+};
+
 /* ---- Refusal numbers: an answer of -number ---- */
 
 #define TARRAVANE_NO_REGISTER 1   /* no such register */
@@ -264,8 +317,8 @@ struct tarravane_installed {
 #define TARRAVANE_BAD_RECORD 5    /* trace record malformed, or a kind over 2 */
 #define TARRAVANE_BAD_COUNT 6     /* n is 0 or over 248 */
 #define TARRAVANE_BAD_STATE 7     /* n over 248, a register or staged value over its bits, a STATE of 2, a count that its state
-                                     rules out, an open ping that isn't the turn's; by the older batches also PING_TIMER_EN
-                                     at 1, and by tarravane_batch_24 n over 64 */
+                                     rules out, an open ping that isn't the turn's; by batches of 24 and 70 bytes also
+                                     PING_TIMER_EN at 1, and by tarravane_batch_24 n over 64 */
 #define TARRAVANE_BAD_LENGTH 8    /* batch length not a multiple of its record's bytes */
 #define TARRAVANE_SHORT_LIST 9    /* output list shorter than the records */
 #define TARRAVANE_NO_RECORD 10    /* an access that no well-formed record holds */
@@ -367,8 +420,8 @@ struct tarravane_installed {
 /* ---- The functions ---- */
 
 /* Makes a handler for n alerts, 1 to 248: all REGWEN and CLR_REGWEN at 1, all CTRL at 0x393C, every other register at 0,
- * classes Idle, receivers ready, their ping pairs at (0,1) and no ping open, the ping timer off, no stage, and so the entries
- * at n and above; answers 0.
+ * classes Idle, receivers ready, their ping pairs at (0,1) and no ping open, senders at rest, the ping timer off, no stage, and
+ * so the entries at n and above; answers 0.
  * -6: n is 0 or over 248. It leaves a handler of no alerts, otherwise as new. */
 TARRAVANE_RESULT
 struct tarravane_made tarravane_new(size_t n);
@@ -388,13 +441,28 @@ struct tarravane_made tarravane_new(size_t n);
  * after the access and before the wires are read. An alert that is not locked and enabled then, at n and above too, is not
  * pinged, and the turn ends. Else the ping opens; an alert's changes the level of its ping pair.
  * A rise that is taken while the alert's ping is open, in the tick in which it opens too, answers and closes it and is no
- * event; any other that is taken is one event, in this tick. A line's ping is answered by its bit of answers; a bit of a line
- * whose ping is not open counts for nothing. A ping that is open and not answered up to and in the first tick that is
- * PING_TIMEOUT_CYC or more ticks after it opened fails there: local alert 0 for an alert, 1 for a line, occurs if it is
- * enabled, and enabled or not the ping closes. An answer and a failure end the turn.
+ * event; any other that is taken is one event, in this tick. A line's ping is answered in the fourth tick after the one in
+ * which it opened, if its receive pair was right in all four; else never. A ping that is open and not answered up to and in the
+ * first tick that is PING_TIMEOUT_CYC or more ticks after it opened fails there: local alert 0 for an alert, 1 for a line,
+ * occurs if it is enabled, and enabled or not the ping closes; so at a timeout of 1 to 3 a line's ping always fails. An answer
+ * and a failure end the turn.
+ * The lines' pairs: a line that is on holds its pair at (1,0), and one that is on for a single tick for two; a line's ping is
+ * (1,0) for one tick. A sound receiver sends back, from the tick after the pair comes on to the tick after it goes off, (1,0)
+ * and (0,1) in turn, and 1010, one tick each, after a ping alone; a line that comes on within those four goes on with them in
+ * turn. So the receive pair that is right in a tick is known from what was sent up to the tick before. Equal wires, or another
+ * answer than the right one, of any of the four make local alert 3 occur, if it is enabled, once in a tick, whether the timer
+ * or the line is on or not; the answers that are right afterwards stay the same. A cut or shorted cable of a line shows so in
+ * the first tick after its pair comes on, pings too; a pinged line that is cut also lets local alert 1 occur at the timeout.
+ * A line that is on closes its open ping unfailed, the turn ends there. A ping that is due in a tick in which its line is on, or
+ * in the tick after a pair that was on for the line, is not sent, and the turn ends. A timeout reached in the same tick comes
+ * first: local alert 1 occurs.
+ * The caller owes the receive pairs as the wires have them in this tick: what a receiver sends in a tick goes by the pairs of
+ * the ticks before, those of output.escalation. Who has no receivers simulates them by tarravane_receive. Who leaves the
+ * receive pairs at rest makes local alert 3 occur wherever a line comes on or is pinged.
  * The caller owes a fresh word in each tick, one that nobody can foresee: who foresees it knows which alert is pinged next and
  * when, and can answer there in place of a sender that was cut off.
- * -7: the state breaks its rule. State unchanged, tick not run, interrupts and lines 0, all pairs (0,1).
+ * -7: the state breaks its rule. State unchanged, tick not run, interrupts and lines 0, all pairs (0,1): those of the lines
+ * have positive 0 and negative 15, whatever the senders held.
  * -5 (kind over 2), -1, -2, -4, -14, -3, -12, in this order: no register is changed by the access; the tick runs with its
  * sample. -3 and -12 drop the stage of the register that is named, the others touch none. */
 TARRAVANE_RESULT
@@ -402,24 +470,47 @@ struct tarravane_answered tarravane_tick(struct tarravane_handler h, uint8_t kin
                                          uint32_t value, struct tarravane_sample sample);
 
 /* Says what the tick of the same arguments hears: the alerts below n that have an event, enabled or not, those whose open ping
- * is answered, and the local alerts that occur, the enabled ones with a reason to: 0 and 1 where a ping fails. Its answer is
- * the tick's. It changes nothing: the tick itself is tarravane_tick.
+ * is answered, and the local alerts that occur, the enabled ones with a reason to: 0 and 1 where a ping fails, 3 where a
+ * receive pair is not the right one. Its answer is the tick's. It changes nothing: the tick itself is tarravane_tick.
  * -7: the state breaks its rule. Nothing is heard: all bits 0. */
 TARRAVANE_RESULT
 struct tarravane_heard tarravane_hear(struct tarravane_handler h, uint8_t kind, uint16_t register_number, uint32_t value,
                                       struct tarravane_sample sample);
 
+/* What receivers at the ends of the four lines do in a tick in which the lines' pairs are (positive, negative), line 0 at the
+ * lowest bit: what they send back in it, and which of them see an escalation. It is for who simulates a system and has no
+ * receivers, and for tests; no other call asks it. Zeros in r are new receivers, and any bits are four receivers.
+ * A receiver sees an escalation where its pair is on in this tick and in the one before, so never in a ping, and at once where
+ * its wires are equal. It answers what is on as tarravane_tick says; equal wires it answers by equal wires from the next tick
+ * on, (0,0) first and then (1,1) and (0,0) in turn, and in the first sound tick after them it starts as a new one.
+ * What it sends in a tick does not hang on the pairs of that tick. So one tick of a simulation is: the receive pairs by
+ * tarravane_receive of r and any pairs, tarravane_tick with them, then r after it by tarravane_receive of r and the pairs of
+ * output.escalation. Bits from 4 up of all arguments count for nothing. */
+TARRAVANE_RESULT
+struct tarravane_listened tarravane_receive(struct tarravane_line_receivers r, uint32_t positive, uint32_t negative);
+
 /* Runs a tick for each record of 75 bytes, one after another from the state h, and writes a word for each at its place in
  * out: bits 63 to 60 interrupts (class 0 first), 59 to 56 lines (line 0 first), 55 to 52 the refusal number or 0, then 20
  * zeros and the 32 bits of the value that was read, or 0. Later words stay as they were. Gives the state after the last
  * tick, and 0. A record that gets refusal 1 to 5, 12 or 14 still takes its tick, and the batch goes on; its word says so.
- * A record ends with the entropy word, 32 bits, most significant first, and a byte of four zero bits and four answer bits,
- * line 0 first: line 0 is bit 3 of that byte, and the lowest bit of a sample's answers. Zero bits that are not 0 make the
- * record malformed (5); its word and answer bits count all the same. Words do not show the pairs.
+ * A record ends with the entropy word, 32 bits, most significant first, and a byte of the four receive pairs, line 0 and the
+ * positive wire first: p0 n0 p1 n1 p2 n2 p3 n3, p0 being bit 7. Each is checked as tarravane_tick checks it, and no bit of
+ * the byte makes a record malformed; those of a malformed record count all the same. Words do not show the pairs.
  * -7: the state breaks its rule. -8: length is not a multiple of 75. -9: words is less than length / 75. In this order;
  * each leaves state and list unchanged.
  * The caller owes: bytes points to length readable bytes, out to words writable words, aligned; they do not overlap;
  * neither is null, also where its length is 0. */
+TARRAVANE_RESULT
+struct tarravane_batched tarravane_batch_wires(struct tarravane_handler h, const uint8_t *bytes, size_t length, uint64_t *out,
+                                               size_t words);
+
+/* The same for the records of 75 bytes whose trace begins with 254. Their last byte is four zero bits and four answer bits,
+ * line 0 first: line 0 is bit 3. Zero bits that are not 0 make the record malformed (5); its word and answer bits count all the
+ * same. A line's ping is answered by its bit; a bit of a line whose ping is not open counts for nothing. In these and all older
+ * records nobody checks receive pairs: local alert 3 never occurs, and a line closes no ping and keeps none from opening.
+ * Such a batch may follow and precede ticks and batches that do check, the timer on or off. The senders send in its ticks as in
+ * any other, so the next checked tick asks for the answers to that; and an answer that nobody checked is no right one, so a
+ * ping that was open in such a tick is answered by a bit there or not at all. */
 TARRAVANE_RESULT
 struct tarravane_batched tarravane_batch_pings(struct tarravane_handler h, const uint8_t *bytes, size_t length, uint64_t *out,
                                                size_t words);
@@ -438,15 +529,15 @@ TARRAVANE_RESULT
 struct tarravane_batched tarravane_batch_24(struct tarravane_handler h, const uint8_t *bytes, size_t length, uint64_t *out,
                                             size_t words);
 
-/* Writes a trace record of 75 bytes for each entry of the seven lists, one after another from the start of bytes, and
+/* Writes a trace record of 75 bytes for each entry of the eight lists, one after another from the start of bytes, and
  * answers the bytes written: 75 times the entries. Entry i of kinds, registers and values is the access of record i:
  * TARRAVANE_NONE with register and value 0, TARRAVANE_READ with value 0, or TARRAVANE_WRITE. Its wires are the
  * TARRAVANE_WORDS words of positive and of negative from i * TARRAVANE_WORDS on, as in struct tarravane_wires; places 248
- * to 255 are left out, whatever they hold. Entry i of entropy is its word. Entry i of answers has line 0 at the lowest bit, as
- * in struct tarravane_sample; bits 4 to 7 count for nothing and are left out.
+ * to 255 are left out, whatever they hold. Entry i of entropy is its word. Entries i of receive_positive and
+ * receive_negative have line 0 at the lowest bit, as in struct tarravane_sample; bits 4 to 7 count for nothing and are left out.
  * Later bytes stay as they were. No entries: nothing is written, and it answers 0.
- * Reading what was written (tarravane_batch_pings) gives these accesses, the wires of all 248 alerts, words and answers;
- * writing what was read of a well-formed record gives its bytes.
+ * Reading what was written (tarravane_batch_wires) gives these accesses, the wires of all 248 alerts, words and receive pairs;
+ * writing what was read of a well-formed record gives its bytes. Records of 254 are not written here.
  * -10: an entry that no well-formed record holds (a kind over 2, TARRAVANE_NONE with a register or value, a read with a
  * value, a register over 2047), or lists of unequal lengths (positive and negative: TARRAVANE_WORDS for each entry).
  * -11: length is less than 75 times the entries. In this order; each leaves bytes as they were.
@@ -456,12 +547,13 @@ TARRAVANE_RESULT
 int64_t tarravane_record(const uint8_t *kinds, size_t kinds_length, const uint16_t *registers, size_t registers_length,
                          const uint32_t *values, size_t values_length, const uint64_t *positive, size_t positive_length,
                          const uint64_t *negative, size_t negative_length, const uint32_t *entropy, size_t entropy_length,
-                         const uint8_t *answers, size_t answers_length, uint8_t *bytes, size_t length);
+                         const uint8_t *receive_positive, size_t receive_positive_length, const uint8_t *receive_negative,
+                         size_t receive_negative_length, uint8_t *bytes, size_t length);
 
 /* Boots the state h: installs document 002's classification of alerts 0 to 57 and its class settings for the lifecycle, one
- * access a tick with all wires at (0,1), the entropy word 0 and no answer. In this order, numbers rising: CLASS, then EN of
- * each alert; ACCUM_THRESH, TIMEOUT_CYC, PHASE0_CYC to PHASE3_CYC and CTRL of each class; REGWEN of each alert that is locked,
- * and of class A. Each is written, twice where it is shadowed, and read back right after.
+ * access a tick with all wires at (0,1), the receive pairs too, and the entropy word 0. In this order, numbers rising: CLASS,
+ * then EN of each alert; ACCUM_THRESH, TIMEOUT_CYC, PHASE0_CYC to PHASE3_CYC and CTRL of each class; REGWEN of each alert that
+ * is locked, and of class A. Each is written, twice where it is shadowed, and read back right after.
  * An alert that the table marks X gets CLASS 0 and EN 0, one marked A to D its class and EN 1. CTRL is 0x393C, with EN for
  * A and B in PROD, PROD_END and DEV, and with LOCK for A in PROD and PROD_END. Alerts marked A and class A are locked there
  * alone. Local alerts, alerts from 58 up and the ping timer's registers are not written: boot first, then turn the timer on.
@@ -476,7 +568,8 @@ int64_t tarravane_record(const uint8_t *kinds, size_t kinds_length, const uint16
  * register_number 0.
  * A whole boot is 432 ticks, 474 in PROD and PROD_END, whose interrupts and lines nobody sees. A class that runs moves on in
  * them, its lines included; a stop by -12 raises local alert 5 where that is enabled, and so can start a class. So does the
- * ping timer where it is on: its pings open, get no answer and can fail, and every word is 0. */
+ * ping timer where it is on: its pings open, get no answer and can fail, and every word is 0. Where local alert 3 is enabled it
+ * occurs in a boot while a line is on, in the tick after, and while a ping of a line is to be answered. */
 TARRAVANE_RESULT
 struct tarravane_installed tarravane_install(struct tarravane_handler h, uint8_t lifecycle);
 
@@ -514,10 +607,18 @@ TARRAVANE_ASSERT(sizeof(struct tarravane_turn) == 4);
 TARRAVANE_ASSERT(offsetof(struct tarravane_turn, number) == 0);
 TARRAVANE_ASSERT(offsetof(struct tarravane_turn, alert) == 1);
 TARRAVANE_ASSERT(offsetof(struct tarravane_turn, count) == 2);
-TARRAVANE_ASSERT(sizeof(struct tarravane_links) == 136);
+TARRAVANE_ASSERT(sizeof(struct tarravane_senders) == 20);
+TARRAVANE_ASSERT(offsetof(struct tarravane_senders, on) == 0);
+TARRAVANE_ASSERT(offsetof(struct tarravane_senders, first) == 4);
+TARRAVANE_ASSERT(offsetof(struct tarravane_senders, last) == 8);
+TARRAVANE_ASSERT(offsetof(struct tarravane_senders, deep) == 12);
+TARRAVANE_ASSERT(offsetof(struct tarravane_senders, answer) == 16);
+TARRAVANE_ASSERT(sizeof(struct tarravane_links) == 160);
 TARRAVANE_ASSERT(offsetof(struct tarravane_links, receivers) == 0);
 TARRAVANE_ASSERT(offsetof(struct tarravane_links, turn) == 128);
 TARRAVANE_ASSERT(offsetof(struct tarravane_links, lines) == 132);
+TARRAVANE_ASSERT(offsetof(struct tarravane_links, senders) == 136);
+TARRAVANE_ASSERT(offsetof(struct tarravane_links, right) == 156);
 TARRAVANE_ASSERT(sizeof(struct tarravane_alerts) == 992);
 TARRAVANE_ASSERT(offsetof(struct tarravane_alerts, en) == 248);
 TARRAVANE_ASSERT(offsetof(struct tarravane_alerts, class_of) == 496);
@@ -546,41 +647,53 @@ TARRAVANE_ASSERT(offsetof(struct tarravane_stages, classes) == 0);
 TARRAVANE_ASSERT(offsetof(struct tarravane_stages, alerts) == 192);
 TARRAVANE_ASSERT(offsetof(struct tarravane_stages, locals) == 688);
 TARRAVANE_ASSERT(offsetof(struct tarravane_stages, timeout) == 744);
-TARRAVANE_ASSERT(sizeof(struct tarravane_handler) == 2072);
+TARRAVANE_ASSERT(sizeof(struct tarravane_handler) == 2096);
 TARRAVANE_ASSERT(offsetof(struct tarravane_handler, n) == 0);
 TARRAVANE_ASSERT(offsetof(struct tarravane_handler, links) == 8);
-TARRAVANE_ASSERT(offsetof(struct tarravane_handler, classes) == 144);
-TARRAVANE_ASSERT(offsetof(struct tarravane_handler, alerts) == 288);
-TARRAVANE_ASSERT(offsetof(struct tarravane_handler, locals) == 1280);
-TARRAVANE_ASSERT(offsetof(struct tarravane_handler, interrupts) == 1308);
-TARRAVANE_ASSERT(offsetof(struct tarravane_handler, timer) == 1312);
-TARRAVANE_ASSERT(offsetof(struct tarravane_handler, stages) == 1320);
+TARRAVANE_ASSERT(offsetof(struct tarravane_handler, classes) == 168);
+TARRAVANE_ASSERT(offsetof(struct tarravane_handler, alerts) == 312);
+TARRAVANE_ASSERT(offsetof(struct tarravane_handler, locals) == 1304);
+TARRAVANE_ASSERT(offsetof(struct tarravane_handler, interrupts) == 1332);
+TARRAVANE_ASSERT(offsetof(struct tarravane_handler, timer) == 1336);
+TARRAVANE_ASSERT(offsetof(struct tarravane_handler, stages) == 1344);
 TARRAVANE_ASSERT(sizeof(struct tarravane_wires) == 64);
 TARRAVANE_ASSERT(offsetof(struct tarravane_wires, neg) == 32);
 TARRAVANE_ASSERT(sizeof(struct tarravane_sample) == 72);
 TARRAVANE_ASSERT(offsetof(struct tarravane_sample, alerts) == 0);
 TARRAVANE_ASSERT(offsetof(struct tarravane_sample, word) == 64);
-TARRAVANE_ASSERT(offsetof(struct tarravane_sample, answers) == 68);
-TARRAVANE_ASSERT(sizeof(struct tarravane_output) == 136);
+TARRAVANE_ASSERT(offsetof(struct tarravane_sample, receive_positive) == 68);
+TARRAVANE_ASSERT(offsetof(struct tarravane_sample, receive_negative) == 70);
+TARRAVANE_ASSERT(sizeof(struct tarravane_line_pairs) == 8);
+TARRAVANE_ASSERT(offsetof(struct tarravane_line_pairs, neg) == 4);
+TARRAVANE_ASSERT(sizeof(struct tarravane_output) == 144);
 TARRAVANE_ASSERT(offsetof(struct tarravane_output, lines) == 4);
 TARRAVANE_ASSERT(offsetof(struct tarravane_output, acknowledge) == 8);
 TARRAVANE_ASSERT(offsetof(struct tarravane_output, ping) == 72);
-TARRAVANE_ASSERT(sizeof(struct tarravane_made) == 2080);
-TARRAVANE_ASSERT(offsetof(struct tarravane_made, answer) == 2072);
-TARRAVANE_ASSERT(sizeof(struct tarravane_answered) == 2216);
-TARRAVANE_ASSERT(offsetof(struct tarravane_answered, answer) == 2072);
-TARRAVANE_ASSERT(offsetof(struct tarravane_answered, output) == 2080);
+TARRAVANE_ASSERT(offsetof(struct tarravane_output, escalation) == 136);
+TARRAVANE_ASSERT(sizeof(struct tarravane_made) == 2104);
+TARRAVANE_ASSERT(offsetof(struct tarravane_made, answer) == 2096);
+TARRAVANE_ASSERT(sizeof(struct tarravane_answered) == 2248);
+TARRAVANE_ASSERT(offsetof(struct tarravane_answered, answer) == 2096);
+TARRAVANE_ASSERT(offsetof(struct tarravane_answered, output) == 2104);
 TARRAVANE_ASSERT(sizeof(struct tarravane_heard) == 80);
 TARRAVANE_ASSERT(offsetof(struct tarravane_heard, events) == 0);
 TARRAVANE_ASSERT(offsetof(struct tarravane_heard, answers) == 32);
 TARRAVANE_ASSERT(offsetof(struct tarravane_heard, locals) == 64);
 TARRAVANE_ASSERT(offsetof(struct tarravane_heard, answer) == 72);
-TARRAVANE_ASSERT(sizeof(struct tarravane_batched) == 2080);
-TARRAVANE_ASSERT(offsetof(struct tarravane_batched, answer) == 2072);
-TARRAVANE_ASSERT(sizeof(struct tarravane_installed) == 2088);
-TARRAVANE_ASSERT(offsetof(struct tarravane_installed, answer) == 2072);
-TARRAVANE_ASSERT(offsetof(struct tarravane_installed, register_number) == 2080);
-TARRAVANE_ASSERT(offsetof(struct tarravane_installed, spare) == 2082);
+TARRAVANE_ASSERT(sizeof(struct tarravane_batched) == 2104);
+TARRAVANE_ASSERT(offsetof(struct tarravane_batched, answer) == 2096);
+TARRAVANE_ASSERT(sizeof(struct tarravane_installed) == 2112);
+TARRAVANE_ASSERT(offsetof(struct tarravane_installed, answer) == 2096);
+TARRAVANE_ASSERT(offsetof(struct tarravane_installed, register_number) == 2104);
+TARRAVANE_ASSERT(offsetof(struct tarravane_installed, spare) == 2106);
+TARRAVANE_ASSERT(sizeof(struct tarravane_line_receivers) == 16);
+TARRAVANE_ASSERT(offsetof(struct tarravane_line_receivers, deep) == 4);
+TARRAVANE_ASSERT(offsetof(struct tarravane_line_receivers, answer) == 8);
+TARRAVANE_ASSERT(offsetof(struct tarravane_line_receivers, broken) == 12);
+TARRAVANE_ASSERT(sizeof(struct tarravane_listened) == 28);
+TARRAVANE_ASSERT(offsetof(struct tarravane_listened, positive) == 16);
+TARRAVANE_ASSERT(offsetof(struct tarravane_listened, negative) == 20);
+TARRAVANE_ASSERT(offsetof(struct tarravane_listened, seen) == 24);
 
 TARRAVANE_ASSERT(sizeof(struct tarravane_class) == TARRAVANE_SIZE(class, lengths) + TARRAVANE_SIZE(class, timeout) +
                  TARRAVANE_SIZE(class, count) + TARRAVANE_SIZE(class, ctrl) + TARRAVANE_SIZE(class, accum) +
@@ -590,8 +703,10 @@ TARRAVANE_ASSERT(sizeof(struct tarravane_receivers) == TARRAVANE_SIZE(receivers,
                  TARRAVANE_SIZE(receivers, level) + TARRAVANE_SIZE(receivers, pending));
 TARRAVANE_ASSERT(sizeof(struct tarravane_turn) == TARRAVANE_SIZE(turn, number) + TARRAVANE_SIZE(turn, alert) +
                  TARRAVANE_SIZE(turn, count));
+TARRAVANE_ASSERT(sizeof(struct tarravane_senders) == TARRAVANE_SIZE(senders, on) + TARRAVANE_SIZE(senders, first) +
+                 TARRAVANE_SIZE(senders, last) + TARRAVANE_SIZE(senders, deep) + TARRAVANE_SIZE(senders, answer));
 TARRAVANE_ASSERT(sizeof(struct tarravane_links) == TARRAVANE_SIZE(links, receivers) + TARRAVANE_SIZE(links, turn) +
-                 TARRAVANE_SIZE(links, lines));
+                 TARRAVANE_SIZE(links, lines) + TARRAVANE_SIZE(links, senders) + TARRAVANE_SIZE(links, right));
 TARRAVANE_ASSERT(sizeof(struct tarravane_alerts) == TARRAVANE_SIZE(alerts, regwen) + TARRAVANE_SIZE(alerts, en) +
                  TARRAVANE_SIZE(alerts, class_of) + TARRAVANE_SIZE(alerts, cause));
 TARRAVANE_ASSERT(sizeof(struct tarravane_locals) == TARRAVANE_SIZE(locals, regwen) + TARRAVANE_SIZE(locals, en) +
@@ -614,9 +729,10 @@ TARRAVANE_ASSERT(sizeof(struct tarravane_handler) == TARRAVANE_SIZE(handler, n) 
                  TARRAVANE_SIZE(handler, interrupts) + TARRAVANE_SIZE(handler, timer) + TARRAVANE_SIZE(handler, stages));
 TARRAVANE_ASSERT(sizeof(struct tarravane_wires) == TARRAVANE_SIZE(wires, pos) + TARRAVANE_SIZE(wires, neg));
 TARRAVANE_ASSERT(sizeof(struct tarravane_sample) == TARRAVANE_SIZE(sample, alerts) + TARRAVANE_SIZE(sample, word) +
-                 TARRAVANE_SIZE(sample, answers));
+                 TARRAVANE_SIZE(sample, receive_positive) + TARRAVANE_SIZE(sample, receive_negative));
+TARRAVANE_ASSERT(sizeof(struct tarravane_line_pairs) == TARRAVANE_SIZE(line_pairs, pos) + TARRAVANE_SIZE(line_pairs, neg));
 TARRAVANE_ASSERT(sizeof(struct tarravane_output) == TARRAVANE_SIZE(output, interrupts) + TARRAVANE_SIZE(output, lines) +
-                 TARRAVANE_SIZE(output, acknowledge) + TARRAVANE_SIZE(output, ping));
+                 TARRAVANE_SIZE(output, acknowledge) + TARRAVANE_SIZE(output, ping) + TARRAVANE_SIZE(output, escalation));
 TARRAVANE_ASSERT(sizeof(struct tarravane_made) == TARRAVANE_SIZE(made, handler) + TARRAVANE_SIZE(made, answer));
 TARRAVANE_ASSERT(sizeof(struct tarravane_answered) == TARRAVANE_SIZE(answered, handler) + TARRAVANE_SIZE(answered, answer) +
                  TARRAVANE_SIZE(answered, output));
@@ -626,6 +742,11 @@ TARRAVANE_ASSERT(sizeof(struct tarravane_batched) == TARRAVANE_SIZE(batched, han
 TARRAVANE_ASSERT(sizeof(struct tarravane_installed) == TARRAVANE_SIZE(installed, handler) +
                  TARRAVANE_SIZE(installed, answer) + TARRAVANE_SIZE(installed, register_number) +
                  TARRAVANE_SIZE(installed, spare));
+TARRAVANE_ASSERT(sizeof(struct tarravane_line_receivers) == TARRAVANE_SIZE(line_receivers, last) +
+                 TARRAVANE_SIZE(line_receivers, deep) + TARRAVANE_SIZE(line_receivers, answer) +
+                 TARRAVANE_SIZE(line_receivers, broken));
+TARRAVANE_ASSERT(sizeof(struct tarravane_listened) == TARRAVANE_SIZE(listened, receivers) +
+                 TARRAVANE_SIZE(listened, positive) + TARRAVANE_SIZE(listened, negative) + TARRAVANE_SIZE(listened, seen));
 
 #ifdef __cplusplus
 }

@@ -18,34 +18,38 @@ __attribute__((noinline)) static void dirty(unsigned char byte) {
     dirty(byte);                          \
     name = call
 
-/* Everything that the five kinds of calls return. */
+/* Everything that the kinds of calls return. */
 struct results {
     struct tarravane_made made, refused;
     struct tarravane_answered tick, broken;
     struct tarravane_heard heard, unheard;
     struct tarravane_batched batch, uneven;
     struct tarravane_installed boot, stopped;
+    struct tarravane_listened listened;
 };
 
 static void run(struct results *r, unsigned char byte) {
-    static const uint8_t records[2 * TARRAVANE_RECORD_PINGS];
+    static const uint8_t records[2 * TARRAVANE_RECORD_WIRES];
     static uint64_t words[2];
     GIVEN(struct tarravane_made, made, tarravane_new(TARRAVANE_ALERTS));
     GIVEN(struct tarravane_made, refused, tarravane_new(0));
     struct tarravane_sample drawn = raised(247);
     drawn.word = drawing(9, 300);
-    drawn.answers = UINT32_MAX;
+    drawn.receive_positive = drawn.receive_negative = UINT16_MAX;
     GIVEN(struct tarravane_answered, tick, tarravane_tick(made.handler, TARRAVANE_WRITE, TARRAVANE_PING_TIMER_EN, 1, drawn));
     GIVEN(struct tarravane_heard, heard, tarravane_hear(made.handler, TARRAVANE_WRITE, TARRAVANE_PING_TIMER_EN, 1, drawn));
     handler bad = tick.handler;
     bad.n = SIZE_MAX;
     GIVEN(struct tarravane_answered, broken, tarravane_tick(bad, TARRAVANE_READ, 0, 0, at_rest));
     GIVEN(struct tarravane_heard, unheard, tarravane_hear(bad, TARRAVANE_READ, 0, 0, drawn));
-    GIVEN(struct tarravane_batched, batch, tarravane_batch_pings(tick.handler, records, sizeof records, words, 2));
-    GIVEN(struct tarravane_batched, uneven, tarravane_batch_pings(tick.handler, records, 1, words, 2));
+    GIVEN(struct tarravane_batched, batch, tarravane_batch_wires(tick.handler, records, sizeof records, words, 2));
+    GIVEN(struct tarravane_batched, uneven, tarravane_batch_wires(tick.handler, records, 1, words, 2));
     GIVEN(struct tarravane_installed, boot, tarravane_install(made.handler, TARRAVANE_LIFECYCLE_PROD));
     GIVEN(struct tarravane_installed, stopped, tarravane_install(boot.handler, TARRAVANE_LIFECYCLE_PROD));
-    *r = (struct results){made, refused, tick, broken, heard, unheard, batch, uneven, boot, stopped};
+    struct tarravane_line_receivers any = {0xF5, 0xA3, 0xC6, 0x90};
+    GIVEN(struct tarravane_listened, listened, tarravane_receive(any, UINT32_MAX, 5));
+    *r = (struct results){made, refused, tick, broken, heard, unheard, batch, uneven, boot, stopped, listened};
+    CHECK((listened.positive | listened.negative | listened.seen) < 16);
 }
 
 static bool zeros(const uint8_t spare[6]) {

@@ -3,10 +3,10 @@
 
 /* No interrupt and no line is on, and all pairs are (0,1). */
 #define LOW {{0, 0, 0, 0}, {UINT64_MAX, UINT64_MAX, UINT64_MAX, UINT64_MAX}}
-static const struct tarravane_output nothing = {0, 0, LOW, LOW};
+static const struct tarravane_output nothing = {0, 0, LOW, LOW, {0, 15}};
 
 static void refused(const handler *h) {
-    static const uint8_t record[TARRAVANE_RECORD_PINGS];
+    static const uint8_t record[TARRAVANE_RECORD_WIRES];
     uint64_t word = 7;
     struct tarravane_answered t = tarravane_tick(*h, TARRAVANE_READ, TARRAVANE_INTR_STATE, 0, at_rest);
     CHECK(t.answer == -TARRAVANE_BAD_STATE);
@@ -14,6 +14,9 @@ static void refused(const handler *h) {
     CHECK(same(&t.handler, h));
     /* 7 comes before 8, 8 before 9 */
     struct tarravane_batched b = tarravane_batch_pings(*h, record, TARRAVANE_RECORD_PINGS - 1, &word, 0);
+    CHECK(b.answer == -TARRAVANE_BAD_STATE);
+    CHECK(same(&b.handler, h));
+    b = tarravane_batch_wires(*h, record, TARRAVANE_RECORD_WIRES - 1, &word, 0);
     CHECK(b.answer == -TARRAVANE_BAD_STATE);
     CHECK(same(&b.handler, h));
     b = tarravane_batch_70(*h, record, TARRAVANE_RECORD_70 - 1, &word, 0);
@@ -218,6 +221,7 @@ static void old_batches(void) {
         accepted(&h);
         CHECK(tarravane_batch_70(h, records, 0, &word, 0).answer == 0);
         CHECK(tarravane_batch_pings(h, records, 0, &word, 0).answer == 0);
+        CHECK(tarravane_batch_wires(h, records, 0, &word, 0).answer == 0);
     }
 }
 

@@ -1,5 +1,5 @@
-/* The ping timer in records of 75 bytes: what is written is read back tick by tick, word and answers where they stand; and that
- * older records reach none of its registers. */
+/* The ping timer in records of 75 bytes: what is written is read back tick by tick, word, answers and receive pairs where they
+ * stand; and that older records reach none of its registers. */
 #include "boundary.h"
 
 #define TICKS 4000
@@ -11,9 +11,9 @@ static uint64_t next_random(void) {
     return seed ^= seed << 17;
 }
 
-/* A tick of a timer that is on: short waits, alerts below 4 and others, answers of every line, rises, and accesses to the
- * timer's registers and to the locks and enables of the first alerts. */
-static struct access some_access(void) {
+/* A tick of a timer that is on: short waits, alerts below 4 and others, right answers mostly and others, rises, and
+ * accesses to the timer's registers and to the locks and enables of the first alerts. */
+static struct access some_access(const handler *h) {
     static const uint16_t numbers[] = {4, 5, 5, 5, 6, 6, 256, 257, 512, 512, 513, 40, 41};
     struct access a = {.sample = at_rest};
     uint64_t bits = next_random();
@@ -22,7 +22,10 @@ static struct access some_access(void) {
     if (a.kind == TARRAVANE_WRITE) a.value = a.number == 4 ? 1 : a.number == 5 ? 3 : (uint32_t)(bits >> 20 & 1);
     if (bits >> 21 & 1) a.sample = raised((int)(bits >> 22 & 3));
     a.sample.word = drawing((uint32_t)(bits >> 24 & 3) * (bits >> 26 & 1 ? 1 : 83), (uint32_t)(bits >> 27 & 3));
-    a.sample.answers = (uint32_t)(bits >> 32 & bits >> 40);
+    a.sample.receive_positive = sounding(h).receive_positive;
+    a.sample.receive_negative = sounding(h).receive_negative;
+    if ((bits >> 30 & 31) == 0) a.sample.receive_positive = (uint16_t)(bits >> 40);
+    if ((bits >> 35 & 31) == 0) a.sample.receive_negative = (uint16_t)(bits >> 48);
     return a;
 }
 
@@ -36,26 +39,24 @@ static void count_pings(const handler *before, const handler *after) {
 
 /* All ticks in one batch, and one by one: the same words and the same state. */
 static void both_ways(size_t n) {
-    static uint8_t records[TICKS * TARRAVANE_RECORD_PINGS];
+    static uint8_t records[TICKS * TARRAVANE_RECORD_WIRES];
     static uint64_t words[TICKS];
-    static struct access accesses[TICKS];
+    static struct tarravane_answered given[TICKS];
     handler h = with_timer(n, 0, 3), first;
     for (int j = 0; j < 2; j++) h.classes[j].ctrl = 0x393D;
     h.locals.class_of[1] = 1;
+    h.locals.en[3] = 1;
     first = h;
     for (size_t i = 0; i < TICKS; i++) {
-        accesses[i] = some_access();
-        CHECK(written(&accesses[i], records + i * TARRAVANE_RECORD_PINGS) == TARRAVANE_RECORD_PINGS);
+        struct access a = some_access(&h);
+        CHECK(written(&a, records + i * TARRAVANE_RECORD_WIRES) == TARRAVANE_RECORD_WIRES);
+        given[i] = tarravane_tick(h, a.kind, a.number, a.value, a.sample);
+        count_pings(&h, &given[i].handler);
+        h = given[i].handler;
     }
-    struct tarravane_batched b = tarravane_batch_pings(first, records, sizeof records, words, TICKS);
+    struct tarravane_batched b = tarravane_batch_wires(first, records, sizeof records, words, TICKS);
     CHECK(b.answer == 0);
-    for (size_t i = 0; i < TICKS; i++) {
-        const struct access *a = &accesses[i];
-        struct tarravane_answered t = tarravane_tick(h, a->kind, a->number, a->value, a->sample);
-        word_says(words[i], &t);
-        count_pings(&h, &t.handler);
-        h = t.handler;
-    }
+    for (size_t i = 0; i < TICKS; i++) word_says(words[i], &given[i]);
     CHECK(same(&h, &b.handler));
 }
 

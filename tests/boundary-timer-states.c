@@ -12,6 +12,10 @@ static bool is_accepted(const handler *h) {
     struct tarravane_batched b = tarravane_batch_pings(*h, record, sizeof record, &word, 1);
     CHECK(b.answer == t.answer && word == (t.answer == 0 ? 0 : 7));
     CHECK(same(&b.handler, t.answer == 0 ? &b.handler : h));
+    word = 7;
+    b = tarravane_batch_wires(*h, record, sizeof record, &word, 1);
+    CHECK(b.answer == t.answer && word == (t.answer == 0 ? 0 : 7));
+    CHECK(same(&b.handler, t.answer == 0 ? &b.handler : h));
     struct tarravane_installed i = tarravane_install(*h, TARRAVANE_LIFECYCLE_DEV);
     CHECK((i.answer == -TARRAVANE_BAD_STATE) == (t.answer != 0));
     return t.answer == 0;
@@ -86,6 +90,7 @@ static void older_batches(size_t n) {
     }
     uint64_t words[2];
     CHECK(tarravane_batch_pings(on, records, 0, words, 0).answer == 0);
+    CHECK(tarravane_batch_wires(on, records, 0, words, 0).answer == 0);
     CHECK(tarravane_batch_70(off, records, sizeof records, words, 2).answer == 0);
     int64_t answer = tarravane_batch_24(off, records, 2 * TARRAVANE_RECORD_24, words, 2).answer;
     CHECK(answer == (n > TARRAVANE_ALERTS_24 ? -TARRAVANE_BAD_STATE : 0));

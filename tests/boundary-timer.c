@@ -37,10 +37,11 @@ static int64_t writes(handler *h, int number, uint32_t value, uint32_t word) {
     return t.answer;
 }
 
-/* A tick with these answers of lines; gives the local alerts that it hears. */
-static uint64_t answering(handler *h, uint32_t answers, uint32_t word) {
-    struct tarravane_sample s = at_rest;
-    s.answers = answers;
+/* A tick with the right receive pairs, but for these bits of both wires; gives the local alerts that it hears. */
+static uint64_t answering(handler *h, unsigned positive, unsigned negative, uint32_t word) {
+    struct tarravane_sample s = sounding(h);
+    s.receive_positive = (uint16_t)(s.receive_positive ^ positive);
+    s.receive_negative = (uint16_t)(s.receive_negative ^ negative);
     s.word = word;
     uint64_t locals = tarravane_hear(*h, TARRAVANE_NONE, 0, 0, s).locals;
     *h = tarravane_tick(*h, TARRAVANE_NONE, 0, 0, s).handler;
@@ -132,14 +133,24 @@ static void fails(handler h, uint64_t local, unsigned next, uint32_t timeout) {
 
 /* An answer is in time in the tick of the timeout, and nothing fails; one tick later the ping has failed before it. */
 static void answered_at(uint32_t timeout, uint32_t age) {
-    handler h = before_alert(7, timeout), l = before_line(2, timeout);
-    for (uint32_t t = 0; t < age; t++) CHECK(quiet(&h, 0) + quiet(&l, drawing(0, 50)) == (t == timeout ? 3 : 0));
+    handler h = before_alert(7, timeout);
+    for (uint32_t t = 0; t < age; t++) CHECK(quiet(&h, 0) == (t == timeout ? LOCAL_0 : 0));
     bool late = age > timeout;
     struct tarravane_heard heard = tarravane_hear(h, TARRAVANE_NONE, 0, 0, raised(7));
     CHECK(heard.answers[0] == (late ? 0 : bit_of_alert(7)) && heard.events[0] == (late ? bit_of_alert(7) : 0));
     CHECK(heard.locals == 0);
-    CHECK(answering(&l, 1u << 2, drawing(9, 3)) == 0);
-    CHECK(turn_is(&l, 6, late ? 0 : 9, late ? 49 : 3) && l.links.lines == 0);
+}
+
+/* A line's is answered in the fourth tick after it opened, which is in time at a timeout of 4; a shorter one comes first. */
+static void line_answered(int e, uint32_t timeout) {
+    handler h = before_line(e, timeout);
+    bool late = timeout > 0 && timeout < 4;
+    for (uint32_t age = 0; age < (late ? timeout : 4); age++) {
+        CHECK(answering(&h, 0, 0, drawing(9, 90)) == 0);
+        CHECK(h.links.lines == 1u << e && h.links.turn.count == age);
+    }
+    CHECK(answering(&h, 0, 0, drawing(9, 3)) == (late ? LOCAL_1 : 0));
+    CHECK(h.links.lines == 0 && turn_is(&h, (unsigned)(2 * e + 2) % 8, 9, 3));
 }
 
 /* "at timeout 0 it waits for its answer", also past the largest count, which stays. */
@@ -213,36 +224,38 @@ static void access_of_the_due_tick(void) {
     CHECK(alert_open(&h, 70));
 }
 
-/* A line's ping shows in no alert's pair, and its answer and its failure neither. */
+/* A line's ping shows in no alert's pair, and its answer and its failure neither; on its own pair it is one tick. */
 static void lines_show_nothing(int e) {
-    static const struct tarravane_output nothing = {
-        0, 0, {{0}, {UINT64_MAX, UINT64_MAX, UINT64_MAX, UINT64_MAX}}, {{0}, {UINT64_MAX, UINT64_MAX, UINT64_MAX, UINT64_MAX}}};
+    struct tarravane_output wanted = {
+        0, 0, {{0}, {UINT64_MAX, UINT64_MAX, UINT64_MAX, UINT64_MAX}}, {{0}, {UINT64_MAX, UINT64_MAX, UINT64_MAX, UINT64_MAX}}, {0, 15}};
     handler h = before_line(e, 2);
     for (uint32_t t = 0; t < 3; t++) {
         struct tarravane_answered given = tarravane_tick(h, TARRAVANE_NONE, 0, 0, at_rest);
-        CHECK(memcmp(&given.output, &nothing, sizeof nothing) == 0);
+        wanted.escalation.pos = t == 0 ? 1u << e : 0;
+        wanted.escalation.neg = 15 & ~wanted.escalation.pos;
+        CHECK(memcmp(&given.output, &wanted, sizeof wanted) == 0);
         h = given.handler;
     }
     CHECK(h.locals.cause[1] == 1);
 }
 
-/* A bit of the turn's line answers, in the tick in which the ping opens too; any other bit counts for nothing. */
-static void lines_answer(int e) {
-    for (int b = 0; b < 32; b++) {
-        handler h = before_line(e, 0), opened = h;
-        CHECK(quiet(&opened, 0) == 0 && opened.links.lines == 1u << e);
-        CHECK(answering(&h, 1u << b, drawing(3, 7)) == 0);
-        CHECK(answering(&opened, 1u << b, drawing(3, 7)) == 0);
-        CHECK(h.links.lines == (b == e ? 0 : 1u << e) && opened.links.lines == h.links.lines);
-        CHECK(h.links.turn.number == (b == e ? (2 * e + 2) % 8 : 2 * e + 1));
-    }
-    handler others = before_line(e, 4);
-    for (int t = 0; t < 4; t++) CHECK(answering(&others, ~(1u << e), 0) == 0);
-    CHECK(answering(&others, ~(1u << e), 0) == LOCAL_1);
-    /* In an alert's turn no bit is an answer. */
-    handler alert = before_alert(e, 4);
-    for (int t = 0; t < 4; t++) CHECK(answering(&alert, UINT32_MAX, 0) == 0);
-    CHECK(alert_open(&alert, e) && answering(&alert, UINT32_MAX, 0) == LOCAL_0);
+/* One answer of the four that is not right, of either wire or both, and the ping is never answered: it fails at the timeout, and
+ * at timeout 0 it stays open. What comes back in the tick of the ping itself, and on other lines, is none of its answers. */
+static void wrong_answers(int e) {
+    for (uint32_t timeout = 0; timeout < 7; timeout += 6)
+        for (uint32_t age = 0; age <= 4; age++)
+            for (unsigned wires = 1; wires < 4; wires++)
+                for (int l = 0; l < TARRAVANE_LINES; l++) {
+                    unsigned positive = (wires & 1) << l, negative = wires >> 1 << l;
+                    bool spoils = l == e && age > 0;
+                    handler h = before_line(e, timeout);
+                    for (uint32_t t = 0; t <= 4; t++)
+                        CHECK(answering(&h, t == age ? positive : 0, t == age ? negative : 0, drawing(7, 800)) == 0);
+                    CHECK(h.links.lines == (spoils ? 1u << e : 0));
+                    CHECK(answering(&h, 0, 0, 0) == 0);
+                    CHECK(answering(&h, 0, 0, 0) == (spoils && timeout == 6 ? LOCAL_1 : 0));
+                    CHECK(h.links.lines == (spoils && timeout == 0 ? 1u << e : 0));
+                }
 }
 
 /* ---- Turns one after another ---- */
@@ -254,8 +267,9 @@ static void turns(void) {
         CHECK(h.links.turn.number == turn % 8);
         unsigned alert = 100 + turn;
         if (turn % 2 == 1) {
-            CHECK(quiet(&h, UINT32_MAX) == 0 && h.links.lines == 1u << turn / 2 % 4);
-            CHECK(answering(&h, h.links.lines, drawing(alert, 0)) == 0 && h.links.lines == 0);
+            for (int t = 0; t < 4; t++)
+                CHECK(answering(&h, 0, 0, UINT32_MAX) == 0 && h.links.lines == 1u << turn / 2 % 4);
+            CHECK(answering(&h, 0, 0, drawing(alert, 0)) == 0 && h.links.lines == 0);
         } else {
             CHECK(quiet(&h, drawing(alert, turn == 0 ? 1 : 0)) == 0);
             if (turn == 0) h = tarravane_tick(h, TARRAVANE_NONE, 0, 0, raised(5)).handler;
@@ -295,7 +309,8 @@ void test_timer(void) {
     not_pinged(TARRAVANE_ALERTS);
     access_of_the_due_tick();
     for (int e = 0; e < TARRAVANE_LINES; e++) {
-        lines_answer(e);
+        for (uint32_t timeout = 0; timeout < 9; timeout++) line_answered(e, timeout);
+        wrong_answers(e);
         lines_show_nothing(e);
     }
     turns();

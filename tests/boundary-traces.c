@@ -16,10 +16,11 @@ struct edition {
 
 static const struct edition first_edition = {TARRAVANE_RECORD_24, 8, 20, 0, tarravane_batch_24};
 static const struct edition second_edition = {TARRAVANE_RECORD_70, 31, 19, 0, tarravane_batch_70};
-static const struct edition newest = {TARRAVANE_RECORD_PINGS, 31, 19, 5, tarravane_batch_pings};
+static const struct edition third_edition = {TARRAVANE_RECORD_PINGS, 31, 19, 5, tarravane_batch_pings};
+static const struct edition newest = {TARRAVANE_RECORD_WIRES, 31, 19, 5, tarravane_batch_wires};
 
 static const struct edition *edition_by(uint8_t first) {
-    return first == 255 ? &second_edition : first == 254 ? &newest : &first_edition;
+    return first == 255 ? &second_edition : first == 254 ? &third_edition : first == 253 ? &newest : &first_edition;
 }
 
 static uint64_t number_at(const uint8_t *bytes, size_t count) {
@@ -28,27 +29,28 @@ static uint64_t number_at(const uint8_t *bytes, size_t count) {
     return n;
 }
 
-/* The number of a register in a record of the edition, carried over; 3 is no register. The ping timer's are the newest's. */
+/* The number of a register in a record of the edition, carried over; 3 is no register. The ping timer's are those of 75 bytes. */
 static uint16_t carried(const struct edition *e, unsigned number) {
-    if (e != &newest && number >= 4 && number <= 6) return 3;
+    if (e->tail == 0 && number >= 4 && number <= 6) return 3;
     if (number < 64 || e != &first_edition) return (uint16_t)number;
     if (number < 320) return (uint16_t)(number / 64 * 256 + number % 64);
     return (uint16_t)(number < 384 ? 1280 + (number - 320) : 3);
 }
 
-/* By its first 8 bytes, or by the zero bits before its answers. */
+/* By its first 8 bytes, or by the zero bits before the answers of a 254. */
 static bool malformed(const struct edition *e, const uint8_t *record) {
     uint64_t first = number_at(record, 8);
     unsigned kind = (unsigned)(first >> 62);
     uint32_t head = (uint32_t)(first >> 32), value = (uint32_t)first;
     unsigned number = (head & 0x3FFFFFFF) >> e->zeros;
     if (kind == 3 || (head & ((UINT32_C(1) << e->zeros) - 1)) != 0) return true;
-    if (e->tail > 0 && record[e->bytes - 1] >> 4 != 0) return true;
+    if (e == &third_edition && record[e->bytes - 1] >> 4 != 0) return true;
     return (kind == 1 && value != 0) || (kind == 0 && (number != 0 || value != 0));
 }
 
-static struct access access_at(const struct edition *e, const uint8_t *record) {
-    struct access a = {.sample = at_rest};
+/* The access and the sample of a record; the pairs of an older one, which nobody checks, are the right ones of the state. */
+static struct access access_at(const struct edition *e, const handler *before, const uint8_t *record) {
+    struct access a = {.sample = sounding(before)};
     uint64_t first = number_at(record, 8);
     unsigned number = ((unsigned)(first >> 32) & 0x3FFFFFFF) >> e->zeros;
     a.kind = malformed(e, record) ? 3 : (uint8_t)(first >> 62);
@@ -62,7 +64,11 @@ static struct access access_at(const struct edition *e, const uint8_t *record) {
     if (e->tail > 0) {
         const uint8_t *tail = record + e->bytes - e->tail;
         a.sample.word = (uint32_t)(number_at(tail, 4) >> 32);
-        for (int l = 0; l < TARRAVANE_LINES; l++) a.sample.answers |= (uint32_t)(tail[4] >> (3 - l) & 1) << l;
+        if (e == &newest) a.sample.receive_positive = a.sample.receive_negative = 0;
+        for (int l = 0; e == &newest && l < TARRAVANE_LINES; l++) {
+            a.sample.receive_positive = (uint16_t)(a.sample.receive_positive | (tail[4] >> (7 - 2 * l) & 1) << l);
+            a.sample.receive_negative = (uint16_t)(a.sample.receive_negative | (tail[4] >> (6 - 2 * l) & 1) << l);
+        }
     }
     return a;
 }
@@ -148,30 +154,42 @@ static void as_printed(const uint64_t *words, size_t count, const char *path) {
     free(printed.at);
 }
 
-/* A record written again: a new one gives its bytes, an old one a new record that does what it did. A malformed one has
- * kind 3 here, and no well-formed record holds that. */
+/* A record written again: a new one gives its bytes, one of 24 or 70 bytes a new record that does what it did. A malformed one
+ * has kind 3 here, and no well-formed record holds that. */
 static void written_again(const struct edition *e, const handler *before, const uint8_t *record, uint64_t word) {
-    uint8_t again[TARRAVANE_RECORD_PINGS];
-    struct access a = access_at(e, record);
+    uint8_t again[TARRAVANE_RECORD_WIRES];
+    struct access a = access_at(e, before, record);
     uint64_t other;
     int64_t answer = written(&a, again);
     if (a.kind == 3) {
         CHECK(answer == -TARRAVANE_NO_RECORD);
         return;
     }
-    CHECK(answer == TARRAVANE_RECORD_PINGS);
+    CHECK(answer == TARRAVANE_RECORD_WIRES);
     if (e == &newest) CHECK(memcmp(again, record, sizeof again) == 0);
-    CHECK(tarravane_batch_pings(*before, again, sizeof again, &other, 1).answer == 0);
-    CHECK(other == word);
+    CHECK(tarravane_batch_wires(*before, again, sizeof again, &other, 1).answer == 0);
+    if (e != &third_edition) CHECK(other == word);
+}
+
+/* A record of 254 has no tick by call that answers its pings as it does: a batch of it alone. */
+static handler alone(const struct edition *e, handler h, const uint8_t *record, uint64_t word) {
+    uint64_t own;
+    struct tarravane_batched b = e->batch(h, record, e->bytes, &own, 1);
+    CHECK(b.answer == 0 && own == word);
+    return b.handler;
 }
 
 /* Each word by a tick of its own; gives the state after the last. */
 static handler tick_by_tick(const struct edition *e, handler h, const uint8_t *records, const uint64_t *words, size_t count) {
     for (size_t i = 0; i < count; i++) {
-        struct access a = access_at(e, records + i * e->bytes);
+        written_again(e, &h, records + i * e->bytes, words[i]);
+        if (e == &third_edition) {
+            h = alone(e, h, records + i * e->bytes, words[i]);
+            continue;
+        }
+        struct access a = access_at(e, &h, records + i * e->bytes);
         struct tarravane_answered t = tarravane_tick(h, a.kind, a.number, a.value, a.sample);
         word_says(words[i], &t);
-        written_again(e, &h, records + i * e->bytes, words[i]);
         h = t.handler;
     }
     return h;

@@ -4,9 +4,9 @@
 #define ENTRIES 64 /* the most entries that a list here has */
 #define MARGIN 16  /* guard bytes before and after a buffer */
 #define GUARD_BYTE 0xA5
-#define RECORD TARRAVANE_RECORD_PINGS
+#define RECORD TARRAVANE_RECORD_WIRES
 #define LARGEST 2047 /* the largest register */
-#define LISTS 7
+#define LISTS 8
 
 /* What the writer takes, a list for each part. */
 struct entries {
@@ -17,7 +17,8 @@ struct entries {
     uint64_t positive[ENTRIES * TARRAVANE_WORDS];
     uint64_t negative[ENTRIES * TARRAVANE_WORDS];
     uint32_t entropy[ENTRIES];
-    uint8_t answers[ENTRIES];
+    uint8_t receive_positive[ENTRIES];
+    uint8_t receive_negative[ENTRIES];
 };
 
 /* A buffer between guard bytes, all of them at the guard's value. */
@@ -25,7 +26,7 @@ struct room {
     uint8_t all[MARGIN + ENTRIES * RECORD + MARGIN];
 };
 
-/* An entry with the word and the answers of its sample. */
+/* An entry with the word and the receive pairs of its sample. */
 static void add_sample(struct entries *e, unsigned kind, unsigned number, uint32_t value, struct tarravane_sample s) {
     size_t i = e->count++;
     CHECK(i < ENTRIES);
@@ -35,7 +36,8 @@ static void add_sample(struct entries *e, unsigned kind, unsigned number, uint32
     memcpy(&e->positive[i * TARRAVANE_WORDS], s.alerts.pos, sizeof s.alerts.pos);
     memcpy(&e->negative[i * TARRAVANE_WORDS], s.alerts.neg, sizeof s.alerts.neg);
     e->entropy[i] = s.word;
-    e->answers[i] = (uint8_t)s.answers;
+    e->receive_positive[i] = (uint8_t)s.receive_positive;
+    e->receive_negative[i] = (uint8_t)s.receive_negative;
 }
 
 static void add(struct entries *e, unsigned kind, unsigned number, uint32_t value, struct tarravane_wires wires) {
@@ -45,12 +47,12 @@ static void add(struct entries *e, unsigned kind, unsigned number, uint32_t valu
 /* Each list of its own length. */
 static int64_t recorded_of(const struct entries *e, const size_t n[LISTS], uint8_t *bytes, size_t length) {
     return tarravane_record(e->kinds, n[0], e->registers, n[1], e->values, n[2], e->positive, n[3], e->negative, n[4],
-                            e->entropy, n[5], e->answers, n[6], bytes, length);
+                            e->entropy, n[5], e->receive_positive, n[6], e->receive_negative, n[7], bytes, length);
 }
 
 static int64_t recorded(const struct entries *e, uint8_t *bytes, size_t length) {
     size_t n = e->count, words = n * TARRAVANE_WORDS;
-    const size_t lengths[LISTS] = {n, n, n, words, words, n, n};
+    const size_t lengths[LISTS] = {n, n, n, words, words, n, n, n};
     return recorded_of(e, lengths, bytes, length);
 }
 
@@ -71,14 +73,17 @@ static void store_wires(uint8_t *at, const uint64_t *words) {
     memcpy(at, all, 31);
 }
 
-/* The record of request (ix), from its widths: in the last byte line 0's answer is bit 3. */
+/* The record of request (xi), from its widths: the last byte is p0 n0 p1 n1 p2 n2 p3 n3, p0 being bit 7. */
 static void packed(const struct entries *e, size_t i, uint8_t *at) {
     store(at, (uint64_t)e->kinds[i] << 62 | (uint64_t)e->registers[i] << 51 | e->values[i]);
     store_wires(at + 8, &e->positive[i * TARRAVANE_WORDS]);
     store_wires(at + 39, &e->negative[i * TARRAVANE_WORDS]);
     for (int b = 0; b < 4; b++) at[70 + b] = (uint8_t)(e->entropy[i] >> (24 - 8 * b));
     at[74] = 0;
-    for (int l = 0; l < TARRAVANE_LINES; l++) at[74] = (uint8_t)(at[74] | (e->answers[i] >> l & 1) << (3 - l));
+    for (int l = 0; l < TARRAVANE_LINES; l++) {
+        unsigned positive = e->receive_positive[i] >> l & 1, negative = e->receive_negative[i] >> l & 1;
+        at[74] = (uint8_t)(at[74] | positive << (7 - 2 * l) | negative << (6 - 2 * l));
+    }
 }
 
 static struct room fresh(void) {
@@ -115,7 +120,8 @@ static struct entries sound(void) {
     add(&e, TARRAVANE_WRITE, 1365, 0x01020304, wires_of(0, 0));
     struct tarravane_sample drawn = at_rest;
     drawn.word = 0x89ABCDEF;
-    drawn.answers = 0xF4;
+    drawn.receive_positive = 0xF4;
+    drawn.receive_negative = 0x5B;
     add_sample(&e, TARRAVANE_WRITE, TARRAVANE_PING_TIMER_EN, 1, drawn);
     return e;
 }
@@ -173,7 +179,7 @@ static void unequal(void) {
         size_t unit = list == 3 || list == 4 ? TARRAVANE_WORDS : 1;
         for (size_t other = 0; other <= e.count * unit; other++)
             for (size_t rest = 0; rest <= e.count; rest++) {
-                size_t n[LISTS] = {rest, rest, rest, rest * TARRAVANE_WORDS, rest * TARRAVANE_WORDS, rest, rest};
+                size_t n[LISTS] = {rest, rest, rest, rest * TARRAVANE_WORDS, rest * TARRAVANE_WORDS, rest, rest, rest};
                 if (other == n[list]) continue;
                 n[list] = other;
                 uneven(&e, n);
@@ -181,8 +187,8 @@ static void unequal(void) {
     }
 }
 
-/* Each bit of register, value, wires, word and answers stands where the reader looks for it; places 248 to 255 of the wires
- * and bits 4 to 7 of the answers nowhere. */
+/* Each bit of register, value, wires, word and receive pairs stands where the reader looks for it; places 248 to 255 of the
+ * wires and bits 4 to 7 of the receive pairs nowhere. */
 static void single_bits(void) {
     for (int place = 0; place < 64 * TARRAVANE_WORDS; place++) {
         struct entries e = {0};
@@ -192,11 +198,12 @@ static void single_bits(void) {
         add(&e, TARRAVANE_NONE, 0, 0, neg);
         if (place < 32) add(&e, TARRAVANE_WRITE, 0, UINT32_C(1) << place, at_rest.alerts);
         if (place < 11) add(&e, TARRAVANE_READ, 1u << place, 0, at_rest.alerts);
-        struct tarravane_sample word = at_rest, answers = at_rest;
+        struct tarravane_sample word = at_rest, pairs = at_rest;
         word.word = UINT32_C(1) << place % 32;
-        answers.answers = (uint32_t)place;
+        pairs.receive_positive = (uint16_t)place;
+        pairs.receive_negative = (uint16_t)(place >> 4);
         add_sample(&e, TARRAVANE_NONE, 0, 0, word);
-        add_sample(&e, TARRAVANE_NONE, 0, 0, answers);
+        add_sample(&e, TARRAVANE_NONE, 0, 0, pairs);
         writes(&e, e.count * RECORD);
     }
 }
@@ -209,10 +216,11 @@ static void read_back(size_t alerts) {
     handler first = new_handler(alerts), h = first;
     int64_t length = recorded(&e, r.all + MARGIN, e.count * RECORD);
     CHECK(length == (int64_t)(e.count * RECORD));
-    struct tarravane_batched b = tarravane_batch_pings(first, r.all + MARGIN, (size_t)length, words, e.count);
+    struct tarravane_batched b = tarravane_batch_wires(first, r.all + MARGIN, (size_t)length, words, e.count);
     CHECK(b.answer == 0);
     for (size_t i = 0; i < e.count; i++) {
-        struct tarravane_sample s = {.word = e.entropy[i], .answers = e.answers[i]};
+        struct tarravane_sample s = {.word = e.entropy[i], .receive_positive = e.receive_positive[i]};
+        s.receive_negative = e.receive_negative[i];
         memcpy(s.alerts.pos, &e.positive[i * TARRAVANE_WORDS], sizeof s.alerts.pos);
         memcpy(s.alerts.neg, &e.negative[i * TARRAVANE_WORDS], sizeof s.alerts.neg);
         struct tarravane_answered t = tarravane_tick(h, e.kinds[i], e.registers[i], e.values[i], s);

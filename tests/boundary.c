@@ -1,6 +1,7 @@
 /* The boundary from C's side: every field crosses to its register and back, equal states are equal bytes, receivers shake hands
- * and are pinged, the ping timer's turns come when they are due, a damaged field gets refusal 7, shadowed registers take two equal writes, a class that waits for 65,536 events is not locked, a boot installs each lifecycle's policy or stops
- * where it must, a batch and the writer stay in their buffers, example traces give the same words by batch, by single ticks
+ * and are pinged, the ping timer's turns come when they are due, the lines' senders send their pairs and check what comes back,
+ * a damaged field gets refusal 7, shadowed registers take two equal writes, a class that waits for 65,536 events is not locked,
+ * a boot installs each lifecycle's policy or stops where it must, a batch and the writer stay in their buffers, example traces give the same words by batch, by single ticks
  * and by the replay program, and the writer gives their bytes again.
  * usage: boundary [TRACE WORDS]...   WORDS: what the replay program printed of TRACE, or - for none */
 #include "boundary.h"
@@ -48,6 +49,13 @@ struct tarravane_sample raised(int i) {
     return s;
 }
 
+struct tarravane_sample sounding(const handler *h) {
+    struct tarravane_sample s = at_rest;
+    s.receive_positive = (uint16_t)(h->links.senders.answer & 15);
+    s.receive_negative = (uint16_t)(~h->links.senders.answer & 15);
+    return s;
+}
+
 bool same(const handler *a, const handler *b) {
     return memcmp(a, b, sizeof *a) == 0;
 }
@@ -87,6 +95,10 @@ int main(int argc, char **argv) {
     test_timer();
     test_timer_states();
     test_timer_records();
+    test_senders();
+    test_line_states();
+    test_line_receivers();
+    test_line_records();
     test_states();
     test_stages();
     test_threshold();

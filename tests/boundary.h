@@ -32,6 +32,9 @@ struct tarravane_sample sample_of(struct tarravane_wires alerts);
 /* Alert i at (1,0), the others at (0,1). */
 struct tarravane_sample raised(int i);
 
+/* At rest, with the receive pairs that sound receivers send in the coming tick of this state. */
+struct tarravane_sample sounding(const handler *h);
+
 /* ---- States and ticks ---- */
 
 /* Byte by byte: there is no padding. */
@@ -105,7 +108,7 @@ struct access {
 };
 
 /* The writer's bytes of one access, or its refusal. */
-int64_t written(const struct access *a, uint8_t record[TARRAVANE_RECORD_PINGS]);
+int64_t written(const struct access *a, uint8_t record[TARRAVANE_RECORD_WIRES]);
 
 /* ---- The parts ---- */
 
@@ -116,6 +119,10 @@ void test_waves(void);
 void test_timer(void);
 void test_timer_states(void);
 void test_timer_records(void);
+void test_senders(void);
+void test_line_states(void);
+void test_line_receivers(void);
+void test_line_records(void);
 void test_states(void);
 void test_stages(void);
 void test_threshold(void);

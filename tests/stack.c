@@ -15,7 +15,7 @@
 
 static unsigned char *stack;
 static unsigned char *frame; /* the caller's, noted before its call */
-static uint8_t bytes[RECORDS * TARRAVANE_RECORD_PINGS];
+static uint8_t bytes[RECORDS * TARRAVANE_RECORD_WIRES];
 static uint64_t words[RECORDS];
 
 /* What a call is given. */
@@ -25,11 +25,13 @@ static uint16_t registers[RECORDS];
 static uint32_t values[RECORDS];
 static uint64_t positive[RECORDS * TARRAVANE_WORDS], negative[RECORDS * TARRAVANE_WORDS];
 static uint32_t entropy[RECORDS];
-static uint8_t answers[RECORDS];
+static uint8_t receive_positive[RECORDS];
+static uint8_t receive_negative[RECORDS];
 static struct tarravane_sample sample = TARRAVANE_SAMPLE_AT_REST;
 static size_t entries;
 static int64_t recorded; /* what the writer answered */
 static struct tarravane_heard heard;
+static struct tarravane_listened listened;
 
 /* A call that is measured: what makes its bytes, the most alerts, and whether it runs where the ping timer is on. */
 struct call {
@@ -79,12 +81,25 @@ static void call_batch_pings(void)
     state = tarravane_batch_pings(state, bytes, entries * TARRAVANE_RECORD_PINGS, words, RECORDS).handler;
 }
 
+static void call_batch_wires(void)
+{
+    NOTE_FRAME();
+    state = tarravane_batch_wires(state, bytes, entries * TARRAVANE_RECORD_WIRES, words, RECORDS).handler;
+}
+
+static void call_receive(void)
+{
+    NOTE_FRAME();
+    listened = tarravane_receive(listened.receivers, sample.receive_positive, sample.receive_negative);
+}
+
 static void call_record(void)
 {
     NOTE_FRAME();
     size_t wire_words = entries * TARRAVANE_WORDS;
     recorded = tarravane_record(kinds, entries, registers, entries, values, entries, positive, wire_words, negative,
-                                wire_words, entropy, entries, answers, entries, bytes, sizeof bytes);
+                                wire_words, entropy, entries, receive_positive, entries, receive_negative, entries, bytes,
+                                sizeof bytes);
 }
 
 static void call_install(void)
@@ -139,7 +154,7 @@ static uint32_t draw_value(void)
 }
 
 /* Accesses of every kind to every register, a quarter of them to the register before, so that stages commit and differ; wires
- * that move; and words of short waits, with answers. */
+ * that move; and words of short waits, with receive pairs. */
 static void draw_input(void)
 {
     entries = next_random() % (RECORDS + 1);
@@ -161,10 +176,12 @@ static void draw_input(void)
     memcpy(sample.alerts.neg, negative, sizeof sample.alerts.neg);
     for (size_t i = 0; i < RECORDS; i++) {
         entropy[i] = (uint32_t)next_random() & 0xFFFF0003u;
-        answers[i] = (uint8_t)next_random();
+        receive_positive[i] = (uint8_t)next_random();
+        receive_negative[i] = (uint8_t)~receive_positive[i];
     }
     sample.word = entropy[0];
-    sample.answers = answers[0];
+    sample.receive_positive = receive_positive[0];
+    sample.receive_negative = receive_negative[0];
 }
 
 /* A state of up to so many alerts, in every second round with the access made before, so that a write finds its stage; where
@@ -191,7 +208,15 @@ static void pack_70(void)
 {
     call_record();
     for (size_t i = 1; i < entries; i++)
-        memmove(bytes + i * TARRAVANE_RECORD_70, bytes + i * TARRAVANE_RECORD_PINGS, TARRAVANE_RECORD_70);
+        memmove(bytes + i * TARRAVANE_RECORD_70, bytes + i * TARRAVANE_RECORD_WIRES, TARRAVANE_RECORD_70);
+}
+
+/* Records of 254: those that the library writes, with answers where the pairs stand. */
+static void pack_pings(void)
+{
+    call_record();
+    for (size_t i = 0; i < entries; i++)
+        bytes[i * TARRAVANE_RECORD_PINGS + TARRAVANE_RECORD_PINGS - 1] &= 15;
 }
 
 /* Records of 24 bytes of the accesses, with document 01's numbers. */
@@ -216,7 +241,9 @@ static const struct call calls[] = {
     {"tarravane_hear", call_hear, call_record, TARRAVANE_ALERTS, true},
     {"tarravane_batch_24", call_batch_24, pack_24, TARRAVANE_ALERTS_24, false},
     {"tarravane_batch_70", call_batch_70, pack_70, TARRAVANE_ALERTS, false},
-    {"tarravane_batch_pings", call_batch_pings, call_record, TARRAVANE_ALERTS, true},
+    {"tarravane_batch_pings", call_batch_pings, pack_pings, TARRAVANE_ALERTS, true},
+    {"tarravane_batch_wires", call_batch_wires, call_record, TARRAVANE_ALERTS, true},
+    {"tarravane_receive", call_receive, call_record, TARRAVANE_ALERTS, true},
     {"tarravane_record", call_record, call_record, TARRAVANE_ALERTS, true},
     {"tarravane_install", call_install, call_record, TARRAVANE_ALERTS, true},
 };

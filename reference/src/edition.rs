@@ -12,6 +12,9 @@ pub enum Edition {
     /// The record for the ping timer: 75 bytes, the second's with an entropy
     /// word, four zero bits and four answer bits after it.
     Third,
+    /// The record for the escalation wires: 75 bytes, the third's with four
+    /// receive pairs in place of the last byte.
+    Fourth,
 }
 
 impl Edition {
@@ -20,7 +23,7 @@ impl Edition {
         match self {
             Edition::First => 24,
             Edition::Second => 70,
-            Edition::Third => 75,
+            Edition::Third | Edition::Fourth => 75,
         }
     }
 
@@ -28,7 +31,7 @@ impl Edition {
     pub const fn alerts(self) -> usize {
         match self {
             Edition::First => 64,
-            Edition::Second | Edition::Third => 248,
+            Edition::Second | Edition::Third | Edition::Fourth => 248,
         }
     }
 
@@ -41,13 +44,18 @@ impl Edition {
     pub const fn register_bits(self) -> u32 {
         match self {
             Edition::First => 10,
-            Edition::Second | Edition::Third => 11,
+            Edition::Second | Edition::Third | Edition::Fourth => 11,
         }
     }
 
-    /// Whether a record has a word and answers for the ping timer.
+    /// Whether a record has a word for the ping timer.
     pub const fn has_word(self) -> bool {
-        matches!(self, Edition::Third)
+        matches!(self, Edition::Third | Edition::Fourth)
+    }
+
+    /// Whether a record has receive pairs, by which the senders are checked.
+    pub const fn has_pairs(self) -> bool {
+        matches!(self, Edition::Fourth)
     }
 
     /// The zero bits that fill the first 32 after kind and register.

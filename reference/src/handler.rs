@@ -2,8 +2,9 @@
 
 use crate::answer::Refusal;
 use crate::class::Class;
-use crate::pings::Standing;
+use crate::line_pairs::{LinePairs, LINES};
 use crate::receiver::Receiver;
+use crate::sender::Sender;
 use crate::stages::Stages;
 use crate::timer::{Timer, Turn};
 use crate::wires::{wire, Pairs, Sample, Wires};
@@ -18,8 +19,11 @@ pub const CLASSES: usize = 4;
 pub const ALERT_PING: usize = 0;
 /// The local alert that reports a failed ping of an escalation line.
 pub const ESCALATION_PING: usize = 1;
-/// The local alert that reports equal wires.
+/// The local alert that reports equal wires of an alert.
 pub const ALERT_INTEGRITY: usize = 2;
+/// The local alert that reports equal wires of an escalation line, or a wrong or
+/// missing answer on them.
+pub const ESCALATION_INTEGRITY: usize = 3;
 /// The local alert that reports two writes that differ; those not named here
 /// never occur.
 pub const SHADOW_UPDATE: usize = 5;
@@ -58,6 +62,8 @@ pub struct Ticked {
     pub acknowledge: Pairs,
     /// The ping pairs of the alerts.
     pub ping: Pairs,
+    /// The pairs of the escalation lines.
+    pub escalation: LinePairs,
 }
 
 impl Ticked {
@@ -140,6 +146,8 @@ pub struct Handler {
     pub stages: Stages,
     /// The ping timer.
     pub timer: Timer,
+    /// The sender of each escalation line.
+    pub senders: [Sender; LINES],
 }
 
 impl Handler {
@@ -157,6 +165,7 @@ impl Handler {
             classes: [Class::new(); CLASSES],
             stages: Stages::new(),
             timer: Timer::new(),
+            senders: [Sender::new(); LINES],
         };
         let answer = if accepted {
             0
@@ -196,7 +205,7 @@ impl Handler {
     }
 
     /// Runs one tick. A broken state answers -7 and stays as it is, with every
-    /// pair at (0,1) whatever the receivers hold.
+    /// pair at (0,1) whatever receivers and senders hold.
     pub fn tick(&mut self, access: Access, sample: &Sample) -> Ticked {
         if !self.valid() {
             return Ticked {
@@ -205,10 +214,11 @@ impl Handler {
                 lines: 0,
                 acknowledge: Pairs::at_rest(),
                 ping: Pairs::at_rest(),
+                escalation: LinePairs::at_rest(),
             };
         }
         // What this tick's wires change is acknowledged in the next tick, but
-        // the ping that this tick opens shows at once.
+        // the ping that this tick opens shows at once, and so do its lines.
         let acknowledge = self.pairs(Receiver::acknowledges);
         let outcome = self.run(access, sample);
         Ticked {
@@ -217,6 +227,7 @@ impl Handler {
             lines: outcome.lines,
             acknowledge,
             ping: self.pairs(|receiver| receiver.ping),
+            escalation: self.sent(),
         }
     }
 
@@ -224,10 +235,29 @@ impl Handler {
     pub(crate) fn run(&mut self, access: Access, sample: &Sample) -> Outcome {
         let on = self.timer.on();
         let (answer, cleared) = self.access(access);
-        let mut assigned = self.sample_and_ping(sample, on);
+        let mut standing = self.open_due(on, sample);
+        let pulse = self.pulse(standing);
+        let mut assigned = self.sample(&sample.pos, &sample.neg);
+        let right = self.check_answers(sample.receive, &mut assigned);
+        standing = self.settle(standing, sample, right, &mut assigned);
         if answer == Refusal::StageDiffers.answer() {
             self.occur(SHADOW_UPDATE, &mut assigned);
         }
+        self.escalate(assigned, cleared);
+        let lines = self.lines();
+        standing = self.give_way(standing, sample, lines);
+        self.send(lines, pulse);
+        self.end_turn(on, standing, sample.word);
+        Outcome {
+            answer,
+            interrupts: self.intr_state & self.intr_enable,
+            lines,
+        }
+    }
+
+    /// Steps 3 and 4 of every class, from the classes that have an event or
+    /// local alert assigned and the one whose clear was accepted.
+    fn escalate(&mut self, assigned: [bool; CLASSES], cleared: Option<usize>) {
         for (k, class) in self.classes.iter_mut().enumerate() {
             let bit = 1u8 << k;
             let clear = cleared == Some(k);
@@ -239,31 +269,6 @@ impl Handler {
             let trigger = class.accumulate(event, clear);
             class.advance(trigger, self.intr_state & bit != 0, clear);
         }
-        Outcome {
-            answer,
-            interrupts: self.intr_state & self.intr_enable,
-            lines: self.lines(),
-        }
-    }
-
-    /// Step 2 with the ping timer, which was on before the tick's access or
-    /// not; says which classes have an event or local alert assigned.
-    fn sample_and_ping(&mut self, sample: &Sample, on: bool) -> [bool; CLASSES] {
-        // Nothing counts down in the tick in which the timer goes on.
-        let mut standing = Standing::Waiting;
-        if on {
-            standing = self.open_due();
-        }
-        let mut assigned = self.sample(&sample.pos, &sample.neg);
-        if standing == Standing::Open {
-            standing = self.settle(sample.answers, &mut assigned);
-        }
-        if standing == Standing::Over {
-            self.timer.next_turn(sample.word);
-        } else if !on && self.timer.on() {
-            self.timer.start(sample.word);
-        }
-        assigned
     }
 
     /// Takes the wires; says which classes have an alert's event or the failure

@@ -68,7 +68,7 @@ pub fn install(mut handler: Handler, lifecycle: u8) -> Installed {
     } else if handler.n < ALERTS as u64 {
         (Refusal::TooFewAlerts.answer(), 0)
     } else {
-        // All wires are at (0,1), the word is 0 and no ping is answered.
+        // All wires are at (0,1), the receive pairs too, and the word is 0.
         boot(lifecycle, |access| {
             handler.tick(access, &Sample::at_rest()).answer
         })

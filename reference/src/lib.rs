@@ -2,20 +2,26 @@
 //!
 //! Written from the paper "The product to build and its rules" and the change
 //! requests that have landed, alone. One register access and one sample of
-//! wires, entropy and answers go in; an answer, four interrupts, four escalation
-//! lines and the acknowledge and ping pairs of the alerts come out.
+//! wires and entropy go in; an answer, four interrupts, four escalation lines,
+//! the acknowledge and ping pairs of the alerts and the pairs of the escalation
+//! lines come out.
 
 mod access;
 pub mod answer;
+pub mod answering;
 pub mod carried;
 pub mod class;
 pub mod edition;
+mod escalation;
+pub mod escalation_receiver;
 pub mod handler;
 pub mod installer;
+pub mod line_pairs;
 mod pings;
 pub mod policy;
 pub mod receiver;
 pub mod register;
+pub mod sender;
 pub mod stages;
 pub mod timer;
 pub mod trace;
@@ -23,12 +29,16 @@ pub mod wires;
 pub mod writer;
 
 pub use answer::Refusal;
+pub use answering::{Answering, Stand};
 pub use carried::carried;
 pub use class::Class;
 pub use edition::Edition;
+pub use escalation_receiver::EscalationReceiver;
 pub use handler::{Access, Handler, Outcome, Source, Ticked};
 pub use installer::{install, Installed};
+pub use line_pairs::LinePairs;
 pub use receiver::{Place, Receiver};
+pub use sender::Sender;
 pub use stages::Stages;
 pub use timer::Timer;
 pub use trace::batch;

@@ -40,6 +40,9 @@ pub struct Timer {
     pub count: u16,
     /// Bit e: line e's ping is open. Bits 4 to 7 are never read or changed.
     pub lines: u8,
+    /// While a line's ping is open: whether one of its answers was not right, or
+    /// not checked, so that the receive pairs can no longer answer it.
+    pub wrong: bool,
 }
 
 impl Timer {
@@ -54,6 +57,7 @@ impl Timer {
             alert: 0,
             count: 0,
             lines: 0,
+            wrong: false,
         }
     }
 

@@ -4,13 +4,14 @@ use crate::answer::{refusal_number, value, Refusal};
 use crate::carried::{carried, without_timer};
 use crate::edition::Edition;
 use crate::handler::{Access, Handler, Outcome};
+use crate::line_pairs::LinePairs;
 use crate::wires::{from_bytes, Sample};
 
 /// Takes a record apart into its access and its sample. `record` is the
 /// `edition.bytes()` bytes of one record. The access has today's register
-/// number, carried over from a record of an older edition. Such a record gives
-/// the word 0 and no answer. A malformed record keeps its sample, since its
-/// tick still runs.
+/// number, carried over from a record of an older edition. A record without a
+/// word gives the word 0 and no answer. A malformed record keeps its sample,
+/// since its tick still runs.
 pub fn parse(edition: Edition, record: &[u8]) -> (Access, Sample) {
     let mut access = access(edition, number(&record[..4]), number(&record[4..8]));
     let (positive, rest) = record[8..].split_at(edition.wire_bytes());
@@ -19,10 +20,15 @@ pub fn parse(edition: Edition, record: &[u8]) -> (Access, Sample) {
         pos: from_bytes(positive),
         neg: from_bytes(negative),
         word: 0,
+        receive: None,
         answers: 0,
     };
     if edition.has_word() {
         sample.word = number(&rest[..4]);
+    }
+    if edition.has_pairs() {
+        sample.receive = Some(LinePairs::from_byte(rest[4]));
+    } else if edition.has_word() {
         sample.answers = turned(rest[4] & 0xF);
         if rest[4] >> 4 != 0 {
             access = Access::Malformed;
@@ -40,7 +46,7 @@ fn access(edition: Edition, head: u32, value: u32) -> Access {
     let register = match edition {
         Edition::First => carried(number),
         Edition::Second => without_timer(number),
-        Edition::Third => number,
+        Edition::Third | Edition::Fourth => number,
     };
     if zeros != 0 {
         return Access::Malformed;

@@ -1,5 +1,7 @@
 //! Wire sets, the sample that goes into a tick, and the pairs that come out.
 
+use crate::line_pairs::LinePairs;
+
 /// A wire set as it is lent: 256 places, alert i at bit 63 - i % 64 of word
 /// i / 64. Places 248 to 255 are no wires; whatever they hold is left out.
 pub type Wires = [u64; 4];
@@ -16,20 +18,31 @@ pub struct Sample {
     pub neg: Wires,
     /// The tick's entropy word.
     pub word: u32,
-    /// The escalation pings that are answered, line 0 lowest. Bits 4 to 7
-    /// count for nothing.
+    /// The pairs that come back on the escalation lines. They are checked, and
+    /// they answer the lines' pings. A tick of an older edition has none; its
+    /// senders are not checked.
+    pub receive: Option<LinePairs>,
+    /// In a tick without receive pairs, the escalation pings that are answered,
+    /// line 0 lowest. Bits 4 to 7 count for nothing, and beside receive pairs
+    /// no bit does.
     pub answers: u8,
 }
 
 impl Sample {
-    /// Every alert at (0,1), the word 0 and no answer.
+    /// Every alert and every receive pair at (0,1), and the word 0.
     pub const fn at_rest() -> Sample {
         Sample {
             pos: [0; 4],
             neg: [u64::MAX; 4],
             word: 0,
+            receive: Some(LinePairs::at_rest()),
             answers: 0,
         }
+    }
+
+    /// Whether the escalation senders are checked in the tick.
+    pub fn checks(&self) -> bool {
+        self.receive.is_some()
     }
 }
 

@@ -3,21 +3,21 @@
 
 use crate::answer::Refusal;
 use crate::edition::Edition;
-use crate::trace::turned;
+use crate::line_pairs::LinePairs;
 use crate::wires::{to_bytes, Wires};
 
 /// The edition that is written: the newest.
-pub const WRITTEN: Edition = Edition::Third;
+pub const WRITTEN: Edition = Edition::Fourth;
 
 /// Writes one record of the newest edition for each entry of a list to the
 /// front of `out` and answers the bytes written; later bytes stay as they
 /// were. The seven slices are the list: kind (0 none, 1 read, 2 write),
-/// register, value, positive and negative wires, entropy word and answers.
+/// register, value, positive and negative wires, entropy word and receive pairs.
 ///
 /// Answers -10 if no well-formed record holds one of the entries, and if the
 /// slices do not all have the same length; else -11 if `out` is shorter than
 /// the records. Either leaves every byte of `out` as it was. Places 248 to 255
-/// of the wires are no wires, and bits 4 to 7 of the answers are no answers:
+/// of the wires are no wires, and neither are bits 4 to 7 of the receive pairs:
 /// they are left out and refuse nothing.
 // One slice for each field of a record, so there are as many as fields.
 #[allow(clippy::too_many_arguments)]
@@ -28,13 +28,13 @@ pub fn record(
     positive: &[Wires],
     negative: &[Wires],
     words: &[u32],
-    answers: &[u8],
+    receive: &[LinePairs],
     out: &mut [u8],
 ) -> i64 {
     let entries = kinds.len();
     let accesses = [registers.len(), values.len()];
     let wires = [positive.len(), negative.len()];
-    let pings = [words.len(), answers.len()];
+    let pings = [words.len(), receive.len()];
     if [accesses, wires, pings] != [[entries; 2]; 3] {
         return Refusal::Unrecordable.answer();
     }
@@ -53,7 +53,7 @@ pub fn record(
         record[8..39].copy_from_slice(&to_bytes(&positive[i]));
         record[39..70].copy_from_slice(&to_bytes(&negative[i]));
         record[70..74].copy_from_slice(&words[i].to_be_bytes());
-        record[74] = turned(answers[i]);
+        record[74] = receive[i].to_byte();
     }
     (entries * size) as i64
 }

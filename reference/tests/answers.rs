@@ -8,7 +8,7 @@ use common::timer::{alert_due, answering, drawing, entropy, sample};
 use common::{raised, tick, with, write, ALERT0, REST};
 use reference::class::PHASE0;
 use reference::timer::Turn;
-use reference::{Access, Place, Timer};
+use reference::{Access, Place, Stand, Timer};
 
 // Answers
 
@@ -162,8 +162,10 @@ fn a_disabled_local_alert_does_not_occur_but_the_ping_closes() {
             count: 4,
             ..expected.timer
         };
-        if let Turn::Alert(i) = turn {
-            expected.receivers[i].ping = true;
+        match turn {
+            Turn::Alert(i) => expected.receivers[i].ping = true,
+            // A sound receiver is still to send three of its answers.
+            Turn::Line(e) => expected.senders[e].receiver.stand = Stand::Second,
         }
         assert_eq!(h, expected);
     }

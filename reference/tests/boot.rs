@@ -102,9 +102,12 @@ fn an_open_ping_is_not_answered() {
     for e in 0..4 {
         let mut h = new(58);
         h.timer = line_due(e);
-        h.timer.lines = 1 << e;
+        tick(&mut h, Access::None, REST);
+        assert_eq!(h.timer.lines, 1 << e);
+        // A pair at rest is no answer, and the ping waits for ever.
         let waited = Timer {
             count: 432,
+            wrong: true,
             ..h.timer
         };
         assert_eq!(success(h, 0).timer, waited);
@@ -131,6 +134,7 @@ fn the_words_are_0() {
         // the boot ends after 431, counted from 0.
         count: 431 - 412,
         lines: 2,
+        wrong: true,
         ..h.timer
     };
     // Ticks: 0 to 8 count down, 9 is due and ends the turn, 10 opens line 0's
@@ -211,7 +215,7 @@ fn random(numbers: &mut Numbers, n: u64, locks: bool) -> Handler {
         };
         let mut sample = raised(&[numbers.below(n) as usize]);
         sample.word = numbers.next() as u32 & 0x3F_0007;
-        sample.answers = numbers.next() as u8;
+        sample = numbers.received(sample);
         tick(&mut h, access, sample);
         // Most stages are closed again.
         if numbers.below(16) != 0 {
@@ -248,4 +252,24 @@ fn a_boot_is_its_accesses_up_to_the_first_that_stops() {
         }
     }
     assert!(seen.iter().all(|many| *many > 20), "{seen:?}");
+}
+
+#[test]
+fn the_receive_pairs_are_at_rest() {
+    // With no line on that is the right answer all the while.
+    let mut h = new(58);
+    h.locals[3].en = 1;
+    assert_eq!(success(h.clone(), 0).locals[3].cause, 0);
+    // With line 3 on for the whole boot it is a fault in every other tick.
+    h.classes[3].state = PHASE0 + 3;
+    (h.classes[3].esc_cnt, h.classes[3].phase_cyc[3]) = (1, u32::MAX);
+    let installed = install(h.clone(), 0).handler;
+    assert_eq!(installed.locals[3].cause, 1);
+    // A ping of a line is answered by no boot, and it fails.
+    let mut h = new(58);
+    (h.locals[1].en, h.locals[3].en, h.timer) = (1, 1, line_due(2));
+    h.timer.timeout = 9;
+    let installed = success(h, 0);
+    assert_eq!(installed.locals[1].cause, 1);
+    assert_eq!(installed.locals[3].cause, 1);
 }

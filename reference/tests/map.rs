@@ -4,6 +4,7 @@
 mod common;
 
 use common::records::{record, renumbered, unpack, EDITIONS};
+use common::timer::answering;
 use common::{configure, new, raised, read, ready, tick, write, COUNTS, REST};
 use reference::carried::without_timer;
 use reference::handler::MAX_ALERTS;
@@ -23,6 +24,7 @@ const TIMER: Timer = Timer {
     alert: 0,
     count: 0,
     lines: 0,
+    wrong: false,
 };
 
 /// What reading a number gives in a new handler of `n` alerts, from where the
@@ -75,7 +77,7 @@ fn todays_map_at_reset() {
             };
             assert_eq!(read(&mut h, number), expected, "N {n}, {number}");
             let access = Access::Read { register: number };
-            let answer = through_record(&mut h, Edition::Third, access);
+            let answer = through_record(&mut h, Edition::Fourth, access);
             assert_eq!(answer, expected, "N {n}, {number} in a record");
             found += u64::from(answer != -1);
             let answer = through_record(&mut h, Edition::Second, access);
@@ -259,7 +261,14 @@ fn a_carried_write_reaches_its_register() {
             // The first may be staged only.
             for _ in 0..2 {
                 let answer = through_record(&mut old, Edition::First, access);
-                assert_eq!(answer, write(&mut new, today, value), "{number}, {value}");
+                // The old record does not check the senders.
+                let register = today;
+                let ticked = tick(
+                    &mut new,
+                    Access::Write { register, value },
+                    answering(REST, 0),
+                );
+                assert_eq!(answer, ticked.answer, "{number}, {value}");
                 assert_eq!(old, new, "{number}, {value}");
             }
         }
@@ -304,7 +313,7 @@ fn refused_numbers_of_alerts() {
         assert_eq!(read(&mut h, 1281), 0x393C);
         // No alerts are not more than 64, so all editions run.
         let ctrl = |register| Access::Read { register };
-        for (edition, number) in EDITIONS.into_iter().zip([321, 1281, 1281]) {
+        for (edition, number) in EDITIONS.into_iter().zip([321, 1281, 1281, 1281]) {
             assert_eq!(through_record(&mut h, edition, ctrl(number)), 0x393C);
         }
         h.n = 1;

@@ -6,8 +6,8 @@ mod common;
 use common::records::{record, EDITIONS};
 use common::timer::{alert_due, due};
 use common::waves::{counting, level, play, shown, ALERTS};
-use common::{new, raised, ready, tick, ALERT0, COUNTS, PAUSE, REST};
-use reference::{batch, Access, Edition, Handler, Pairs, Place, Receiver, Sample};
+use common::{new, raised, ready, tick, ALERT0, COUNTS, PAUSE, REST, SILENT};
+use reference::{batch, Access, Handler, LinePairs, Pairs, Place, Receiver, Sample};
 
 #[test]
 fn at_rest_is_0_1_at_all_256_places() {
@@ -15,6 +15,8 @@ fn at_rest_is_0_1_at_all_256_places() {
     assert_eq!(Sample::at_rest(), REST);
     assert_eq!((REST.pos, REST.neg), (zeros, ones));
     assert_eq!((REST.word, REST.answers), (0, 0));
+    assert_eq!(REST.receive, Some(LinePairs::at_rest()));
+    assert_eq!(LinePairs::at_rest(), SILENT);
     let pairs = Pairs::at_rest();
     assert_eq!((pairs.pos, pairs.neg), (zeros, ones));
 }
@@ -159,7 +161,7 @@ fn a_batch_runs_the_handshake() {
         assert_eq!(h.receivers, [Receiver::new(); 248]);
         // A ping that a tick opened is answered by a rise in a batch, where
         // the records have words.
-        if edition != Edition::Third {
+        if !edition.has_word() {
             continue;
         }
         due(&mut h, 0);

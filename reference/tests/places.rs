@@ -1,4 +1,5 @@
-//! Places 248 to 255 of a lent sample: they are no wires, whatever they hold.
+//! Places 248 to 255 of a lent sample, and bits 4 to 7 of its receive pairs:
+//! they are no wires, whatever they hold.
 
 mod common;
 
@@ -6,7 +7,7 @@ use common::records::unpack;
 use common::{ready, sampled, tick, with, Numbers, COUNTS, REST};
 use reference::trace::parse;
 use reference::wires::{from_bytes, to_bytes, wire};
-use reference::{batch, record, Access, Edition, Sample, Wires};
+use reference::{batch, record, Access, Edition, LinePairs, Sample, Wires};
 
 /// The sample with the last eight places of each set as given.
 fn places(mut sample: Sample, positive: u8, negative: u8) -> Sample {
@@ -37,7 +38,7 @@ fn pairs(positive: &Wires, negative: &Wires) -> Vec<(bool, bool)> {
 /// Writes a read of CTRL with this sample.
 fn written(sample: Sample) -> [u8; 75] {
     let Sample { pos, neg, .. } = sample;
-    let (words, answers) = ([sample.word], [sample.answers]);
+    let (words, receive) = ([sample.word], [sample.receive.unwrap()]);
     let mut out = [0x5A; 75];
     let answer = record(
         &[1],
@@ -46,11 +47,19 @@ fn written(sample: Sample) -> [u8; 75] {
         &[pos],
         &[neg],
         &words,
-        &answers,
+        &receive,
         &mut out,
     );
     assert_eq!(answer, 75);
     out
+}
+
+/// Any receive pairs, with bits 4 to 7 as they come.
+fn receive(numbers: &mut Numbers) -> LinePairs {
+    LinePairs {
+        pos: numbers.next() as u8,
+        neg: numbers.next() as u8,
+    }
 }
 
 #[test]
@@ -109,16 +118,22 @@ fn the_writer_leaves_them_out() {
     let mut numbers = Numbers(22);
     for _ in 0..200 {
         let mut sample = numbers.sample();
-        (sample.word, sample.answers) = (numbers.next() as u32, numbers.next() as u8);
+        sample.word = numbers.next() as u32;
+        sample.receive = Some(receive(&mut numbers));
         let plain = written(places(sample, 0, 0));
         for (positive, negative) in HELD {
             let lent = places(sample, positive, negative);
             let bytes = written(lent);
             assert_eq!(bytes, plain);
-            let (access, read) = parse(Edition::Third, &bytes);
+            let (access, read) = parse(Edition::Fourth, &bytes);
             assert_eq!(access, Access::Read { register: 1281 });
             assert_eq!(pairs(&read.pos, &read.neg), pairs(&lent.pos, &lent.neg));
-            assert_eq!((read.word, read.answers), (lent.word, lent.answers & 15));
+            assert_eq!((read.word, read.answers), (lent.word, 0));
+            let four = lent.receive.map(|pairs| LinePairs {
+                pos: pairs.pos & 15,
+                neg: pairs.neg & 15,
+            });
+            assert_eq!(read.receive, four);
         }
     }
 }
@@ -137,10 +152,10 @@ fn a_written_tick_is_the_lent_tick() {
         // With all its places as they come.
         let mut sample = numbers.sample();
         sample.word = numbers.next() as u32 & 0xFF_0003;
-        sample.answers = numbers.next() as u8;
+        sample.receive = Some(receive(&mut numbers));
         let mut out = [0];
         let bytes = written(sample);
-        assert_eq!(batch(&mut replayed, Edition::Third, &bytes, &mut out), 0);
+        assert_eq!(batch(&mut replayed, Edition::Fourth, &bytes, &mut out), 0);
         assert_eq!(unpack(out[0]), tick(&mut lent, access, sample).outcome());
         assert_eq!(lent, replayed);
     }

@@ -1,4 +1,4 @@
-//! The program: the three kinds of input, and their edges.
+//! The program: the four kinds of input, and their edges.
 
 mod common;
 
@@ -33,6 +33,7 @@ fn opening(edition: Edition, n: u8) -> Vec<u8> {
         Edition::First => vec![n],
         Edition::Second => vec![255, n],
         Edition::Third => vec![254, n],
+        Edition::Fourth => vec![253, n],
     }
 }
 
@@ -43,6 +44,7 @@ fn the_papers_words() {
         (Edition::First, [0x5410_0000, 0xBFF0_0000]),
         (Edition::Second, [0x6808_0000, 0xBFF8_0000]),
         (Edition::Third, [0x6808_0000, 0xBFF8_0000]),
+        (Edition::Fourth, [0x6808_0000, 0xBFF8_0000]),
     ];
     for (edition, heads) in heads {
         let mut input = opening(edition, 1);
@@ -62,12 +64,13 @@ fn refused_openings() {
     assert_eq!(replay(&[0]), "refused\n");
     assert_eq!(replay(&[255]), "refused\n");
     assert_eq!(replay(&[254]), "refused\n");
-    for n in 65..=253 {
+    assert_eq!(replay(&[253]), "refused\n");
+    for n in 65..=252 {
         assert_eq!(replay(&[n]), "refused\n", "{n}");
         assert_eq!(replay(&[n; 71]), "refused\n", "{n}");
     }
     for n in [0, 249, 250, 251, 252, 253, 254, 255] {
-        for first in [254, 255] {
+        for first in [253, 254, 255] {
             assert_eq!(replay(&[first, n]), "refused\n", "{first} {n}");
             let mut input = vec![first, n];
             input.extend([0; 75]);
@@ -84,12 +87,13 @@ fn accepted_openings_alone_print_nothing() {
     for n in [1, 63, 64, 65, 127, 128, 191, 192, 247, 248] {
         assert_eq!(replay(&[255, n]), "");
         assert_eq!(replay(&[254, n]), "");
+        assert_eq!(replay(&[253, n]), "");
     }
 }
 
 #[test]
 fn rest_bytes_print_cut() {
-    for (edition, n) in EDITIONS.into_iter().zip([64, 248, 248]) {
+    for (edition, n) in EDITIONS.into_iter().zip([64, 248, 248, 248]) {
         for records in [0, 1, 3] {
             for rest in [0, 1, 23, 24, 69, 70, 74, 75] {
                 let mut input = opening(edition, n);
@@ -193,4 +197,41 @@ fn pings_that_fail_show_in_the_words() {
         let refused = text.contains("0050000000000000");
         assert_eq!(refused, answers == 0x88);
     }
+}
+
+#[test]
+fn faults_and_pings_of_the_wires_show_in_the_words() {
+    let fourth = |access, sample| record(Edition::Fourth, access, sample);
+    let write = |register, value| fourth(Access::Write { register, value }, REST);
+    let read = |register| fourth(Access::Read { register }, REST);
+    let mut input = opening(Edition::Fourth, 1);
+    // The timeout is 4, and local 1 and 3 are enabled in class 0, which stays
+    // off.
+    input.extend(write(5, 4).repeat(2));
+    input.extend(write(25, 1).repeat(2));
+    input.extend(write(27, 1).repeat(2));
+    // The word 0 sets an alert's turn, which ends in the next tick; line 0's
+    // ping is sent in the one after, and four answers are due.
+    input.extend(write(6, 1));
+    input.extend(read(43).repeat(2));
+    input.extend(read(43).repeat(4));
+    input.extend(read(41));
+    let zeros = |many| "0000000000000000\n".repeat(many);
+    let ones = |many| "0000000000000001\n".repeat(many);
+    // Silence: local 3 from the first answer on, and local 1 in the last.
+    assert_eq!(replay(&input), zeros(7 + 2 + 1) + &ones(3 + 1));
+    let size = Edition::Fourth.bytes();
+    let last = |tick: usize| 2 + (tick + 1) * size - 1;
+    // The answers (1,0), (0,1), (1,0), (0,1) of line 0.
+    let mut sound = input.clone();
+    (sound[last(9)], sound[last(11)]) = (0x95, 0x95);
+    assert_eq!(replay(&sound), zeros(7 + 2 + 4 + 1));
+    // Equal wires of line 3 in the first of these ticks.
+    let mut equal = sound.clone();
+    equal[last(9)] = 0x97;
+    assert_eq!(replay(&equal), zeros(7 + 2 + 1) + &ones(3) + &zeros(1));
+    // As an older input it has other words: its last bytes are malformed.
+    let mut older = input.clone();
+    older[0] = 254;
+    assert_eq!(replay(&older), "0050000000000000\n".repeat(14));
 }

@@ -3,14 +3,15 @@
 
 mod common;
 
+use common::records::EDITIONS;
 use common::{
     configure, event, idle, new, pause, raised, read, ready, sampled, tick, with, write, ALERT0,
-    COUNTS, REST,
+    COUNTS, REST, SILENT,
 };
 use reference::class::{IDLE, PHASE0, TERMINAL, TIMEOUT};
 use reference::handler::MAX_ALERTS;
 use reference::trace::word;
-use reference::{batch, Access, Edition, Handler, Outcome, Pairs, Place, Receiver, Source, Ticked};
+use reference::{batch, Access, Handler, Outcome, Pairs, Place, Receiver, Source, Ticked};
 
 // Registers
 
@@ -275,10 +276,11 @@ fn damaged_states_are_refused() {
             lines: 0,
             acknowledge: Pairs::at_rest(),
             ping: Pairs::at_rest(),
+            escalation: SILENT,
         };
         assert_eq!(tick(&mut h, Access::Malformed, ALERT0), refused);
         let mut out = [7];
-        for edition in [Edition::First, Edition::Second, Edition::Third] {
+        for edition in EDITIONS {
             assert_eq!(batch(&mut h, edition, &[0; 71], &mut out), -7);
             assert_eq!(batch(&mut h, edition, &[], &mut []), -7);
         }

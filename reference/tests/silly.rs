@@ -164,7 +164,7 @@ fn it_is_as_no_access_in_its_tick() {
         negative[1] ^= u64::from(numbers.below(20) == 0) << 9;
         let mut sample = sampled(positive, negative);
         sample.word = numbers.next() as u32 & 0xFF_0003;
-        sample.answers = numbers.next() as u8;
+        sample = numbers.received(sample);
         let mut plain = h.clone();
         let expected = tick(&mut plain, Access::None, sample);
         let ticked = tick(&mut h, lock, sample);

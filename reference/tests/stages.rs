@@ -235,7 +235,7 @@ fn a_staged_value_acts_on_nothing() {
             negative[0] ^= u64::from(numbers.below(20) == 0) << 63;
             let mut sample = sampled(positive, negative);
             sample.word = numbers.below(4) as u32;
-            sample.answers = numbers.next() as u8;
+            sample = numbers.received(sample);
             assert_eq!(
                 tick(&mut plain, access, sample),
                 tick(&mut staged, access, sample)
@@ -270,7 +270,7 @@ fn a_trace_that_writes_once_no_longer_configures() {
 #[test]
 fn records_of_all_editions_stage() {
     let write = |register, value| Access::Write { register, value };
-    for (edition, en) in EDITIONS.into_iter().zip([191, 575, 575]) {
+    for (edition, en) in EDITIONS.into_iter().zip([191, 575, 575, 575]) {
         let mut h = new(64);
         // Staged, committed, staged, dropped, staged.
         let values = [1, 1, 0, 1, 0];

@@ -2,9 +2,10 @@
 
 mod common;
 
+use common::records::EDITIONS;
 use common::timer::{alert_due, due, line_due, sample};
-use common::{new, read, tick, write, ALERT0, COUNTS, REST};
-use reference::{batch, install, Access, Edition, Handler, Pairs, Ticked, Timer};
+use common::{new, read, tick, write, ALERT0, COUNTS, REST, SILENT};
+use reference::{batch, install, Access, Handler, Pairs, Ticked, Timer};
 
 /// The answer of every call to a state that is refused.
 fn refused(h: &Handler) {
@@ -16,11 +17,12 @@ fn refused(h: &Handler) {
         lines: 0,
         acknowledge: Pairs::at_rest(),
         ping: Pairs::at_rest(),
+        escalation: SILENT,
     };
     assert_eq!(tick(&mut kept, Access::Malformed, ALERT0), nothing);
     assert_eq!(tick(&mut kept, Access::None, REST), nothing);
     assert_eq!((read(&mut kept, 4), write(&mut kept, 6, 1)), (-7, -7));
-    for edition in [Edition::First, Edition::Second, Edition::Third] {
+    for edition in EDITIONS {
         // Before 8 and 9, and with no bytes too.
         for length in [0, 1, 24, 70, 75, 150] {
             let mut out = [9];

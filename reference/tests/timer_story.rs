@@ -1,8 +1,10 @@
 //! Random ticks with the ping timer on, beside a second telling of request
-//! (ix) that goes by the numbers of the ticks and of the turns.
+//! (ix) that goes by the numbers of the ticks and of the turns. The ticks are
+//! those of an older edition, with answer bits.
 
 mod common;
 
+use common::timer::answering;
 use common::{new, tick, Numbers};
 use reference::{Access, Handler, Place, Sample};
 
@@ -115,7 +117,7 @@ fn sample(numbers: &mut Numbers, n: u64) -> Sample {
         sample.pos[word] = raised;
         sample.neg[word] = !raised ^ (numbers.next() & numbers.next() & numbers.next());
     }
-    sample.answers = (numbers.next() & numbers.next()) as u8;
+    sample = answering(sample, (numbers.next() & numbers.next()) as u8);
     let alert = numbers.below(n + n / 4 + 1) as u32 % 256;
     let ticks = [0, 0, 1, 2, 5][numbers.below(5) as usize];
     sample.word = (numbers.next() as u32) << 24 | alert << 16 | ticks;

@@ -147,15 +147,17 @@ fn an_older_batch_is_refused_where_the_timer_is_on() {
             }
             assert_eq!((&h, out), (&start, [11; 3]));
         }
-        // The newest takes it, and ticks go on.
-        let mut h = start.clone();
-        let mut out = [0];
-        assert_eq!(batch(&mut h, Edition::Third, &[], &mut []), 0);
-        assert_eq!(batch(&mut h, Edition::Third, &[0; 74], &mut out), -8);
-        assert_eq!(batch(&mut h, Edition::Third, &[0; 75], &mut []), -9);
-        assert_eq!(h, start);
-        assert_eq!(batch(&mut h, Edition::Third, &[0; 75], &mut out), 0);
-        assert_eq!(tick(&mut h, Access::None, REST).answer, 0);
+        // Those with words take it, and ticks go on.
+        for edition in [Edition::Third, Edition::Fourth] {
+            let mut h = start.clone();
+            let mut out = [0];
+            assert_eq!(batch(&mut h, edition, &[], &mut []), 0);
+            assert_eq!(batch(&mut h, edition, &[0; 74], &mut out), -8);
+            assert_eq!(batch(&mut h, edition, &[0; 75], &mut []), -9);
+            assert_eq!(h, start);
+            assert_eq!(batch(&mut h, edition, &[0; 75], &mut out), 0);
+            assert_eq!(tick(&mut h, Access::None, REST).answer, 0);
+        }
     }
 }
 
@@ -173,6 +175,7 @@ fn a_timer_that_is_off_refuses_no_batch() {
             alert: 3,
             count: 2,
             lines: 0xF0,
+            wrong: true,
         };
         let before = h.clone();
         let bytes = record(edition, Access::None, REST).repeat(9);
@@ -202,8 +205,7 @@ fn sample(numbers: &mut Numbers) -> Sample {
     sample.pos[0] = numbers.next() & numbers.next();
     sample.neg[0] = !sample.pos[0];
     sample.word = numbers.next() as u32 & 0xFF01_0003;
-    sample.answers = (numbers.next() & numbers.next()) as u8 & 15;
-    sample
+    answering(sample, (numbers.next() & numbers.next()) as u8 & 15)
 }
 
 #[test]

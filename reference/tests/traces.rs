@@ -2,17 +2,21 @@
 
 mod common;
 
+use common::escalation::right;
 use common::records::{pack, record, renumbered, unpack, EDITIONS};
 use common::{new, ready, sampled, with, Numbers, ALERT0, COUNTS, PAUSE, REST};
 use reference::trace::parse;
-use reference::{batch, Access, Edition, Handler, Place, Sample};
+use reference::{batch, Access, Edition, Handler, LinePairs, Place, Sample};
 
-/// The wires that a record of the edition has of a sample.
+/// What a record of the edition has of a sample's wires.
 fn wires_in(edition: Edition, mut sample: Sample) -> Sample {
+    if edition != Edition::Fourth {
+        sample.receive = None;
+    }
     for set in [&mut sample.pos, &mut sample.neg] {
         match edition {
             Edition::First => set[1..].fill(0),
-            Edition::Second | Edition::Third => set[3] &= !0xFF,
+            _ => set[3] &= !0xFF,
         }
     }
     sample
@@ -26,9 +30,12 @@ fn sizes() {
         (Edition::First, 24, 64),
         (Edition::Second, 70, 248),
         (Edition::Third, 75, 248),
+        (Edition::Fourth, 75, 248),
     ] {
         assert_eq!((edition.bytes(), edition.alerts()), (bytes, alerts));
-        assert_eq!(edition.has_word(), edition == Edition::Third);
+        let (third, fourth) = (edition == Edition::Third, edition == Edition::Fourth);
+        assert_eq!(edition.has_word(), third || fourth);
+        assert_eq!(edition.has_pairs(), fourth);
         let word = if edition.has_word() { 5 } else { 0 };
         assert_eq!(8 + 2 * edition.wire_bytes() + word, bytes);
         assert_eq!(2 + edition.register_bits() + edition.zero_bits(), 32);
@@ -43,9 +50,17 @@ fn check_rows(edition: Edition, rows: &[Row]) {
     let mut numbers = Numbers(5);
     for (head, value, access) in rows {
         let mut sample = numbers.sample();
-        if edition == Edition::Third {
+        if edition.has_word() {
             sample.word = numbers.next() as u32;
-            sample.answers = numbers.below(16) as u8;
+        }
+        match edition {
+            Edition::Third => sample.answers = numbers.below(16) as u8,
+            _ => {
+                sample.receive = Some(LinePairs {
+                    pos: numbers.below(16) as u8,
+                    neg: numbers.below(16) as u8,
+                })
+            }
         }
         let expected = wires_in(edition, sample);
         let parsed = parse(edition, &pack(edition, *head, *value, sample));
@@ -80,10 +95,10 @@ fn first_records_apart() {
 }
 
 #[test]
-fn second_and_third_records_apart() {
+fn later_records_apart() {
     let read = |register| Access::Read { register };
     let write = |register, value| Access::Write { register, value };
-    for edition in [Edition::Second, Edition::Third] {
+    for edition in [Edition::Second, Edition::Third, Edition::Fourth] {
         let rows = [
             (0, 0, Access::None),
             (0x6808_0000, 0, read(1281)),
@@ -122,6 +137,7 @@ fn the_ping_timers_numbers_apart() {
             (Edition::First, first, 2047),
             (Edition::Second, second, old),
             (Edition::Third, second, number),
+            (Edition::Fourth, second, number),
         ] {
             let rows = [
                 (0x4000_0000 | head, 0, Access::Read { register }),
@@ -134,7 +150,7 @@ fn the_ping_timers_numbers_apart() {
 
 #[test]
 fn every_zero_bit_must_be_zero() {
-    for (edition, zeros) in EDITIONS.into_iter().zip([20, 19, 19]) {
+    for (edition, zeros) in EDITIONS.into_iter().zip([20, 19, 19, 19]) {
         for kind in 0..4u32 {
             for bit in 0..zeros {
                 let bytes = pack(edition, (kind << 30) | (1 << bit), 0, REST);
@@ -204,7 +220,7 @@ fn batches() {
         let size = edition.bytes();
         let cause = match edition {
             Edition::First => 256,
-            Edition::Second | Edition::Third => 1024,
+            _ => 1024,
         };
         let mut h = ready(1, 0x393D);
         let mut bytes = record(edition, Access::Malformed, ALERT0);
@@ -234,6 +250,9 @@ fn the_length_is_the_editions_own() {
     assert_eq!(batch(&mut h, Edition::Second, &bytes[..75], &mut out), -8);
     assert_eq!(batch(&mut h, Edition::Third, &bytes[..75], &mut out), 0);
     assert_eq!(batch(&mut h, Edition::Third, &bytes[..150], &mut [0]), -9);
+    assert_eq!(batch(&mut h, Edition::Fourth, &bytes[..70], &mut out), -8);
+    assert_eq!(batch(&mut h, Edition::Fourth, &bytes[..75], &mut out), 0);
+    assert_eq!(batch(&mut h, Edition::Fourth, &bytes[..150], &mut [0]), -9);
     assert_eq!(batch(&mut h, Edition::First, &bytes[..70], &mut out), -8);
     assert_eq!(batch(&mut h, Edition::Second, &bytes[..24], &mut out), -8);
     // Both lengths divide this one, which is 70 old records or 24 new.
@@ -263,6 +282,7 @@ fn a_first_batch_is_refused_by_more_than_64_alerts() {
         assert_eq!(batch(&mut h, Edition::Second, &[], &mut []), 0);
         assert_eq!(batch(&mut h, Edition::Second, &[0; 70], &mut out), 0);
         assert_eq!(batch(&mut h, Edition::Third, &[0; 75], &mut out), 0);
+        assert_eq!(batch(&mut h, Edition::Fourth, &[0; 75], &mut out), 0);
         assert_eq!(h.tick(Access::None, &REST).answer, 0);
     }
     for n in [1, 63, 64] {
@@ -315,30 +335,35 @@ fn carried_by_hand(access: Access) -> Access {
 fn all_editions_give_the_same_words_and_states() {
     let mut numbers = Numbers(8);
     for n in [1, 2, 31, 63, 64] {
-        let mut handlers: [Handler; 3] = [new(n), new(n), new(n)];
+        let mut handlers: [Handler; 4] = [new(n), new(n), new(n), new(n)];
+        // Runs ahead, to know what sound receivers answer.
+        let mut ahead = new(n);
         let (mut access, mut sample) = fields(&mut numbers);
         for _ in 0..400 {
-            let mut bytes = [Vec::new(), Vec::new(), Vec::new()];
+            let mut bytes = [Vec::new(), Vec::new(), Vec::new(), Vec::new()];
             for _ in 0..20 {
                 // As often again, since a shadowed register takes two writes.
                 if numbers.below(2) == 0 {
                     (access, sample) = fields(&mut numbers);
                 }
                 let carried = carried_by_hand(access);
-                let accesses = [access, carried, carried];
+                let accesses = [access, carried, carried, carried];
+                sample.receive = Some(right(&ahead));
+                ahead.tick(carried, &sample);
                 for (at, edition) in EDITIONS.into_iter().enumerate() {
                     bytes[at].extend(record(edition, accesses[at], sample));
                 }
             }
-            let mut out = [[0; 20]; 3];
+            let mut out = [[0; 20]; 4];
             for (at, edition) in EDITIONS.into_iter().enumerate() {
                 let answer = batch(&mut handlers[at], edition, &bytes[at], &mut out[at]);
                 assert_eq!(answer, 0);
             }
-            for at in 1..3 {
+            for at in 1..4 {
                 assert_eq!(out[0].map(unpack), out[at].map(unpack));
                 assert_eq!(handlers[0], handlers[at]);
             }
+            assert_eq!(handlers[0], ahead);
         }
     }
 }

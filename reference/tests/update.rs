@@ -5,7 +5,7 @@ mod common;
 use common::shadowed::{guard, held, open, shadowed};
 use common::{configure, event, idle, new, raised, read, ready, tick, with, write, ALERT0, REST};
 use reference::class::{IDLE, PHASE0, TIMEOUT};
-use reference::{Access, Handler, Place, Sample, Ticked};
+use reference::{Access, Answering, Handler, Place, Sample, Sender, Stand, Ticked};
 
 /// Local 5's EN, CLASS and CAUSE.
 const EN: u16 = 29;
@@ -79,6 +79,15 @@ fn it_changes_no_more_than_its_event() {
     expected.classes[1].accum_cnt = 1;
     expected.classes[1].state = PHASE0;
     expected.classes[1].esc_cnt = 1;
+    // Line 0 comes on.
+    expected.senders[0] = Sender {
+        on: true,
+        first: true,
+        receiver: Answering {
+            stand: Stand::First,
+            level: true,
+        },
+    };
     differ(&mut h, REST);
     assert_eq!(h, expected);
 }

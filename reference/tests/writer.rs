@@ -5,7 +5,7 @@ mod common;
 use common::Numbers;
 use reference::trace::parse;
 use reference::writer::WRITTEN;
-use reference::{record, Access, Edition, Sample, Wires};
+use reference::{record, Access, Edition, LinePairs, Sample, Wires};
 
 /// The bytes of a record that is written.
 const SIZE: usize = 75;
@@ -22,7 +22,7 @@ struct List {
     positive: Vec<Wires>,
     negative: Vec<Wires>,
     words: Vec<u32>,
-    answers: Vec<u8>,
+    receive: Vec<LinePairs>,
 }
 
 impl List {
@@ -41,7 +41,7 @@ impl List {
         self.positive.push(entry.3.pos);
         self.negative.push(entry.3.neg);
         self.words.push(entry.3.word);
-        self.answers.push(entry.3.answers);
+        self.receive.push(entry.3.receive.unwrap());
     }
 
     fn write(&self, out: &mut [u8]) -> i64 {
@@ -52,7 +52,7 @@ impl List {
             &self.positive,
             &self.negative,
             &self.words,
-            &self.answers,
+            &self.receive,
             out,
         )
     }
@@ -70,7 +70,8 @@ impl List {
             pos: self.positive[i],
             neg: self.negative[i],
             word: self.words[i],
-            answers: self.answers[i],
+            receive: Some(self.receive[i]),
+            answers: 0,
         };
         (access, sample)
     }
@@ -87,23 +88,30 @@ fn read((access, sample): (Access, Sample)) -> Entry {
 }
 
 /// A sample as a record gives it, with nothing in the last eight places of the
-/// wires and the last four of the answers.
+/// wires and the last four of the receive pairs.
 fn sample(numbers: &mut Numbers) -> Sample {
     let mut sample = numbers.sample();
     sample.pos[3] &= !0xFF;
     sample.neg[3] &= !0xFF;
     sample.word = numbers.next() as u32;
-    sample.answers = numbers.below(16) as u8;
+    sample.receive = Some(LinePairs {
+        pos: numbers.below(16) as u8,
+        neg: numbers.below(16) as u8,
+    });
     sample
 }
 
-/// A sample of these parts.
-fn of(pos: Wires, neg: Wires, word: u32, answers: u8) -> Sample {
+/// A sample of these parts, the receive pairs' positive and negative bits last.
+fn of(pos: Wires, neg: Wires, word: u32, receive: (u8, u8)) -> Sample {
     Sample {
         pos,
         neg,
         word,
-        answers,
+        receive: Some(LinePairs {
+            pos: receive.0,
+            neg: receive.1,
+        }),
+        answers: 0,
     }
 }
 
@@ -131,9 +139,9 @@ fn list(numbers: &mut Numbers) -> List {
 fn three() -> List {
     let wires = |first| [first, 5, 6, 7 << 8];
     List::of(&[
-        (2, 1, 2, of(wires(3), wires(4), 10, 11)),
-        (1, 5, 0, of(wires(6), wires(7), 12, 13)),
-        (0, 0, 0, of(wires(8), wires(9), 14, 15)),
+        (2, 1, 2, of(wires(3), wires(4), 10, (11, 1))),
+        (1, 5, 0, of(wires(6), wires(7), 12, (13, 0))),
+        (0, 0, 0, of(wires(8), wires(9), 14, (15, 15))),
     ])
 }
 
@@ -148,17 +156,17 @@ fn hex(bytes: &[u8]) -> String {
 
 #[test]
 fn the_newest_edition_is_written() {
-    assert_eq!((WRITTEN, WRITTEN.bytes()), (Edition::Third, SIZE));
+    assert_eq!((WRITTEN, WRITTEN.bytes()), (Edition::Fourth, SIZE));
 }
 
 #[test]
 fn the_papers_accesses() {
     // 321 and 1023 of the base are 1281 now and a number that is unassigned.
-    let rest = of([0; 4], [1 << 63, 0, 0, 0], 0, 0);
+    let rest = of([0; 4], [1 << 63, 0, 0, 0], 0, (0, 15));
     let list = List::of(&[(1, 1281, 0, rest), (2, 2047, 0, rest)]);
     let mut out = buffer(150);
     assert_eq!(list.write(&mut out), 150);
-    let sample = "00".repeat(31) + "80" + &"00".repeat(30) + "0000000000";
+    let sample = "00".repeat(31) + "80" + &"00".repeat(30) + "0000000055";
     assert_eq!(hex(&out[..75]), format!("6808000000000000{sample}"));
     assert_eq!(hex(&out[75..]), format!("bff8000000000000{sample}"));
 }
@@ -171,17 +179,22 @@ const MARKED: Wires = [
     0x99aa_bbcc_ddee_ffa5,
 ];
 
-/// Words and answers, and a record's last bytes. Line 0's answer bit comes
-/// first; bits 4 to 7 are no answers.
-const PINGS: [(u32, u8, &str); 8] = [
-    (0, 0, "0000000000"),
-    (u32::MAX, 15, "ffffffff0f"),
-    (0x0123_4567, 1, "0123456708"),
-    (0x89ab_cdef, 2, "89abcdef04"),
-    (1, 4, "0000000102"),
-    (1 << 31, 8, "8000000001"),
-    (0x10_0000, 0xF3, "001000000c"),
-    (7, 0xF0, "0000000700"),
+/// Words and receive pairs, and a record's last bytes. Line 0 and its positive
+/// wire come first; bits 4 to 7 are no wires.
+const ENDS: [(u32, (u8, u8), &str); 13] = [
+    (0, (0, 0), "0000000000"),
+    (0, (0, 15), "0000000055"),
+    (0, (15, 0), "00000000aa"),
+    (u32::MAX, (15, 15), "ffffffffff"),
+    (0x0123_4567, (1, 0), "0123456780"),
+    (0x89ab_cdef, (0, 1), "89abcdef40"),
+    (1, (2, 0), "0000000120"),
+    (1 << 31, (0, 2), "8000000010"),
+    (0x10_0000, (4, 0), "0010000008"),
+    (7, (0, 4), "0000000704"),
+    (8, (8, 0), "0000000802"),
+    (9, (0, 8), "0000000901"),
+    (10, (0xF3, 0xFC), "0000000aa5"),
 ];
 
 #[test]
@@ -212,8 +225,8 @@ fn each_field_has_its_bits() {
         ),
     ];
     for ((kind, register, value, pos, neg), bytes) in rows {
-        for (word, answers, last) in PINGS {
-            let entry = (kind, register, value, of(pos, neg, word, answers));
+        for (word, receive, last) in ENDS {
+            let entry = (kind, register, value, of(pos, neg, word, receive));
             let mut out = buffer(SIZE);
             assert_eq!(List::of(&[entry]).write(&mut out), 75);
             assert_eq!(hex(&out), bytes.concat() + last);
@@ -231,7 +244,7 @@ fn reading_what_was_written() {
         let before = out.clone();
         assert_eq!(list.write(&mut out), (entries * SIZE) as i64);
         for (i, written) in out.chunks_exact(SIZE).take(entries).enumerate() {
-            assert_eq!(parse(Edition::Third, written), list.entry(i));
+            assert_eq!(parse(Edition::Fourth, written), list.entry(i));
         }
         assert_eq!(out[entries * SIZE..], before[entries * SIZE..]);
     }
@@ -254,8 +267,7 @@ fn writing_what_was_read() {
                 2 => {}
                 _ => record[0] &= 0xBF,
             }
-            record[74] &= 0xF;
-            list.push(read(parse(Edition::Third, &record)));
+            list.push(read(parse(Edition::Fourth, &record)));
             bytes.extend(record);
         }
         let mut out = buffer(bytes.len());
@@ -321,7 +333,7 @@ fn all_other_entries_are_written() {
                     1 => value == 0,
                     _ => true,
                 };
-                let sample = of([5; 4], [6; 4], 7, 8);
+                let sample = of([5; 4], [6; 4], 7, (8, 9));
                 let list = List::of(&[(kind, register, value, sample)]);
                 let mut out = [0; SIZE];
                 assert_eq!(list.write(&mut out), if good { 75 } else { -10 });
@@ -340,7 +352,7 @@ fn slices_of_unequal_lengths_are_refused() {
         |list, length| list.positive.resize(length, [0; 4]),
         |list, length| list.negative.resize(length, [0; 4]),
         |list, length| list.words.resize(length, 0),
-        |list, length| list.answers.resize(length, 0),
+        |list, length| list.receive.resize(length, LinePairs::at_rest()),
     ];
     for resize in change {
         for length in [0, 1, 2, 4, 9] {

@@ -6,6 +6,7 @@ use handler::tick::step;
 use rules::Answer;
 use rules::Handler;
 use rules::Refusal;
+use samples::link::link;
 use state::valid::is_valid;
 use trace::edition::alerts;
 use trace::edition::record_bytes;
@@ -49,9 +50,9 @@ fn run_records(edition: Edition, h: Handler, bytes: &[u8], out: &mut [u64], coun
         if quiet.holds {
             let before = g.classes;
             let moved = moved_by(before, g.interrupts);
+            let links = link(g.links, quiet.met, moved.lines as u32);
             let answer = quiet.answer;
             out[i] = word(moved.interrupts, moved.lines, answer);
-            let links = quiet.links;
             let classes = moved.classes;
             g.links = links;
             g.classes = classes;
@@ -86,6 +87,7 @@ fn has_timer(edition: Edition) -> bool
         Edition::Alerts64 => false,
         Edition::Alerts248 => false,
         Edition::Pings => true,
+        Edition::Wires => true,
     }
 }
 

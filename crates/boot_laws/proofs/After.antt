@@ -3,9 +3,11 @@
 use Prim.Native.Nat.{ℕ, _≤_, _<_}
 use mathlib.Core.Path.{_≡_, refl, sym, ap, _∙_, subst}
 use mathlib.Core.Bool.{Bool, true, false, _&&_}
+use mathlib.Core.Logic.{_⊎_, inl, inr}
 use native.Mathlib.Omega.{arith}
 use borrow.Author.Tests.{lt-ltb, ltb-false}
 use lib.Dec.{eqb, ltb}
+use lib.ListN.{length, take}
 use Rattle.bits.proofs.IndexLaws.{true-and}
 use Rattle.bits.specs.Bits.{bit}
 use Rattle.class_rules.specs.Class.{en, lock}
@@ -23,6 +25,7 @@ use Rattle.laws.specs.RegisterFile.{commits}
 use Rattle.laws.specs.StageFile.{names}
 use Rattle.rules.specs.Access.{value, acted, effects}
 use Rattle.rules.specs.Map.{decode, numberOf}
+use Rattle.rules.specs.Run.{run}
 use Rattle.rules.specs.Samples.{asksFor, marked, alertEnabled}
 use Rattle.rules.specs.Stages.{stage}
 use Rattle.rules.specs.State.{most, localCount, classCount, classAt}
@@ -38,21 +41,21 @@ use Rattle.rules.specs.declared.Single.the-variants.{IntrState, IntrEnable}
 use Rattle.policy.specs.Install.{Ask, Entry, under, install, write, read, asks}
 use Rattle.policy.specs.Plan.{locks, ctrlOf, alertEntries, classEntries, planOf, boot}
 use Rattle.boot_laws.specs.Boots.{booted}
-use Rattle.boot_laws.specs.Ran.{inputOf, wants, reach, Among}
+use Rattle.boot_laws.specs.Ran.{inputOf, inputs, wants, reach, Among}
 use Rattle.boot_laws.specs.Ran.Among.{here, there}
 use Rattle.policy.specs.Sound.{unnamed, sound, planned}
-use Rattle.boot_laws.specs.Stands.{Success, Stands, Untouched, NoPingEvent, Eventless}
+use Rattle.boot_laws.specs.Stands.{Success, Stands, Untouched, NoPingEvent, Unasked, NoWrongEvent, Eventless}
 use Rattle.policy.specs.Table.{alertCount}
 use Rattle.policy.specs.declared.Installed.{Installed}
 use Rattle.policy.specs.declared.Lifecycle.{Lifecycle}
 use Rattle.policy.specs.declared.Progress.{Progress}
-use Rattle.boot_laws.proofs.AskLaws.{install-keeps, install-goes, Kept, reach-kept, install-kept, install-run}
+use Rattle.boot_laws.proofs.AskLaws.{install-keeps, install-goes-by, Kept, reach-kept, install-kept, install-run}
 use Rattle.boot_laws.proofs.EntryLaws.{Fit, Settled, spares, other-name, reach-stage}
 use Rattle.boot_laws.proofs.InstallLaws.{sound-fit, unnamed-at, moving-unnamed, all-asks, Same, same-start, install-frame, install-holds}
 use Rattle.boot_laws.proofs.Members.{has-length, alert-part, class-part, lock-part, last-part}
 use Rattle.policy.proofs.PlanLaws.{plan-planned}
-use Rattle.boot_laws.proofs.NoPings.{Clear, plan-clear}
-use Rattle.boot_laws.proofs.QuietLaws.{at-rest, quiet-write, quiet-read, pings-write, pings-read}
+use Rattle.boot_laws.proofs.NoPings.{Clear, Unwrong, plan-clear}
+use Rattle.boot_laws.proofs.QuietLaws.{at-rest, quiet-write, quiet-read, pings-write, pings-read, three-write, three-read}
 use Rattle.boot_laws.proofs.Unnamed.{unplanned, local-out, cause-out, other-out}
 use Rattle.boot_laws.proofs.Boot.{plan-fits, begins, Went, went}
 
@@ -96,30 +99,52 @@ module _ (l : Lifecycle) (h : Handler) (w : Went l h) where
       ctrl-is : (k : ℕ) → k < classCount → value g (Block Ctrl k) ≡ ctrlOf l k
       ctrl-is k b = holds _ (class-part l _ k b (there (there (there (there (there (there here)))))))
 
+  -- in each tick local 3 is disabled or no sender waits for a 1
+  abbrev Quiet : Handler → Type 0
+  Quiet f = (value h (Local Field.En 3) ≡ 0) ⊎ Unasked f
+
+  quiets : NoWrongEvent l h → (i : ℕ) → i < length (asks (planOf l)) → Quiet (run h (take i (inputs (asks (planOf l)))))
+  quiets (inl z) i b = inl z
+  quiets (inr u) i b = inr (u i b)
+
+  unwrong : (f : Handler) → Quiet f → value f (Local Field.En 3) ≡ value h (Local Field.En 3) → Unwrong f
+  unwrong f (inl z) e = inl (e ∙ z)
+  unwrong f (inr u) e = inr u
+
   -- what the plan does not name
-  pub same : NoPingEvent h → (o : Register) → inMap (h .n) o ≡ true → unnamed o (planOf l) ≡ true → runs o ≡ false → Same o h g
-  same p o a u r =
-      install-goes I (asks (planOf l))
-      (all-asks (λ x. (f : Handler) → I f → wants f x ≡ true → I (reach f x)) (planOf l) (λ e m.
+  pub same : NoPingEvent h → NoWrongEvent l h → (o : Register) → inMap (h .n) o ≡ true → unnamed o (planOf l) ≡ true → runs o ≡ false → Same o h g
+  same p z o a u r =
+      install-goes-by Quiet I (asks (planOf l))
+      (all-asks (λ x. (f : Handler) → Quiet f → I f → wants f x ≡ true → I (reach f x)) (planOf l) (λ e m.
       let k = sound-fit (h .n) (planOf l) fits-it e m in
       let d = unnamed-at o (planOf l) u e m in
       (by-write (e .register) (e .value) k d (plan-clear l e m), by-read (e .register) (e .value) k d (plan-clear l e m))))
-      h (same-start o h (w .good), p) (w .going) .0
+      h (same-start o h (w .good), p, refl) (quiets z) (w .going) .0
     where
       I : Handler → Type 0
-      I f = Same o h f × NoPingEvent f
+      I f = Same o h f × NoPingEvent f × (value f (Local Field.En 3) ≡ value h (Local Field.En 3))
 
-      by-write : (q : Register) (v : ℕ) → Fit (h .n) q v → (numberOf q ≡ numberOf o → ⊥) → Clear q → (f : Handler) → I f
+      by-write : (q : Register) (v : ℕ) → Fit (h .n) q v → (numberOf q ≡ numberOf o → ⊥) → Clear q → (f : Handler) → Quiet f → I f
           → wants f (write (numberOf q) v) ≡ true → I (reach f (write (numberOf q) v))
-      by-write q v k d c f i y = (quiet-write h f (i .0 .kept) q v k c (i .1) o a r d (i .0) y, pings-write h f (i .0 .kept) q v k c (i .1))
+      by-write q v k d c f y i x =
+          let n = unwrong f y (i .2) in (
+            quiet-write h f (i .0 .kept) q v k c (i .1) n o a r d (i .0) x,
+            pings-write h f (i .0 .kept) q v k c (i .1) n,
+            three-write h f (i .0 .kept) q v k c (i .1) n ∙ i .2,
+          )
 
-      by-read : (q : Register) (v : ℕ) → Fit (h .n) q v → (numberOf q ≡ numberOf o → ⊥) → Clear q → (f : Handler) → I f
+      by-read : (q : Register) (v : ℕ) → Fit (h .n) q v → (numberOf q ≡ numberOf o → ⊥) → Clear q → (f : Handler) → Quiet f → I f
           → wants f (read (numberOf q) v) ≡ true → I (reach f (read (numberOf q) v))
-      by-read q v k d c f i y = (quiet-read h f (i .0 .kept) q v k c (i .1) o a r d (i .0) y, pings-read h f (i .0 .kept) q v k c (i .1))
+      by-read q v k d c f y i x =
+          let n = unwrong f y (i .2) in (
+            quiet-read h f (i .0 .kept) q v k c (i .1) n o a r d (i .0) x,
+            pings-read h f (i .0 .kept) q v k c (i .1) n,
+            three-read h f (i .0 .kept) q v k c (i .1) n ∙ i .2,
+          )
 
   -- what moves only with an event is as before: the plan names no register that moves by itself
-  pub eventless : NoPingEvent h → Eventless h g
-  eventless p =
+  pub eventless : NoPingEvent h → NoWrongEvent l h → Eventless h g
+  eventless p z =
       record {
         values = moved;
         interrupts = moved (Only IntrState) refl refl refl;
@@ -129,7 +154,7 @@ module _ (l : Lifecycle) (h : Handler) (w : Went l h) where
       }
     where
       moved : (o : Register) → inMap (h .n) o ≡ true → movesItself o ≡ true → runs o ≡ false → value g o ≡ value h o
-      moved o a m r = same p o a (moving-unnamed (h .n) (facts h (w .good) .n) (planOf l) fits-it o a m) r .holds
+      moved o a m r = same p z o a (moving-unnamed (h .n) (facts h (w .good) .n) (planOf l) fits-it o a m) r .holds
 
 -- ── what no boot moves ──
 
@@ -239,8 +264,8 @@ module _ (l : Lifecycle) (h : Handler) (s : Success l h) where
   boot-stands = subst (λ (r : Installed). Stands l (r .handler)) (sym is-it) (stands l h (went l h s))
 
   -- and no event came
-  pub boot-eventless : NoPingEvent h → Eventless h (boot l h .handler)
-  boot-eventless p = subst (λ (r : Installed). Eventless h (r .handler)) (sym is-it) (eventless l h (went l h s) p)
+  pub boot-eventless : NoPingEvent h → NoWrongEvent l h → Eventless h (boot l h .handler)
+  boot-eventless p z = subst (λ (r : Installed). Eventless h (r .handler)) (sym is-it) (eventless l h (went l h s) p z)
 
 -- of every boot, one that stops, and one that does not begin
 pub boot-untouched : (l : Lifecycle) (h : Handler) → Untouched l h (boot l h .handler)

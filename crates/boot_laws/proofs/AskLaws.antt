@@ -1,12 +1,12 @@
 -- A list of accesses: what holds along it, which ticks ran, and where it stopped.
 -- Assumes nothing.
-use Prim.Native.Nat.{ℕ, zero, suc, _<_}
+use Prim.Native.Nat.{ℕ, zero, suc, _≤_, _<_}
 use mathlib.Core.Path.{_≡_, refl, sym, ap, _∙_, subst}
 use mathlib.Core.Bool.{Bool, true, false, true≢false, cond}
 use mathlib.Core.List.{List, [], _∷_}
 use native.Mathlib.Omega.{arith}
 use native.Mathlib.Nat.{le-of-suc-le-suc}
-use lib.ListN.{getD, take}
+use lib.ListN.{getD, length, take}
 use Rattle.laws.proofs.Map.Cases.{pick}
 use Rattle.laws.proofs.Tick.Frame.{after-n}
 use Rattle.laws.proofs.Valid.KeepsValid.{ticked-valid}
@@ -80,6 +80,39 @@ install-goes I (a ∷ xs) (more p ps) h i g =
     let e : asked h a ≡ under (reach h a) = asked-wanted h a w in
     subst (λ (s : Progress). I (install s xs .reached .handler)) (sym e)
     (install-goes I xs ps (reach h a) (p h i w) (ap (λ (s : Progress). install s xs .going) (sym e) ∙ g))
+
+-- .. and something besides holds before each tick
+pub install-goes-by : (P I : Handler → Type 0) (xs : List Ask) → All (λ a. (h : Handler) → P h → I h → wants h a ≡ true → I (reach h a)) xs → (h : Handler) → I h
+    → ((i : ℕ) → i < length xs → P (run h (take i (inputs xs)))) → install (under h) xs .going ≡ true → I (install (under h) xs .reached .handler)
+unfolding install ask run
+install-goes-by P I [] none h i r g = i
+install-goes-by P I (a ∷ xs) (more p ps) h i r g =
+    let w : wants h a ≡ true = asked-going h a (was-going (asked h a) xs g) in
+    let e : asked h a ≡ under (reach h a) = asked-wanted h a w in
+    subst (λ (s : Progress). I (install s xs .reached .handler)) (sym e)
+    (install-goes-by P I xs ps (reach h a) (p h (r 0 (omega arith)) i w) (λ n (l : n < length xs). r (suc n) (omega (arith, l)))
+    (ap (λ (s : Progress). install s xs .going) (sym e) ∙ g))
+
+-- what each such tick keeps holds before each, and after the last
+pub goes-along : (I : Handler → Type 0) (xs : List Ask) → All (λ a. (h : Handler) → I h → wants h a ≡ true → I (reach h a)) xs → (h : Handler) → I h
+    → install (under h) xs .going ≡ true → (i : ℕ) → i ≤ length xs → I (run h (take i (inputs xs)))
+unfolding install ask run
+goes-along I xs ps h s g zero l = s
+goes-along I [] ps h s g (suc i) l = absurd (omega (arith, l))
+goes-along I (a ∷ xs) (more p ps) h s g (suc i) l =
+    let w : wants h a ≡ true = asked-going h a (was-going (asked h a) xs g) in
+    let e : asked h a ≡ under (reach h a) = asked-wanted h a w in
+    goes-along I xs ps (reach h a) (p h s w) (ap (λ (s : Progress). install s xs .going) (sym e) ∙ g) i (omega (arith, l))
+
+-- the answer that is wanted came in each of them
+pub wanted-along : (h : Handler) (xs : List Ask) → install (under h) xs .going ≡ true → (i : ℕ) → i < length xs
+    → wants (run h (take i (inputs xs))) (getD xs i noAsk) ≡ true
+unfolding install ask run
+wanted-along h [] g i l = absurd (omega (arith, l))
+wanted-along h (a ∷ xs) g zero l = asked-going h a (was-going (asked h a) xs g)
+wanted-along h (a ∷ xs) g (suc i) l =
+    let e : asked h a ≡ under (reach h a) = asked-wanted h a (asked-going h a (was-going (asked h a) xs g)) in
+    wanted-along (reach h a) xs (ap (λ (s : Progress). install s xs .going) (sym e) ∙ g) i (omega (arith, l))
 
 -- valid, and as many alerts
 pub record Kept (h g : Handler) : Type 0 where

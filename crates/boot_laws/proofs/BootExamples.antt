@@ -17,7 +17,7 @@ use Rattle.rules.specs.declared.Setting.the-variants.{Ctrl, AccumCnt, AccumThre
 use Rattle.rules.specs.declared.Single.the-variants.{IntrState, IntrEnable}
 use Rattle.policy.specs.Plan.{alertEntries, classEntries, lockEntries, classLock, partsTo, planOf, boot}
 use Rattle.policy.specs.Sound.{unnamed}
-use Rattle.boot_laws.specs.Stands.{Success, NoPingEvent}
+use Rattle.boot_laws.specs.Stands.{Success, NoPingEvent, NoWrongEvent}
 use Rattle.policy.specs.Table.{markAt}
 use Rattle.policy.specs.declared.Installed.{Installed}
 use Rattle.policy.specs.declared.Lifecycle.{Lifecycle}
@@ -121,16 +121,16 @@ module _ (h : Handler) where
     abbrev after : Handler
     after = boot l h .handler
 
-    untouched : NoPingEvent h
+    untouched : NoPingEvent h → NoWrongEvent l h
         → (after .n ≡ h .n)
         × (value after (Only IntrState) ≡ value h (Only IntrState))
         × (value after (Only IntrEnable) ≡ value h (Only IntrEnable))
         × (value after (Local Field.En 6) ≡ value h (Local Field.En 6))
         × (stage after (Local Field.Class 0) ≡ stage h (Local Field.Class 0))
         × (value after (Block AccumCnt 3) ≡ value h (Block AccumCnt 3))
-    untouched p =
+    untouched p z =
         let t = boot-untouched l h in
-        let e = boot-eventless l h s p in
+        let e = boot-eventless l h s p z in
         (t .n, e .interrupts, t .enables, t .locals Field.En 6 (omega arith) refl, t .local-stages Field.Class 0 (omega arith), e .counts 3 (omega arith))
 
     -- and by the general words, in PROD

@@ -37,7 +37,7 @@ use Rattle.rules.specs.declared.Field.{Field}
 use Rattle.rules.specs.declared.Handler.{Handler}
 use Rattle.rules.specs.declared.Input.{Input}
 use Rattle.rules.specs.declared.Register.{Register}
-use Rattle.rules.specs.declared.Register.the-variants.{Only, Alert, Block}
+use Rattle.rules.specs.declared.Register.the-variants.{Only, Local, Alert, Block}
 use Rattle.rules.specs.declared.Setting.{Setting}
 use Rattle.rules.specs.declared.Setting.the-variants.{Ctrl, AccumThresh}
 use Rattle.rules.specs.declared.Single.the-variants.{IntrState, PingEnable}
@@ -57,7 +57,7 @@ use Rattle.boot_laws.proofs.Boot.{Went, went, begins, plan-fits, new-su
 use Rattle.boot_laws.proofs.EntryLaws.{Fit}
 use Rattle.boot_laws.proofs.InstallLaws.{sound-fit, all-asks, Same}
 use Rattle.boot_laws.proofs.NoPings.{Clear, plan-clear}
-use Rattle.boot_laws.proofs.QuietLaws.{quiet-write, quiet-read, idle-write, idle-read, pings-write, pings-read}
+use Rattle.boot_laws.proofs.QuietLaws.{quiet-write, quiet-read, idle-write, idle-read, pings-write, pings-read, three-write, three-read}
 
 -- ── a locked register along a list ──
 
@@ -81,15 +81,16 @@ still h ys x q t i b =
 
 -- ── after the boot class A waits ──
 
--- valid, as many alerts, INTR_STATE 0, class A Idle, and no failing ping an event
+-- valid, as many alerts, INTR_STATE 0, class A Idle, no failing ping an event, and local 3 disabled
 pub record Waits (h g : Handler) : Type 0 where
   pub kept : Kept h g
   pub calm : value g (Only IntrState) ≡ 0
   pub idle : stateOf (classAt g 0 .state) ≡ Idle
   pub unpinged : NoPingEvent g
+  pub disabled : value g (Local Field.En 3) ≡ 0
 
 module _ (l : Lifecycle) (h : Handler) (w : Went l h) (z : value h (Only IntrState) ≡ 0) (i : stateOf (classAt h 0 .state) ≡ Idle)
-    (p : NoPingEvent h) where
+    (p : NoPingEvent h) (x : value h (Local Field.En 3) ≡ 0) where
   calm-bit : (f : Handler) → value f (Only IntrState) ≡ 0 → bit (f .interrupts .state) 0 ≡ false
   unfolding value
   calm-bit f e = ap (λ (x : ℕ). bit x 0) e ∙ bit-none 0
@@ -106,16 +107,17 @@ module _ (l : Lifecycle) (h : Handler) (w : Went l h) (z : value h (Only IntrSta
       let k = sound-fit (h .n) (planOf l) (plan-fits l (h .n) (w .large)) e m in
       let d = not-zero (h .n) (e .register) (e .value) (facts h (w .good) .n) k in
       (by-write (e .register) (e .value) k d (plan-clear l e m), by-read (e .register) (e .value) k d (plan-clear l e m))))
-      h (record { kept = record { good = w .good; n = refl }; calm = z; idle = i; unpinged = p }) (w .going)
+      h (record { kept = record { good = w .good; n = refl }; calm = z; idle = i; unpinged = p; disabled = x }) (w .going)
     where
       by-write : (q : Register) (v : ℕ) → Fit (h .n) q v → (numberOf q ≡ numberOf (Only IntrState) → ⊥) → Clear q → (f : Handler) → Waits h f
           → wants f (write (numberOf q) v) ≡ true → Waits h (reach f (write (numberOf q) v))
       by-write q v k d c f s g =
           record {
             kept = reach-kept h f (write (numberOf q) v) (s .kept);
-            calm = quiet-write h f (s .kept) q v k c (s .unpinged) (Only IntrState) refl refl d (zero-same f s) g .holds ∙ z;
-            idle = idle-write h f (s .kept) q v k c (s .unpinged) 0 (omega arith) g d (calm-bit f (s .calm)) (s .idle);
-            unpinged = pings-write h f (s .kept) q v k c (s .unpinged);
+            calm = quiet-write h f (s .kept) q v k c (s .unpinged) (inl (s .disabled)) (Only IntrState) refl refl d (zero-same f s) g .holds ∙ z;
+            idle = idle-write h f (s .kept) q v k c (s .unpinged) (inl (s .disabled)) 0 (omega arith) g d (calm-bit f (s .calm)) (s .idle);
+            unpinged = pings-write h f (s .kept) q v k c (s .unpinged) (inl (s .disabled));
+            disabled = three-write h f (s .kept) q v k c (s .unpinged) (inl (s .disabled)) ∙ s .disabled;
           }
 
       by-read : (q : Register) (v : ℕ) → Fit (h .n) q v → (numberOf q ≡ numberOf (Only IntrState) → ⊥) → Clear q → (f : Handler) → Waits h f
@@ -123,9 +125,10 @@ module _ (l : Lifecycle) (h : Handler) (w : Went l h) (z : value h (Only IntrSta
       by-read q v k d c f s g =
           record {
             kept = reach-kept h f (read (numberOf q) v) (s .kept);
-            calm = quiet-read h f (s .kept) q v k c (s .unpinged) (Only IntrState) refl refl d (zero-same f s) g .holds ∙ z;
-            idle = idle-read h f (s .kept) q v k c (s .unpinged) 0 (omega arith) g (calm-bit f (s .calm)) (s .idle);
-            unpinged = pings-read h f (s .kept) q v k c (s .unpinged);
+            calm = quiet-read h f (s .kept) q v k c (s .unpinged) (inl (s .disabled)) (Only IntrState) refl refl d (zero-same f s) g .holds ∙ z;
+            idle = idle-read h f (s .kept) q v k c (s .unpinged) (inl (s .disabled)) 0 (omega arith) g (calm-bit f (s .calm)) (s .idle);
+            unpinged = pings-read h f (s .kept) q v k c (s .unpinged) (inl (s .disabled));
+            disabled = three-read h f (s .kept) q v k c (s .unpinged) (inl (s .disabled)) ∙ s .disabled;
           }
 
 -- ── marks ──
@@ -211,9 +214,12 @@ module _ (l : Lifecycle) (c : locks l ≡ true) (h : Handler) (t : valid h ≡ t
 -- ── the corollary ──
 
 new-waits : (n : ℕ)
-    → (value (newHandler n) (Only IntrState) ≡ 0) × (stateOf (classAt (newHandler n) 0 .state) ≡ Idle) × (value (newHandler n) (Only PingEnable) ≡ 0)
+    → (value (newHandler n) (Only IntrState) ≡ 0)
+    × (stateOf (classAt (newHandler n) 0 .state) ≡ Idle)
+    × (value (newHandler n) (Only PingEnable) ≡ 0)
+    × (value (newHandler n) (Local Field.En 3) ≡ 0)
 unfolding value newHandler stateOf
-new-waits n = (refl, refl, refl)
+new-waits n = (refl, refl, refl, refl)
 
 run-n : (h : Handler) (ys : List Input) → valid h ≡ true → run h ys .n ≡ h .n
 unfolding run
@@ -240,7 +246,7 @@ from-boot l n xs c a b =
     w : Waits (newHandler n) h
     w =
         subst (λ (r : Installed). Waits (newHandler n) (r .handler)) (sym (begins l (newHandler n) (went l (newHandler n) ok .good) a))
-        (waits l (newHandler n) (went l (newHandler n) ok) (new-waits n .0) (new-waits n .1) (inl (new-waits n .2)))
+        (waits l (newHandler n) (went l (newHandler n) ok) (new-waits n .0) (new-waits n .1) (inl (new-waits n .2)) (new-waits n .3))
 
     d : Demand3 h xs
     d = demand3 h xs (w .kept .good)

@@ -15,6 +15,7 @@ pub mod LockBootExamples
 pub mod AnyBoot
 pub mod Unlocked
 pub mod Course
+pub mod Wires
 pub mod Receivers
 pub mod Ready
 pub mod StaysIdle
@@ -22,3 +23,4 @@ pub mod Boots
 pub mod WholeBoot
 pub mod BootExamples
 pub mod PingBootExamples
+pub mod LineBootExamples

@@ -21,7 +21,7 @@ use Rattle.boot_laws.specs.Ran.{reach, noAsk}
 use Rattle.boot_laws.proofs.Boot.{boot-succeeds}
 
 -- names every definition that an example computes with
-unfoldable policy : ℕ → ℕ
+unfoldable pub policy : ℕ → ℕ
 unfolding rules alertEntries classEntries lockEntries classLock partsTo planOf markAt free asksOf asks
 policy n = n
 
@@ -34,6 +34,8 @@ pinged on =
       receivers = record { pausing = zeros; busy = zeros; level = zeros; pending = 2 ^ 5 ∷ 0 ∷ 0 ∷ 0 ∷ [] };
       turn = record { number = 0; alert = 58; count = 0 };
       lines = 0;
+      senders = newHandler 59 .links .senders;
+      right = 0;
     })
     (withLocals (record { regwen = replicate 7 1; en = set (replicate 7 0) 0 on; class = replicate 7 0; cause = replicate 7 0 }) (newHandler 59)))
 

@@ -2,7 +2,7 @@
 -- Assumes nothing.
 use Prim.Native.Nat.{ℕ, zero, suc, _+_, _-_, _/_, _%_, _^_, _≤_, _<_}
 use mathlib.Core.Path.{_≡_, refl, sym, ap, _∙_}
-use mathlib.Core.Bool.{Bool, true, false, false≢true, and-false, _&&_}
+use mathlib.Core.Bool.{Bool, true, false, false≢true, and-false, not, _&&_, _||_}
 use mathlib.Core.Logic.{inl, inr}
 use native.Mathlib.Omega.{arith}
 use borrow.Author.Tests.{ne-eqb}
@@ -12,6 +12,7 @@ use lib.ListN.{getD-replicate}
 use Rattle.bits.proofs.BitLaws.{bit-none, bit-ones}
 use Rattle.bits.proofs.IndexLaws.{any-none}
 use Rattle.bits.specs.Bits.{bit, place}
+use Rattle.bits.specs.Index.{anyTo}
 use Rattle.class_rules.specs.Class.{stateOf}
 use Rattle.class_rules.specs.declared.ClassState.the-variants.{Idle}
 use Rattle.laws.proofs.Samples.AtRest.{none-happened, none-broken}
@@ -20,7 +21,8 @@ use Rattle.laws.proofs.Samples.Heard.{heard-raise, unheard}
 use Rattle.laws.proofs.Valid.KeepsAccess.{acted-valid}
 use Rattle.laws.proofs.Tick.Quiet.{quiet-tick, quiet-waits}
 use Rattle.laws.proofs.Tick.TimerOff.{none-fails}
-use Rattle.laws.proofs.Samples.Raises.{accepted-raises, none-occurs}
+use Rattle.laws.proofs.Samples.Raises.{accepted-raises, raised-0, raised-1, raised-3}
+use Rattle.laws.proofs.Samples.Receivers.{acted-links}
 use Rattle.laws.proofs.Valid.Refusal7.{ticked-handler}
 use Rattle.laws.proofs.Access.Step1.{clears-if}
 use Rattle.laws.proofs.Valid.ValidLaws.{facts}
@@ -29,12 +31,15 @@ use Rattle.laws.specs.InMap.{inMap}
 use Rattle.laws.specs.Quiet.{AtRest, Silent, runs}
 use Rattle.laws.specs.RegisterFile.{commits, plain}
 use Rattle.laws.specs.StageFile.{names}
+use Rattle.link_rules.specs.Pair.{equal, differ}
+use Rattle.link_rules.specs.Senders.{lineCount, senderIn}
+use Rattle.link_rules.specs.Timer.{isLine, opens, openNow, fails}
 use Rattle.rules.proofs.AnswerLaws.{refused-number}
 use Rattle.rules.specs.Access.{value, verdict, accepts, accepted, isClrOf, writesClr, accessedBy, accessed, acted, answerTo, effects, clears}
 use Rattle.rules.specs.Answer.{number}
 use Rattle.rules.specs.Map.{numberOf}
-use Rattle.rules.specs.Samples.{alertBroken, asksFor, raised, heard, alertEvent, occurs}
-use Rattle.rules.specs.State.{most, words, localCount, classCount, local, classAt}
+use Rattle.rules.specs.Samples.{alertBroken, lineWrong, asksFor, raised, alertEvent, occurs}
+use Rattle.rules.specs.State.{most, words, localCount, classCount, local, classAt, sender}
 use Rattle.rules.specs.Tick.{hears}
 use Rattle.rules.specs.Valid.{valid}
 use Rattle.rules.specs.declared.Access.{Access}
@@ -42,19 +47,20 @@ use Rattle.rules.specs.declared.Access.the-variants.{Write}
 use Rattle.rules.specs.declared.Answer.{Answer}
 use Rattle.rules.specs.declared.Field.{Field}
 use Rattle.rules.specs.declared.Handler.{Handler}
+use Rattle.rules.specs.declared.Links.{Links}
 use Rattle.rules.specs.declared.Refusal.{Refusal}
 use Rattle.rules.specs.declared.Register.{Register}
 use Rattle.rules.specs.declared.Sample.{Sample}
-use Rattle.rules.specs.declared.Register.the-variants.{Only, Block}
+use Rattle.rules.specs.declared.Register.the-variants.{Only, Local, Block}
 use Rattle.rules.specs.declared.Single.the-variants.{IntrState}
 use Rattle.rules.specs.declared.Verdict.{Verdict}
 use Rattle.policy.specs.Install.{Ask, rest, is, write, read}
 use Rattle.boot_laws.specs.Ran.{inputOf, wants, reach}
-use Rattle.boot_laws.specs.Stands.{NoPingEvent}
+use Rattle.boot_laws.specs.Stands.{NoPingEvent, Unasked}
 use Rattle.boot_laws.proofs.AskLaws.{Kept, reach-kept}
 use Rattle.boot_laws.proofs.EntryLaws.{Fit, names-it, spares, other-name, reach-stage}
 use Rattle.boot_laws.proofs.InstallLaws.{Same}
-use Rattle.boot_laws.proofs.NoPings.{Clear, Harmless, write-keeps, read-keeps, write-harmless, read-harmless}
+use Rattle.boot_laws.proofs.NoPings.{Clear, Harmless, HarmlessPairs, Unwrong, write-keeps, read-keeps, write-harmless, read-harmless, write-harmless-pairs, read-harmless-pairs, write-local, read-local}
 
 -- all wires at (0,1)
 pub at-rest : (x : Access) → AtRest (rest x .sample .alerts)
@@ -80,15 +86,12 @@ wants-accepted h a t w = go (verdict h (a .access)) (ap (λ (x : Answer). is (nu
 
 -- ── nothing comes of what step 2 hears in a tick of the boot that gets the answer that is wanted ──
 
-module _ (h : Handler) (a : Ask) (t : valid h ≡ true) (w : wants h a ≡ true) (p : Harmless h (a .access)) where
+module _ (h : Handler) (a : Ask) (t : valid h ≡ true) (w : wants h a ≡ true) (p : Harmless h (a .access)) (y : HarmlessPairs h (a .access)) where
   abbrev g : Handler
   g = acted h (a .access)
 
   abbrev s : Sample
   s = inputOf a .sample
-
-  abbrev raises : ℕ → Bool
-  raises j = bit (heard g s (effects h (a .access)) .raises) j
 
   small : g .n ≤ most
   small = facts g (acted-valid h (a .access) t) .n
@@ -99,34 +102,65 @@ module _ (h : Handler) (a : Ask) (t : valid h ≡ true) (w : wants h a ≡ true)
   unbroken : (i : ℕ) → i < most → alertBroken g (s .alerts) i ≡ false
   unbroken = none-broken g (asksFor g s (effects h (a .access))) (s .alerts) (at-rest (a .access))
 
-  -- but for local 0 and local 1 none is raised
-  others : (j : ℕ) → (j ≡ 0 → ⊥) → (j ≡ 1 → ⊥) → raised g s (effects h (a .access)) j ≡ false
+  -- no sender waits for a 1: the pairs (0,1) are right
+  none-wrong : Unasked h → anyTo (lineWrong g s) lineCount ≡ false
+  unfolding lineWrong
+  none-wrong u = any-none (lineWrong g s) lineCount right
+    where
+      is-right : (p m a : Bool) → p ≡ false → m ≡ true → a ≡ false → (equal p m || differ p a) ≡ false
+      is-right p m a b c d = rw (b, c, d) refl
+
+      right : (e : ℕ) → e < lineCount → lineWrong g s e ≡ false
+      right e l =
+          is-right (bit 0 e) (bit 15 e) (sender g e .sound .answer) (bit-none e) (bit-ones 4 e l)
+          (ap (λ (z : Links). senderIn (z .senders) e .sound .answer) (acted-links h (a .access)) ∙ u e l)
+
+  -- but for local 0, 1 and 3 none is raised
+  others : (j : ℕ) → (j ≡ 0 → ⊥) → (j ≡ 1 → ⊥) → (j ≡ 3 → ⊥) → raised g s (effects h (a .access)) j ≡ false
   unfolding raised
-  others j y z =
+  others j x y z =
       simp (
-        ne-eqb j 0 y,
-        ne-eqb j 1 z,
+        ne-eqb j 0 x,
+        ne-eqb j 1 y,
+        ne-eqb j 3 z,
         and-false (eqb j 2),
         any-none (alertBroken g (s .alerts)) (g .n) (λ i l. unbroken i (omega (arith, small, l))),
         none-raised,
         bit-none j,
       )
 
-  -- no local alert occurs: no ping fails or local 0 and local 1 are disabled; all wires are at (0,1), so not local 2; no write differs, so not local 5; no
-  -- other can occur
+  -- none of these is: no ping fails, or local 0 and local 1 are disabled; no sender waits for a 1, or local 3 is; all wires are at (0,1), so not local 2; no
+  -- write differs, so not local 5; no other can occur
+  off : (j : ℕ) → j < localCount → (raised g s (effects h (a .access)) j && eqb (local g Field.En j) 1) ≡ false
+  unfolding fails openNow opens
+  off zero l = go p
+    where
+      go : Harmless h (a .access) → (raised g s (effects h (a .access)) 0 && eqb (local g Field.En 0) 1) ≡ false
+      go (inl o) =
+          ap (λ (b : Bool). b && eqb (local g Field.En 0) 1)
+          (raised-0 h (a .access) g s ∙ ap (λ (b : Bool). b && not (isLine (g .links .turn))) (none-fails h (inputOf a) t o (g .links .turn)))
+      go (inr e) = ap (λ (b : Bool). raised g s (effects h (a .access)) 0 && b) (e .0) ∙ and-false (raised g s (effects h (a .access)) 0)
+  off (suc zero) l = go p
+    where
+      go : Harmless h (a .access) → (raised g s (effects h (a .access)) 1 && eqb (local g Field.En 1) 1) ≡ false
+      go (inl o) =
+          ap (λ (b : Bool). b && eqb (local g Field.En 1) 1)
+          (raised-1 h (a .access) g s ∙ ap (λ (b : Bool). b && isLine (g .links .turn)) (none-fails h (inputOf a) t o (g .links .turn)))
+      go (inr e) = ap (λ (b : Bool). raised g s (effects h (a .access)) 1 && b) (e .1) ∙ and-false (raised g s (effects h (a .access)) 1)
+  off (suc (suc (suc zero))) l = go y
+    where
+      go : HarmlessPairs h (a .access) → (raised g s (effects h (a .access)) 3 && eqb (local g Field.En 3) 1) ≡ false
+      go (inl e) = ap (λ (b : Bool). raised g s (effects h (a .access)) 3 && b) e ∙ and-false (raised g s (effects h (a .access)) 3)
+      go (inr u) = ap (λ (b : Bool). b && eqb (local g Field.En 3) 1) (raised-3 h (a .access) g s ∙ none-wrong u)
+  off (suc (suc zero)) l = ap (λ (b : Bool). b && eqb (local g Field.En 2) 1) (others 2 (λ (z : 2 ≡ 0). omega (arith, z)) (λ (z : 2 ≡ 1). omega (arith, z)) (λ (z : 2 ≡ 3). omega (arith, z)))
+  off (suc (suc (suc (suc j)))) l =
+      ap (λ (b : Bool). b && eqb (local g Field.En (suc (suc (suc (suc j))))) 1)
+      (others (suc (suc (suc (suc j)))) (λ (z : suc (suc (suc (suc j))) ≡ 0). omega (arith, z)) (λ (z : suc (suc (suc (suc j))) ≡ 1). omega (arith, z))
+      (λ (z : suc (suc (suc (suc j))) ≡ 3). omega (arith, z)))
+
   boot-locals : (j : ℕ) → j < localCount → occurs g (hears h (inputOf a)) j ≡ false
   unfolding hears occurs
-  boot-locals j l = go p j l
-    where
-      go : Harmless h (a .access) → (j : ℕ) → j < localCount → (raises j && eqb (local g Field.En j) 1) ≡ false
-      go (inl o) j l =
-          none-occurs g s (effects h (a .access)) small none-raised (none-fails h (inputOf a) t o (g .links .turn)) unbroken j l
-      go (inr e) zero l = ap (λ (b : Bool). raises 0 && b) (e .0) ∙ and-false (raises 0)
-      go (inr e) (suc zero) l = ap (λ (b : Bool). raises 1 && b) (e .1) ∙ and-false (raises 1)
-      go (inr e) (suc (suc j)) l =
-          ap (λ (b : Bool). b && eqb (local g Field.En (suc (suc j))) 1)
-          (heard-raise g s (effects h (a .access)) (suc (suc j)) l
-          ∙ others (suc (suc j)) (λ (z : suc (suc j) ≡ 0). omega (arith, z)) (λ (z : suc (suc j) ≡ 1). omega (arith, z)))
+  boot-locals j l = ap (λ (b : Bool). b && eqb (local g Field.En j) 1) (heard-raise g s (effects h (a .access)) j l) ∙ off j l
 
   -- and no alert has an event
   boot-alerts : (i : ℕ) → i < most → alertEvent g (hears h (inputOf a)) i ≡ false
@@ -148,7 +182,7 @@ plain-clr k =
 
 -- ── one tick that names q and gets the answer that is wanted ──
 
-module _ (h f : Handler) (w : Kept h f) (q : Register) (v : ℕ) (k : Fit (h .n) q v) (u : Clear q) (p : NoPingEvent f) where
+module _ (h f : Handler) (w : Kept h f) (q : Register) (v : ℕ) (k : Fit (h .n) q v) (u : Clear q) (p : NoPingEvent f) (z : Unwrong f) where
   in-f : inMap (f .n) q ≡ true
   in-f = ap (λ (n : ℕ). inMap n q) (w .n) ∙ k .exists
 
@@ -165,40 +199,40 @@ module _ (h f : Handler) (w : Kept h f) (q : Register) (v : ℕ) (k : Fit (h .n)
     in-o : inMap (f .n) o ≡ true
     in-o = ap (λ (n : ℕ). inMap n o) (w .n) ∙ a
 
-    same-by : (x : Ask) → Same o h f → wants f x ≡ true → Harmless f (x .access) → ((j : ℕ) → writesClr f (x .access) j ≡ false) → commits f (x .access) o ≡ false
+    same-by : (x : Ask) → Same o h f → wants f x ≡ true → Harmless f (x .access) → HarmlessPairs f (x .access) → ((j : ℕ) → writesClr f (x .access) j ≡ false) → commits f (x .access) o ≡ false
         → names f (x .access) o ≡ false → Same o h (reach f x)
-    same-by x s g n c m y =
+    same-by x s g n b c m y =
         record {
           kept = reach-kept h f x w;
           holds = ap (λ (e : Handler). value e o) (ticked-handler f (inputOf x) (w .good))
-              ∙ quiet-tick f (inputOf x) (w .good) (boot-silent f x (w .good) g n) (no-clear (x .access) c) o in-o r m ∙ s .holds;
+              ∙ quiet-tick f (inputOf x) (w .good) (boot-silent f x (w .good) g n b) (no-clear (x .access) c) o in-o r m ∙ s .holds;
           staged = reach-stage f (w .good) o in-o x y ∙ s .staged;
         }
 
     pub quiet-write : Same o h f → wants f (write (numberOf q) v) ≡ true → Same o h (reach f (write (numberOf q) v))
     quiet-write s g =
-        same-by (write (numberOf q) v) s g (write-harmless f (w .good) q v in-f (k .takes) u p) write-clr
+        same-by (write (numberOf q) v) s g (write-harmless f (w .good) q v in-f (k .takes) u p) (write-harmless-pairs f (w .good) q v in-f (k .takes) u z) write-clr
         (spares f (w .good) q v in-f (k .takes) o d) (other-name f (w .good) q v in-f (k .takes) o d)
 
     pub quiet-read : Same o h f → wants f (read (numberOf q) v) ≡ true → Same o h (reach f (read (numberOf q) v))
     quiet-read s g =
-        same-by (read (numberOf q) v) s g (read-harmless f (w .good) q v in-f (k .takes) u p) (λ j. refl) refl (other-name f (w .good) q v in-f (k .takes) o d)
+        same-by (read (numberOf q) v) s g (read-harmless f (w .good) q v in-f (k .takes) u p) (read-harmless-pairs f (w .good) q v in-f (k .takes) u z) (λ j. refl) refl (other-name f (w .good) q v in-f (k .takes) o d)
 
   -- an Idle class whose interrupt bit is 0 stays Idle
-  idle-by : (x : Ask) (j : ℕ) → j < classCount → wants f x ≡ true → Harmless f (x .access) → ((i : ℕ) → writesClr f (x .access) i ≡ false)
+  idle-by : (x : Ask) (j : ℕ) → j < classCount → wants f x ≡ true → Harmless f (x .access) → HarmlessPairs f (x .access) → ((i : ℕ) → writesClr f (x .access) i ≡ false)
       → commits f (x .access) (Only IntrState) ≡ false
       → bit (f .interrupts .state) j ≡ false → stateOf (classAt f j .state) ≡ Idle → stateOf (classAt (reach f x) j .state) ≡ Idle
-  idle-by x j l g n c m b s =
+  idle-by x j l g n y c m b s =
       ap (λ (e : Handler). stateOf (classAt e j .state)) (ticked-handler f (inputOf x) (w .good))
-      ∙ quiet-waits f (inputOf x) (w .good) (boot-silent f x (w .good) g n) (no-clear (x .access) c) j l m b s
+      ∙ quiet-waits f (inputOf x) (w .good) (boot-silent f x (w .good) g n y) (no-clear (x .access) c) j l m b s
 
   pub idle-write : (j : ℕ) → j < classCount → wants f (write (numberOf q) v) ≡ true → (numberOf q ≡ numberOf (Only IntrState) → ⊥)
       → bit (f .interrupts .state) j ≡ false → stateOf (classAt f j .state) ≡ Idle → stateOf (classAt (reach f (write (numberOf q) v)) j .state) ≡ Idle
-  idle-write j l g d = idle-by (write (numberOf q) v) j l g (write-harmless f (w .good) q v in-f (k .takes) u p) write-clr (spares f (w .good) q v in-f (k .takes) (Only IntrState) d)
+  idle-write j l g d = idle-by (write (numberOf q) v) j l g (write-harmless f (w .good) q v in-f (k .takes) u p) (write-harmless-pairs f (w .good) q v in-f (k .takes) u z) write-clr (spares f (w .good) q v in-f (k .takes) (Only IntrState) d)
 
   pub idle-read : (j : ℕ) → j < classCount → wants f (read (numberOf q) v) ≡ true → bit (f .interrupts .state) j ≡ false
       → stateOf (classAt f j .state) ≡ Idle → stateOf (classAt (reach f (read (numberOf q) v)) j .state) ≡ Idle
-  idle-read j l g = idle-by (read (numberOf q) v) j l g (read-harmless f (w .good) q v in-f (k .takes) u p) (λ i. refl) refl
+  idle-read j l g = idle-by (read (numberOf q) v) j l g (read-harmless f (w .good) q v in-f (k .takes) u p) (read-harmless-pairs f (w .good) q v in-f (k .takes) u z) (λ i. refl) refl
 
   -- and where no failing ping is an event, none becomes one
   pub pings-write : NoPingEvent (reach f (write (numberOf q) v))
@@ -206,3 +240,10 @@ module _ (h f : Handler) (w : Kept h f) (q : Register) (v : ℕ) (k : Fit (h .n)
 
   pub pings-read : NoPingEvent (reach f (read (numberOf q) v))
   pings-read = read-keeps f (w .good) q v in-f (k .takes) u p
+
+  -- local 3 is enabled or disabled as before
+  pub three-write : value (reach f (write (numberOf q) v)) (Local Field.En 3) ≡ value f (Local Field.En 3)
+  three-write = write-local f (w .good) q v in-f (k .takes) u 3 (omega arith)
+
+  pub three-read : value (reach f (read (numberOf q) v)) (Local Field.En 3) ≡ value f (Local Field.En 3)
+  three-read = read-local f (w .good) q v in-f (k .takes) u 3 (omega arith)

@@ -11,7 +11,7 @@ use lib.IntN.{pos, negsuc}
 use lib.ListN.{getD, length, take, replicate}
 use Rattle.bits.specs.Bits.{bit}
 use Rattle.bits.specs.Index.{placeIn}
-use Rattle.class_rules.specs.Class.{stateOf}
+use Rattle.class_rules.specs.Class.{noClass, stateOf}
 use Rattle.class_rules.specs.Step.{starts}
 use Rattle.class_rules.specs.declared.ClassState.the-variants.{Idle}
 use Rattle.escalation.specs.Escalation.{Starts, Escalated, Demand3}
@@ -21,7 +21,12 @@ use Rattle.laws.specs.Frame.{movesItself}
 use Rattle.laws.specs.InMap.{inMap}
 use Rattle.laws.specs.Pinging.{asksIn}
 use Rattle.laws.specs.Quiet.{runs}
+use Rattle.link_rules.specs.Codes.{responseOf}
+use Rattle.link_rules.specs.Sender.{newSender}
+use Rattle.link_rules.specs.Senders.{senderIn}
 use Rattle.link_rules.specs.declared.Handshake.the-variants.{Ready}
+use Rattle.link_rules.specs.declared.Response.the-variants.{Quiet}
+use Rattle.link_rules.specs.declared.Sender.{Sender}
 use Rattle.rules.specs.Access.{value, clears, acted}
 use Rattle.rules.specs.Answer.{number}
 use Rattle.rules.specs.Run.{run, ticks}
@@ -49,11 +54,20 @@ use Rattle.boot_laws.specs.Boots.{Either}
 use Rattle.boot_laws.specs.FromBoot.{FirstEvent, FirstInList}
 use Rattle.boot_laws.specs.Ran.{noAsk, Among}
 use Rattle.boot_laws.specs.Ran.Among.{here, there}
-use Rattle.boot_laws.specs.Stands.{Success}
+use Rattle.boot_laws.specs.Stands.{Success, NoWrongEvent, AtRest}
 use Rattle.boot_laws.proofs.Boots.{boots, new-boots}
 use Rattle.boot_laws.proofs.FromBoot.{from-boot}
 use Rattle.boot_laws.proofs.Members.{has-length, alert-part, class-part}
 use Rattle.boot_laws.proofs.StaysIdle.{until-first}
+
+-- ── a state at rest ──
+
+abbrev Rests : Handler → Type 0
+Rests f =
+    (f .timer .enable ≡ 0)
+    × (f .interrupts .state ≡ 0)
+    × ((k : ℕ) → k < 4 → stateOf (getD (f .classes) k noClass .state) ≡ Idle)
+    × ((e : ℕ) → e < 4 → senderIn (f .links .senders) e ≡ record { on = false; first = false; sound = record { stands = Quiet; answer = false } })
 
 -- ── of any boot ──
 
@@ -164,15 +178,58 @@ module _ (l : Lifecycle) (h : Handler) (r : boot l h .register ≡ 0) (a : boot 
     no-stage _ (class-part l _ k b (there (there (there (there (there (there here))))))),
   )
 
-  -- and no event came, where register 6 is 0 or local 0 and local 1 are disabled
+  -- before tick i of the boot line e's sender waits for an answer of 1
+  abbrev waitsForOne : ℕ → ℕ → Bool
+  waitsForOne i e = bit (run h (take i (map (λ (x : Ask). rest (x .access)) (asks (planOf l)))) .links .senders .answer) e
+
+  -- and no event came, where register 6 is 0 or local 0 and local 1 are disabled, and local 3 is disabled or no sender waits for a 1 in any tick of it
   no-event : (h .timer .enable ≡ 0) ⊎ ((getD (h .locals .en) 0 0 ≡ 0) × (getD (h .locals .en) 1 0 ≡ 0))
+      → (getD (h .locals .en) 3 0 ≡ 0) ⊎ ((i e : ℕ) → i < length (asks (planOf l)) → e < 4 → waitsForOne i e ≡ false)
       → ((o : Register) → inMap (h .n) o ≡ true → movesItself o ≡ true → runs o ≡ false → value g o ≡ value h o)
       × (value g (Only IntrState) ≡ value h (Only IntrState))
       × ((j : ℕ) → j < 7 → value g (Local Field.Cause j) ≡ value h (Local Field.Cause j))
       × ((i : ℕ) → i < h .n → value g (Alert Field.Cause i) ≡ value h (Alert Field.Cause i))
       × ((k : ℕ) → k < 4 → value g (Block AccumCnt k) ≡ value h (Block AccumCnt k))
   unfolding value
-  no-event p = let e = boots l h .eventless success p in (e .values, e .interrupts, e .local-causes, e .causes, e .counts)
+  no-event p q = let e = boots l h .eventless success p (go q) in (e .values, e .interrupts, e .local-causes, e .causes, e .counts)
+    where
+      go : (getD (h .locals .en) 3 0 ≡ 0) ⊎ ((i e : ℕ) → i < length (asks (planOf l)) → e < 4 → waitsForOne i e ≡ false) → NoWrongEvent l h
+      go (inl z) = inl z
+      go (inr u) = inr (λ i b e m. u i e b m)
+
+  -- where one does, and local 3 is enabled, it has occurred
+  wrong-event : getD (h .locals .en) 3 0 ≡ 1 → (i e : ℕ) → i < length (asks (planOf l)) → e < 4 → waitsForOne i e ≡ true
+      → getD (g .locals .cause) 3 0 ≡ 1
+  unfolding value
+  wrong-event = boots l h .wrong success
+
+  -- a state at rest: register 6 is 0, no interrupt bit is set, each class is Idle and each sender has nothing on and nothing to wait for
+  module _ (z : h .timer .enable ≡ 0) (y : h .interrupts .state ≡ 0) (c : (k : ℕ) → k < 4 → getD (h .classes) k noClass .state ≡ 0)
+      (fresh : (e : ℕ) → e < 4 → (bit (h .links .senders .on) e ≡ false) × (bit (h .links .senders .first) e ≡ false))
+      (still : (e : ℕ) → e < 4 → (bit (h .links .senders .last) e ≡ false) × (bit (h .links .senders .deep) e ≡ false) × (bit (h .links .senders .answer) e ≡ false)) where
+    is-at-rest : AtRest h
+    unfolding value stateOf
+    is-at-rest = record { off = z; interrupts = y; classes = λ k b. ap stateOf (c k b); senders = new }
+      where
+        make : Bool → Bool → Bool → Bool → Bool → Sender
+        make a b c d f = record { on = a; first = b; sound = record { stands = responseOf c d; answer = f } }
+
+        new : (e : ℕ) → e < 4 → senderIn (h .links .senders) e ≡ newSender
+        new e b =
+            ap₂ (λ (x y : Bool). make x y (bit (h .links .senders .last) e) (bit (h .links .senders .deep) e) (bit (h .links .senders .answer) e)) (fresh e b .0) (fresh e b .1)
+            ∙ ap₂ (λ (x y : Bool). make false false x y (bit (h .links .senders .answer) e)) (still e b .0) (still e b .1)
+            ∙ ap (λ (x : Bool). make false false false false x) (still e b .2)
+
+    -- none does from it
+    quiet-event : ((j : ℕ) → j < 7 → value g (Local Field.Cause j) ≡ value h (Local Field.Cause j)) × (value g (Only IntrState) ≡ value h (Only IntrState))
+    quiet-event =
+        let q = boots l h .at-rest success is-at-rest in
+        let e = boots l h .eventless success (q .0) (q .1) in (e .local-causes, e .interrupts)
+
+    -- and the boot leaves it at rest
+    quiet-after : Rests g
+    unfolding value
+    quiet-after = let q = boots l h .at-rest success is-at-rest .2 in (q .off, q .interrupts, q .classes, q .senders)
 
   -- every receiver is ready, and takes a rise in the next tick
   all-ready : (i : ℕ) → i < h .n → receiver g i .stands ≡ Ready
@@ -233,6 +290,20 @@ new-goes l n = new-boots l n .new-succeeds
 new-ready : (l : Lifecycle) (n i : ℕ) → i < n → n ≤ 248
     → receiver (boot l (newHandler n) .handler) i ≡ record { stands = Ready; level = false; pending = false }
 new-ready l n = new-boots l n .receivers
+
+-- it is at rest, and at its end too
+new-rests : (l : Lifecycle) (n : ℕ) → Rests (newHandler n)
+unfolding value
+new-rests l n = let r = new-boots l n .rests in (r .off, r .interrupts, r .classes, r .senders)
+
+new-rests-after : (l : Lifecycle) (n : ℕ) → 58 ≤ n → n ≤ 248 → Rests (boot l (newHandler n) .handler)
+unfolding value
+new-rests-after l n a b = let r = new-boots l n .rests-after a b in (r .off, r .interrupts, r .classes, r .senders)
+
+-- every line's sender is as new: nothing was on its wires, and it waits for no answer
+new-lines : (l : Lifecycle) (n e : ℕ) → 58 ≤ n → n ≤ 248 → e < 4
+    → senderIn (boot l (newHandler n) .handler .links .senders) e ≡ record { on = false; first = false; sound = record { stands = Quiet; answer = false } }
+new-lines l n e a b = new-boots l n .rests-after a b .senders e
 
 -- ── from the boot of a new handler in PROD or PROD_END to the last tick of any list: ticks numbered from any first number ──
 

@@ -6,21 +6,23 @@ use mathlib.Core.Path.{_≡_}
 use mathlib.Core.Logic.{_⊎_}
 use mathlib.Core.Bool.{true, false}
 use lib.IntN.{pos, negsuc}
-use lib.ListN.{replicate}
+use lib.ListN.{length, take, replicate}
 use Rattle.laws.specs.Above.{SameAbove}
 use Rattle.laws.specs.Pinging.{asksIn}
 use Rattle.link_rules.specs.Pair.{rises}
 use Rattle.link_rules.specs.Receiver.{newReceiver}
+use Rattle.link_rules.specs.Senders.{lineCount}
 use Rattle.link_rules.specs.declared.Handshake.the-variants.{Ready}
 use Rattle.rules.specs.Access.{value}
 use Rattle.rules.specs.Run.{run}
 use Rattle.rules.specs.Samples.{positive, negative}
-use Rattle.rules.specs.State.{most, newHandler, receiver}
+use Rattle.rules.specs.State.{most, newHandler, receiver, sender}
 use Rattle.rules.specs.Tick.{happensIn}
 use Rattle.rules.specs.Valid.{valid}
+use Rattle.rules.specs.declared.Field.{Field}
 use Rattle.rules.specs.declared.Handler.{Handler}
 use Rattle.rules.specs.declared.Input.{Input}
-use Rattle.rules.specs.declared.Register.the-variants.{Only}
+use Rattle.rules.specs.declared.Register.the-variants.{Only, Local}
 use Rattle.rules.specs.declared.Single.the-variants.{PingEnable}
 use Rattle.policy.specs.Install.{asks}
 use Rattle.policy.specs.Plan.{planOf, boot}
@@ -30,7 +32,7 @@ use Rattle.policy.specs.declared.Installed.{Installed}
 use Rattle.policy.specs.declared.Lifecycle.{Lifecycle}
 use Rattle.policy.specs.declared.Progress.{Progress}
 use Rattle.boot_laws.specs.Ran.{inputs, StoppedAt}
-use Rattle.boot_laws.specs.Stands.{Success, Stands, Untouched, Unlocked, NoPingEvent, Eventless, Linked}
+use Rattle.boot_laws.specs.Stands.{Success, Stands, Untouched, Unlocked, NoPingEvent, NoWrongEvent, AtRest, Eventless, Linked}
 
 -- what a success gives: register 0, answer 0 and the state after all ticks of the plan
 abbrev pub booted : Lifecycle → Handler → Installed
@@ -52,7 +54,14 @@ pub record Boots (l : Lifecycle) (h : Handler) : Type 0 where
   pub success : Success l h → (valid h ≡ true) × (alertCount ≤ h .n) × (boot l h ≡ booted l h)
   -- "and after a success each of the 58 alerts is proved to stand as the table says"
   pub stands : Success l h → Stands l (boot l h .handler)
-  pub eventless : Success l h → NoPingEvent h → Eventless h (boot l h .handler)
+  pub eventless : Success l h → NoPingEvent h → NoWrongEvent l h → Eventless h (boot l h .handler)
+  -- a boot that starts at rest has none, and ends at rest
+  pub at-rest : Success l h → AtRest h → NoPingEvent h × NoWrongEvent l h × AtRest (boot l h .handler)
+  -- and in no other: where local 3 is enabled and a sender waits for a 1 in a tick of the boot, local 3 has occurred after it
+  pub wrong :
+      Success l h → value h (Local Field.En 3) ≡ 1
+      → (i e : ℕ) → i < length (asks (planOf l)) → e < lineCount → sender (run h (take i (inputs (asks (planOf l))))) e .sound .answer ≡ true
+      → value (boot l h .handler) (Local Field.Cause 3) ≡ 1
   pub untouched : Untouched l h (boot l h .handler)
   pub unlocked : Unlocked l h (boot l h .handler)
   -- "States that calls produce never get it", and "Stored entries at N and above are no registers: .. no call changes them"
@@ -74,3 +83,6 @@ pub record Boots (l : Lifecycle) (h : Handler) : Type 0 where
 pub record NewBoots (l : Lifecycle) (n : ℕ) : Type 0 where
   pub new-succeeds : alertCount ≤ n → n ≤ most → boot l (newHandler n) ≡ booted l (newHandler n)
   pub receivers : (i : ℕ) → i < n → n ≤ most → receiver (boot l (newHandler n) .handler) i ≡ newReceiver
+  -- nothing is on its lines' wires, before the boot and after it: so no event came, and its senders are as new
+  pub rests : AtRest (newHandler n)
+  pub rests-after : alertCount ≤ n → n ≤ most → AtRest (boot l (newHandler n) .handler)

@@ -6,15 +6,20 @@ use mathlib.Core.Bool.{Bool, true, false, _&&_}
 use mathlib.Core.Logic.{_⊎_}
 use lib.Dec.{eqb}
 use lib.IntN.{pos}
-use Rattle.class_rules.specs.Class.{en, lock}
+use lib.ListN.{length, take}
+use Rattle.class_rules.specs.Class.{en, lock, stateOf}
+use Rattle.class_rules.specs.declared.ClassState.the-variants.{Idle}
+use Rattle.link_rules.specs.Sender.{newSender}
+use Rattle.link_rules.specs.Senders.{lineCount}
 use Rattle.link_rules.specs.declared.Handshake.the-variants.{Ready}
 use Rattle.laws.specs.Frame.{movesItself}
 use Rattle.laws.specs.InMap.{inMap}
 use Rattle.laws.specs.Quiet.{runs}
 use Rattle.rules.specs.Access.{value}
 use Rattle.rules.specs.Map.{fieldRow}
+use Rattle.rules.specs.Run.{run}
 use Rattle.rules.specs.Stages.{stage}
-use Rattle.rules.specs.State.{localCount, classCount, classAt, receiver}
+use Rattle.rules.specs.State.{localCount, classCount, classAt, receiver, sender}
 use Rattle.rules.specs.declared.Field.{Field}
 use Rattle.rules.specs.declared.Handler.{Handler}
 use Rattle.rules.specs.declared.Register.{Register}
@@ -23,8 +28,8 @@ use Rattle.rules.specs.declared.Setting.{Setting}
 use Rattle.rules.specs.declared.Setting.the-variants.{Ctrl, AccumCnt, AccumThresh, TimeoutCyc, PhaseCyc}
 use Rattle.rules.specs.declared.Single.the-variants.{IntrState, IntrEnable, PingEnable}
 use Rattle.policy.specs.Plan.{classOf, enOf, isA, locks, ctrlOf, lengthOf, planOf, boot}
-use Rattle.policy.specs.Install.{Entry}
-use Rattle.boot_laws.specs.Ran.{Among}
+use Rattle.policy.specs.Install.{Entry, asks}
+use Rattle.boot_laws.specs.Ran.{inputs, Among}
 use Rattle.policy.specs.Sound.{unnamed}
 use Rattle.policy.specs.Table.{alertCount, markAt}
 use Rattle.policy.specs.declared.Lifecycle.{Lifecycle}
@@ -78,6 +83,24 @@ pub record Unlocked (l : Lifecycle) (h g : Handler) : Type 0 where
 -- request (ix): a ping that fails in a boot makes no local alert occur: register 6 is 0, or local 0 and local 1 are disabled
 abbrev pub NoPingEvent : Handler → Type 0
 NoPingEvent h = (value h (Only PingEnable) ≡ 0) ⊎ ((value h (Local Field.En 0) ≡ 0) × (value h (Local Field.En 1) ≡ 0))
+
+-- request (xi): no line's sender waits for an answer of 1. The installer hands in (0,1), so that local 3 occurs in its tick where one does: while a line is
+-- on, in the tick after, and while a ping is being answered
+abbrev pub Unasked : Handler → Type 0
+Unasked h = (e : ℕ) → e < lineCount → sender h e .sound .answer ≡ false
+
+-- what the installer hands in makes no local alert occur: local 3 is disabled, or no sender waits for a 1 in any tick of the boot
+abbrev pub NoWrongEvent : Lifecycle → Handler → Type 0
+NoWrongEvent l h =
+    (value h (Local Field.En 3) ≡ 0)
+    ⊎ ((i : ℕ) → i < length (asks (planOf l)) → Unasked (run h (take i (inputs (asks (planOf l))))))
+
+-- so it is where nothing is on the wires and nothing comes: register 6 is 0, no interrupt bit is set, every class is Idle and every sender is as new
+pub record AtRest (h : Handler) : Type 0 where
+  pub off : value h (Only PingEnable) ≡ 0
+  pub interrupts : value h (Only IntrState) ≡ 0
+  pub classes : (k : ℕ) → k < classCount → stateOf (classAt h k .state) ≡ Idle
+  pub senders : (e : ℕ) → e < lineCount → sender h e ≡ newSender
 
 -- what moves only with an event: after a success none came, so INTR_STATE, every CAUSE and every ACCUM_CNT is as before. STATE, ESC_CNT and
 -- CLR_REGWEN are the run's: a class in Timeout or a phase moves without an event

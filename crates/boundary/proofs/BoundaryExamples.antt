@@ -9,12 +9,15 @@ use Rattle.bits.specs.Fields.{unpack}
 use Rattle.batch.specs.BatchedBy.{BatchedBy}
 use Rattle.batch.specs.declared.Batched.{Batched}
 use Rattle.boundary.specs.Input.{accessBy, inputBy}
+use Rattle.boundary.specs.declared.Wired.{Wired}
 use Rattle.class_rules.specs.declared.Class.{Class}
 use Rattle.handler.specs.Account.{account}
 use Rattle.handler.specs.Answered.{answered}
 use Rattle.handler.specs.declared.account.Account.{Account}
 use Rattle.handler.specs.declared.tick.Answered.{Answered}
 use Rattle.link_rules.specs.Receiver.{newReceiver}
+use Rattle.link_rules.specs.Sender.{newSender}
+use Rattle.link_rules.specs.Senders.{sendersBy}
 use Rattle.policy.specs.Plan.{boot, lifecycleOf}
 use Rattle.policy.specs.declared.Installed.{Installed}
 use Rattle.policy.specs.declared.Lifecycle.{Lifecycle}
@@ -27,7 +30,7 @@ use Rattle.trace_rules.specs.declared.Edition.{Edition}
 use Rattle.rules.specs.declared.Field.{Field}
 use Rattle.rules.specs.declared.Handler.{Handler}
 use Rattle.rules.specs.declared.Made.{Made}
-use Rattle.rules.specs.declared.Sample.{Sample}
+use Rattle.rules.specs.declared.Wires.{Wires}
 use Rattle.trace_rules.proofs.TraceScenes.{traces}
 
 -- ── kinds: 0 none, 1 read, 2 write, any other a malformed record; what the kind does not use is not looked at ──
@@ -50,16 +53,23 @@ too-many r e = (ap (λ (x : Made). x .answer) e, ap (λ (x : Made). x .handler) 
 
 -- ── a tick: r is what the call gives back ──
 
-abbrev tick : Handler → ℕ → ℕ → ℕ → Sample → Answered
-tick h kind register value sample = answered (ticked h (inputBy kind register value sample))
+abbrev tick : Handler → ℕ → ℕ → ℕ → Wired → Answered
+tick h kind register value w = answered (ticked h (inputBy kind register value w))
+
+-- these alert wires, this word, and receive pairs at (0,1)
+abbrev wired : Wires → ℕ → Wired
+wired w word = record { alerts = w; word = word; «receive_positive» = 0; «receive_negative» = 15 }
+
+abbrev low : Wired
+low = wired (atRest .alerts) 0
 
 -- the wire of alert i in words of 64, alert 0 the highest bit of the first
 abbrev wire : ℕ → List ℕ
 wire i = unpack (replicate 4 64) (2 ^ (255 - i))
 
 -- alert i at (1,0), the others at (0,1)
-abbrev high : ℕ → Sample
-high i = record { alerts = record { pos = wire i; neg = unpack (replicate 4 64) (2 ^ 256 - 1 - 2 ^ (255 - i)) }; word = 0; answers = 0 }
+abbrev high : ℕ → Wired
+high i = wired (record { pos = wire i; neg = unpack (replicate 4 64) (2 ^ 256 - 1 - 2 ^ (255 - i)) }) 0
 
 -- alerts 0 and 247 enabled in class 2, which has EN, all lines and threshold 0
 abbrev watching : Handler
@@ -69,21 +79,21 @@ watching = station 248 (1 ∷ replicate 246 0 ++ 1 ∷ []) (replicate 248 2) 2 (
 abbrev pinging : Handler
 pinging =
     withTimer (record { timeout = 3; regwen = 1; enable = 1 })
-    (withLinks (record { receivers = receiversBy (λ i. newReceiver); turn = record { number = 0; alert = 247; count = 0 }; lines = 0 })
+    (withLinks (record { receivers = receiversBy (λ i. newReceiver); turn = record { number = 0; alert = 247; count = 0 }; lines = 0; senders = sendersBy (λ e. newSender); right = 0 })
     (withLocals (record { regwen = replicate 7 1; en = 1 ∷ replicate 6 0; class = replicate 7 2; cause = replicate 7 0 })
     (withAlerts (record { regwen = replicate 247 1 ++ 0 ∷ []; en = watching .alerts .en; class = watching .alerts .class; cause = replicate 248 0 }) watching)))
 
--- a sample with this word
-abbrev drawing : ℕ → Sample → Sample
-drawing word s = record { alerts = s .alerts; word = word; answers = 0 }
+-- the same wires with this word
+abbrev drawing : ℕ → Wired → Wired
+drawing word w = wired (w .alerts) word
 
 module _ (r : Answered) where
   -- a read of 1281, a write of 9 to INTR_ENABLE, and kind 3 with alert 0 high: refused, and the tick runs with its samples
-  reads : r ≡ tick (newHandler 1) 1 1281 0 atRest → r .answer ≡ pos 0x393C
+  reads : r ≡ tick (newHandler 1) 1 1281 0 low → r .answer ≡ pos 0x393C
   unfolding rules traces answered
   reads e = ap (λ (x : Answered). x .answer) e
 
-  writes : r ≡ tick (newHandler 1) 2 1 9 atRest → (r .answer ≡ pos 0) × (r .handler .interrupts .enable ≡ 9)
+  writes : r ≡ tick (newHandler 1) 2 1 9 low → (r .answer ≡ pos 0) × (r .handler .interrupts .enable ≡ 9)
   unfolding rules traces answered
   writes e = (ap (λ (x : Answered). x .answer) e, ap (λ (x : Answered). x .handler .interrupts .enable) e)
 
@@ -100,7 +110,7 @@ module _ (r : Answered) where
     ap (λ (x : Answered). x .output .lines) e,
   )
 
-  swapped : r ≡ tick watching 0 0 0 (record { alerts = record { pos = high 247 .alerts .neg; neg = high 247 .alerts .pos }; word = 0; answers = 0 }) → alert (r .handler) Field.Cause 247 ≡ 0
+  swapped : r ≡ tick watching 0 0 0 (wired (record { pos = high 247 .alerts .neg; neg = high 247 .alerts .pos }) 0) → alert (r .handler) Field.Cause 247 ≡ 0
   unfolding rules traces answered
   swapped e = ap (λ (x : Answered). alert (x .handler) Field.Cause 247) e
 
@@ -124,12 +134,25 @@ hears-answer : (a : Account) → a ≡ account pinging (inputBy 1 1281 0 (high 2
 unfolding rules traces account
 hears-answer a e = (ap (λ (x : Account). x .events) e, ap (λ (x : Account). x .answers) e, ap (λ (x : Account). x .locals) e, ap (λ (x : Account). x .answer) e)
 
+-- request (xi): a 1 that line 2's receive pair has for no reason, and equal wires of line 0; local 3 occurs where it is enabled, and the bits from 4 up
+-- count for nothing
+abbrev listening : Handler
+listening = withLocals (record { regwen = replicate 7 1; en = 0 ∷ 0 ∷ 0 ∷ 1 ∷ 0 ∷ 0 ∷ 0 ∷ []; class = replicate 7 0; cause = replicate 7 0 }) (newHandler 1)
+
+abbrev receiving : ℕ → ℕ → Wired
+receiving p m = record { alerts = atRest .alerts; word = 0; «receive_positive» = p; «receive_negative» = m }
+
+hears-fault : (a b c : Account) → a ≡ account listening (inputBy 0 0 0 (receiving 4 11)) → b ≡ account listening (inputBy 0 0 0 (receiving 0 14))
+    → c ≡ account listening (inputBy 0 0 0 (receiving 0xFFF0 0x000F)) → (a .locals ≡ 8) × (b .locals ≡ 8) × (c .locals ≡ 0)
+unfolding rules traces account
+hears-fault a b c e f g = (ap (λ (x : Account). x .locals) e, ap (λ (x : Account). x .locals) f, ap (λ (x : Account). x .locals) g)
+
 -- unanswered it fails three ticks later, and local 0 occurs: not in the tick before
 abbrev waited : ℕ → Handler
 waited zero = pinging
-waited (suc n) = tick (waited n) 0 0 0 atRest .handler
+waited (suc n) = tick (waited n) 0 0 0 low .handler
 
-hears-failure : (a b : Account) → a ≡ account (waited 2) (inputBy 0 0 0 atRest) → b ≡ account (waited 3) (inputBy 0 0 0 atRest) → (a .locals ≡ 0) × (b .locals ≡ 1)
+hears-failure : (a b : Account) → a ≡ account (waited 2) (inputBy 0 0 0 low) → b ≡ account (waited 3) (inputBy 0 0 0 low) → (a .locals ≡ 0) × (b .locals ≡ 1)
 unfolding rules traces answered account
 hears-failure a b e f = (ap (λ (x : Account). x .locals) e, ap (λ (x : Account). x .locals) f)
 
@@ -144,7 +167,7 @@ broken n =
     withInterrupts (record { state = 15; enable = 15 }) (withClasses (driving ∷ replicate 3 resetClass) (newHandler n))
 
 -- the state is unchanged and the tick is not run: interrupts and lines 0, where at N = 248 they are 15 and 15
-bad-state : (r : Answered) → r ≡ tick (broken 249) 2 1 0 atRest
+bad-state : (r : Answered) → r ≡ tick (broken 249) 2 1 0 low
     → (r .answer ≡ negsuc 6) × (r .handler ≡ broken 249) × (r .output .interrupts ≡ 0) × (r .output .lines ≡ 0)
 unfolding rules traces answered
 bad-state r e = (
@@ -154,7 +177,7 @@ bad-state r e = (
   ap (λ (x : Answered). x .output .lines) e,
 )
 
-good-state : (r : Answered) → r ≡ tick (broken 248) 0 0 0 atRest → (r .answer ≡ pos 0) × (r .output .interrupts ≡ 15) × (r .output .lines ≡ 15)
+good-state : (r : Answered) → r ≡ tick (broken 248) 0 0 0 low → (r .answer ≡ pos 0) × (r .output .interrupts ≡ 15) × (r .output .lines ≡ 15)
 unfolding rules traces answered
 good-state r e = (
   ap (λ (x : Answered). x .answer) e,

@@ -7,12 +7,17 @@ use handler::tick::Answered;
 use handler::tick::tick;
 use installer::boot;
 use installer::lifecycle_of;
+use link_rules::LineReceivers;
+use link_rules::Listened;
 use policy::Installed;
 use rules::Access;
 use rules::Handler;
 use rules::Input;
 use rules::Made;
+use rules::Receive;
 use rules::Sample;
+use rules::Wires;
+use senders::listen::listen;
 use state::new::new;
 use trace::record::access_of;
 use trace_rules::Edition;
@@ -20,10 +25,12 @@ use writer::write;
 ghost use mathlib.Core.Path.{_≡_};
 ghost use mathlib.Core.Bool.{true};
 ghost use Rattle.batch.specs.BatchedBy.{BatchedBy};
-ghost use Rattle.boundary.specs.Input.{accessBy, inputBy};
+ghost use Rattle.bits.specs.Bits.{bit};
+ghost use Rattle.boundary.specs.Input.{accessBy, sampleBy, inputBy};
 ghost use Rattle.escalation.specs.Escalation.{Demand3};
 ghost use Rattle.handler.specs.Account.{account};
 ghost use Rattle.handler.specs.Answered.{answered};
+ghost use Rattle.link_rules.specs.LineReceivers.{listenedAll};
 ghost use Rattle.policy.specs.Plan.{boot, lifecycleOf};
 ghost use Rattle.trace_rules.specs.Batch.{batchVerdict, batchInputs};
 ghost use Rattle.rules.specs.State.{made};
@@ -42,6 +49,28 @@ fn access_by(kind: u8, register: u16, value: u32) -> Access
     }
 }
 
+// What comes in on the wires, and the entropy word: the alerts' pairs, and the positive and negative wires of the lines' receive pairs, line 0 at the
+// lowest bit; bits from 4 up count for nothing.
+#[repr(C)]
+pub struct Wired {
+    pub alerts: Wires,
+    pub word: u32,
+    pub receive_positive: u16,
+    pub receive_negative: u16,
+}
+
+// The sample that it is: receive pairs are checked.
+fn sample_by(w: Wired) -> Sample
+    ensures { λ r. ⌜ r ≡ sampleBy w ⌝ }
+{
+    let alerts = w.alerts;
+    Sample {
+        alerts,
+        word: w.word,
+        receive: Receive::Pairs(w.receive_positive as u32, w.receive_negative as u32),
+    }
+}
+
 // A handler for n alerts, or refusal 6.
 #[no_mangle]
 pub extern "C" fn tarravane_new(n: usize) -> Made
@@ -57,11 +86,12 @@ pub extern "C" fn tarravane_tick(
     kind: u8,
     register: u16,
     value: u32,
-    sample: Sample,
+    wires: Wired,
 ) -> Answered
-    ensures { λ r. ⌜ r ≡ answered (ticked h (inputBy kind register value sample)) ⌝ }
+    ensures { λ r. ⌜ r ≡ answered (ticked h (inputBy kind register value wires)) ⌝ }
 {
     let access = access_by(kind, register, value);
+    let sample = sample_by(wires);
     let input = Input { access, sample };
     tick(h, input)
 }
@@ -73,11 +103,12 @@ pub extern "C" fn tarravane_hear(
     kind: u8,
     register: u16,
     value: u32,
-    sample: Sample,
+    wires: Wired,
 ) -> Account
-    ensures { λ r. ⌜ r ≡ account h (inputBy kind register value sample) ⌝ }
+    ensures { λ r. ⌜ r ≡ account h (inputBy kind register value wires) ⌝ }
 {
     let access = access_by(kind, register, value);
+    let sample = sample_by(wires);
     let input = Input { access, sample };
     account_of(h, input)
 }
@@ -100,13 +131,22 @@ pub extern "C" fn tarravane_batch_70(h: Handler, bytes: &[u8], out: &mut [u64]) 
     batch(Edition::Alerts248, h, bytes, out)
 }
 
-// The ticks of the newest records, of 75 bytes with the ping timer's word and answers, a word for each.
+// The ticks of the records of 75 bytes with the ping timer's word and answers, first byte 254, a word for each.
 #[no_mangle]
 pub extern "C" fn tarravane_batch_pings(h: Handler, bytes: &[u8], out: &mut [u64]) -> Batched
     ensures { λ r. ⌜ BatchedBy Edition.Pings h (now (bytes .entry)) (now (out .entry)) r (now (out .exit)) ⌝ }
     ensures demand3 { λ r. ⌜ (valid h ≡ true → Demand3 h (batchInputs Edition.Pings (batchVerdict Edition.Pings h (now (bytes .entry)) (now (out .entry))) (now (bytes .entry)))) ⌝ }
 {
     batch(Edition::Pings, h, bytes, out)
+}
+
+// The ticks of the newest records, of 75 bytes with the word and receive pairs, first byte 253, a word for each.
+#[no_mangle]
+pub extern "C" fn tarravane_batch_wires(h: Handler, bytes: &[u8], out: &mut [u64]) -> Batched
+    ensures { λ r. ⌜ BatchedBy Edition.Wires h (now (bytes .entry)) (now (out .entry)) r (now (out .exit)) ⌝ }
+    ensures demand3 { λ r. ⌜ (valid h ≡ true → Demand3 h (batchInputs Edition.Wires (batchVerdict Edition.Wires h (now (bytes .entry)) (now (out .entry))) (now (bytes .entry)))) ⌝ }
+{
+    batch(Edition::Wires, h, bytes, out)
 }
 
 // A record for each entry of the lent lists, into the lent buffer.
@@ -118,12 +158,13 @@ pub extern "C" fn tarravane_record(
     positive: &[u64],
     negative: &[u64],
     entropy: &[u32],
-    answers: &[u8],
+    receive_positive: &[u8],
+    receive_negative: &[u8],
     out: &mut [u8],
 ) -> i64
-    ensures { λ r. ⌜ Wrote (lent (now (kinds .entry)) (now (registers .entry)) (now (values .entry)) (now (positive .entry)) (now (negative .entry)) (now (entropy .entry)) (now (answers .entry))) (now (out .entry)) r (now (out .exit)) ⌝ }
-    ensures readback { λ r. ⌜ ReadBack (lent (now (kinds .entry)) (now (registers .entry)) (now (values .entry)) (now (positive .entry)) (now (negative .entry)) (now (entropy .entry)) (now (answers .entry))) (now (out .entry)) (now (out .exit)) ⌝ }
-    ensures writtenback { λ r. ⌜ WrittenBack (lent (now (kinds .entry)) (now (registers .entry)) (now (values .entry)) (now (positive .entry)) (now (negative .entry)) (now (entropy .entry)) (now (answers .entry))) (now (out .entry)) (now (out .exit)) ⌝ }
+    ensures { λ r. ⌜ Wrote (lent (now (kinds .entry)) (now (registers .entry)) (now (values .entry)) (now (positive .entry)) (now (negative .entry)) (now (entropy .entry)) (now («receive_positive» .entry)) (now («receive_negative» .entry))) (now (out .entry)) r (now (out .exit)) ⌝ }
+    ensures readback { λ r. ⌜ ReadBack (lent (now (kinds .entry)) (now (registers .entry)) (now (values .entry)) (now (positive .entry)) (now (negative .entry)) (now (entropy .entry)) (now («receive_positive» .entry)) (now («receive_negative» .entry))) (now (out .entry)) (now (out .exit)) ⌝ }
+    ensures writtenback { λ r. ⌜ WrittenBack (lent (now (kinds .entry)) (now (registers .entry)) (now (values .entry)) (now (positive .entry)) (now (negative .entry)) (now (entropy .entry)) (now («receive_positive» .entry)) (now («receive_negative» .entry))) (now (out .entry)) (now (out .exit)) ⌝ }
 {
     write(
         kinds,
@@ -132,7 +173,8 @@ pub extern "C" fn tarravane_record(
         positive,
         negative,
         entropy,
-        answers,
+        receive_positive,
+        receive_negative,
         out,
     )
 }
@@ -144,4 +186,12 @@ pub extern "C" fn tarravane_install(h: Handler, lifecycle: u8) -> Installed
 {
     let l = lifecycle_of(lifecycle);
     boot(h, l)
+}
+
+// A tick of the receivers at the lines' ends, in which the lines' pairs are these: what they send back, what they see, and the receivers after it.
+#[no_mangle]
+pub extern "C" fn tarravane_receive(r: LineReceivers, positive: u32, negative: u32) -> Listened
+    ensures { λ x. ⌜ x ≡ listenedAll r (bit positive) (bit negative) ⌝ }
+{
+    listen(r, positive, negative)
 }

@@ -33,7 +33,9 @@ holds-tick-inputs kind register value w =
       read = λ e. rw e;
       write = λ e. rw e;
       other = λ l. let m : 3 ≤ kind = omega arith in kind-over kind (cond (eqb kind 0) 0 register) (cond (eqb kind 2) value 0) m;
-      sample = refl;
+      alerts = refl;
+      word = refl;
+      receive = refl;
     }
 
 -- ── a writing ──
@@ -56,7 +58,7 @@ holds-four list i = record { four = length-each 4 (wordAt list i); word = λ v l
 
 -- as the contract of `tarravane_record` names them
 abbrev pub lentBy : Lists → Lent
-lentBy l = lent (l .kinds) (l .registers) (l .values) (l .positive) (l .negative) (l .entropy) (l .answers)
+lentBy l = lent (l .kinds) (l .registers) (l .values) (l .positive) (l .negative) (l .entropy) (l .receive-positive) (l .receive-negative)
 
 module _ (l : Lists) where
   entry-at : (i : ℕ) → i < length (l .kinds) → entry (listOf (lentBy l)) i ≡ inputAt (lentBy l) i
@@ -77,7 +79,7 @@ module _ (l : Lists) where
         pos = λ i h. subst (λ (x : Input). FourOf (l .positive) i (x .sample .alerts .pos)) (sym (entry-at i h)) (holds-four (l .positive) i);
         neg = λ i h. subst (λ (x : Input). FourOf (l .negative) i (x .sample .alerts .neg)) (sym (entry-at i h)) (holds-four (l .negative) i);
         word = λ i h. ap (λ (x : Input). x .sample .word) (entry-at i h);
-        answers = λ i h. ap (λ (x : Input). x .sample .answers) (entry-at i h);
+        receive = λ i h. ap (λ (x : Input). x .sample .receive) (entry-at i h);
       }
 
   arrays : Words l → (i : ℕ) → i < length (listOf (lentBy l)) → Arrays (entry (listOf (lentBy l)) i)
@@ -91,6 +93,7 @@ module _ (l : Lists) where
         negative = b .four;
         negative-word = λ v s. subst (λ (n : ℕ). n ≤ 18446744073709551615) (sym (b .word v s)) (w .negative (i * 4 + v));
         word = subst (λ (n : ℕ). n ≤ 4294967295) (sym (holds-list .word i k)) (w .entropy i);
+        pairs = (getD (l .receive-positive) i 0, getD (l .receive-negative) i 0, holds-list .receive i k);
       }
 
   -- ── lengths: the test of each list but the kinds ──
@@ -102,8 +105,11 @@ module _ (l : Lists) where
   fours xs = eqb (length xs) (length (l .kinds) * 4)
 
   -- the tests behind the first, the second, ..
+  abbrev after5 : Bool
+  after5 = many (l .receive-positive) && many (l .receive-negative)
+
   abbrev after4 : Bool
-  after4 = many (l .entropy) && many (l .answers)
+  after4 = many (l .entropy) && after5
 
   abbrev after3 : Bool
   after3 = fours (l .negative) && after4
@@ -120,12 +126,15 @@ module _ (l : Lists) where
       let b = and-true (many (l .values)) after2 (a .1) in
       let c = and-true (fours (l .positive)) after3 (b .1) in
       let d = and-true (fours (l .negative)) after4 (c .1) in
-      let f = and-true (many (l .entropy)) (many (l .answers)) (d .1) in
+      let f = and-true (many (l .entropy)) after5 (d .1) in
+      let g = and-true (many (l .receive-positive)) (many (l .receive-negative)) (f .1) in
       ⊎-elim (λ n. n (eqb-true (length (l .registers)) (length (l .kinds)) (a .0)))
       (⊎-elim (λ n. n (eqb-true (length (l .values)) (length (l .kinds)) (b .0)))
       (⊎-elim (λ n. n (eqb-true (length (l .positive)) (length (l .kinds) * 4) (c .0)))
       (⊎-elim (λ n. n (eqb-true (length (l .negative)) (length (l .kinds) * 4) (d .0)))
-      (⊎-elim (λ n. n (eqb-true (length (l .entropy)) (length (l .kinds)) (f .0))) (λ n. n (eqb-true (length (l .answers)) (length (l .kinds)) (f .1)))))))
+      (⊎-elim (λ n. n (eqb-true (length (l .entropy)) (length (l .kinds)) (f .0)))
+      (⊎-elim (λ n. n (eqb-true (length (l .receive-positive)) (length (l .kinds)) (g .0)))
+      (λ n. n (eqb-true (length (l .receive-negative)) (length (l .kinds)) (g .1))))))))
 
   not-even : Uneven l → even (lentBy l) ≡ false
   not-even u = go (even (lentBy l)) refl
@@ -141,7 +150,8 @@ module _ (l : Lists) where
       (true-and (same (length (l .positive)) (length (l .kinds) * 4) (λ n. f (inr (inr (inl n)))))
       (true-and (same (length (l .negative)) (length (l .kinds) * 4) (λ n. f (inr (inr (inr (inl n))))))
       (true-and (same (length (l .entropy)) (length (l .kinds)) (λ n. f (inr (inr (inr (inr (inl n)))))))
-      (same (length (l .answers)) (length (l .kinds)) (λ n. f (inr (inr (inr (inr (inr n)))))))))))
+      (true-and (same (length (l .receive-positive)) (length (l .kinds)) (λ n. f (inr (inr (inr (inr (inr (inl n))))))))
+      (same (length (l .receive-negative)) (length (l .kinds)) (λ n. f (inr (inr (inr (inr (inr (inr n)))))))))))))
     where
       same : (a b : ℕ) → (a ≢ b → ⊥) → eqb a b ≡ true
       same a b g = go (ℕ-discrete a b)

@@ -8,28 +8,32 @@ use native.Mathlib.Decide.{ℕ-discrete}
 use lib.IntN.{ℤ}
 use lib.ListN.{getD, length}
 use lib.Seq.{ext-getD}
+use Rattle.boundary.specs.declared.Wired.{Wired}
 use Rattle.rules.specs.declared.Access.{Access}
 use Rattle.rules.specs.declared.Input.{Input}
-use Rattle.rules.specs.declared.Sample.{Sample}
 use Rattle.trace_sentences.specs.Writers.{noInput, entry, WriteIs}
 use Rattle.trace_sentences.proofs.OnlyWriters.{SameWrite, same-refuses, same-write}
 use Rattle.trace_sentences.proofs.BytePlaces.{dec-or, dec-not}
 use Rattle.call_sentences.specs.Arguments.{TickInput, TickInputs, Lists, EntryIs, FourOf, ListIs, Uneven, Words, WriteCall, WriteCalls}
 
-module _ (register value : ℕ) (w : Sample) (x y : Input) where
+module _ (register value : ℕ) (w : Wired) (x y : Input) where
   same-access : (kind : ℕ) → TickInput kind register value w x → TickInput kind register value w y → x .access ≡ y .access
   same-access zero a b = a .nothing refl ∙ sym (b .nothing refl)
   same-access (suc zero) a b = a .read refl ∙ sym (b .read refl)
   same-access (suc (suc zero)) a b = a .write refl ∙ sym (b .write refl)
   same-access (suc (suc (suc k))) a b = let l : 3 ≤ suc (suc (suc k)) = omega arith in a .other l ∙ sym (b .other l)
 
-pub only-tick-inputs : (f g : ℕ → ℕ → ℕ → Sample → Input) → TickInputs f → TickInputs g → (kind register value : ℕ) (w : Sample) → f kind register value w ≡ g kind register value w
+pub only-tick-inputs : (f g : ℕ → ℕ → ℕ → Wired → Input) → TickInputs f → TickInputs g → (kind register value : ℕ) (w : Wired) → f kind register value w ≡ g kind register value w
 only-tick-inputs f g a b kind register value w =
     let x = f kind register value w in
     let y = g kind register value w in
     let p = a kind register value w in
     let q = b kind register value w in
-    λ i. record { access = same-access register value w x y kind p q i; sample = (p .sample ∙ sym (q .sample)) i }
+    λ i.
+    record {
+      access = same-access register value w x y kind p q i;
+      sample = record { alerts = (p .alerts ∙ sym (q .alerts)) i; word = (p .word ∙ sym (q .word)) i; receive = (p .receive ∙ sym (q .receive)) i };
+    }
 
 -- ── a writing ──
 
@@ -68,7 +72,7 @@ module _ (l : Lists) where
                 neg = same-four (l .negative) i (entry xs i .sample .alerts .neg) (entry ys i .sample .alerts .neg) (x .neg i h) (y .neg i h) j;
               };
               word = (x .word i h ∙ sym (y .word i h)) j;
-              answers = (x .answers i h ∙ sym (y .answers i h)) j;
+              receive = (x .receive i h ∙ sym (y .receive i h)) j;
             };
           }
 
@@ -78,7 +82,9 @@ module _ (l : Lists) where
       (dec-or (dec-not (ℕ-discrete (length (l .values)) (length (l .kinds))))
       (dec-or (dec-not (ℕ-discrete (length (l .positive)) (length (l .kinds) * 4)))
       (dec-or (dec-not (ℕ-discrete (length (l .negative)) (length (l .kinds) * 4)))
-      (dec-or (dec-not (ℕ-discrete (length (l .entropy)) (length (l .kinds)))) (dec-not (ℕ-discrete (length (l .answers)) (length (l .kinds))))))))
+      (dec-or (dec-not (ℕ-discrete (length (l .entropy)) (length (l .kinds))))
+      (dec-or (dec-not (ℕ-discrete (length (l .receive-positive)) (length (l .kinds))))
+      (dec-not (ℕ-discrete (length (l .receive-negative)) (length (l .kinds)))))))))
 
   pub same-call : (buffer : List ℕ) (a b : ℤ) (left kept : List ℕ) → WriteCall l buffer a left → WriteCall l buffer b kept → SameWrite a b left kept
   same-call buffer a b left kept x y = go dec-uneven

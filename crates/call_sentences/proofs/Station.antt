@@ -3,17 +3,19 @@
 use Prim.Native.Nat.{ℕ}
 use mathlib.Core.Path.{_≡_, refl, sym, ap, ap₂, _∙_, subst}
 use mathlib.Core.List.{List, [], _∷_}
+use lib.IntN.{pos}
 use Rattle.boundary.specs.Input.{inputBy}
+use Rattle.boundary.specs.declared.Wired.{Wired}
 use Rattle.handler.proofs.Accounts.{account-answer}
 use Rattle.handler.specs.Account.{account}
 use Rattle.handler.specs.Answered.{answered}
+use Rattle.link_rules.specs.declared.Listened.{Listened}
 use Rattle.trace_rules.specs.Batch.{batch}
 use Rattle.rules.specs.State.{made}
 use Rattle.rules.specs.Tick.{ticked}
 use Rattle.rules.specs.declared.Handler.{Handler}
 use Rattle.rules.specs.declared.Input.{Input}
 use Rattle.rules.specs.declared.Made.{Made}
-use Rattle.rules.specs.declared.Sample.{Sample}
 use Rattle.writer.specs.Lent.{writeLent}
 use Rattle.sentences.specs.AccessArrays.{Sized}
 use Rattle.sentences.proofs.OnlyMaking.{only-making}
@@ -22,13 +24,15 @@ use Rattle.trace_sentences.specs.Library.{off, make as l-make, step as l-step, 
 use Rattle.trace_sentences.proofs.Library.{rules, holds-library, same-got, same-leaves, sized-leaves}
 use Rattle.trace_sentences.proofs.Replays.{holds-replays}
 use Rattle.call_sentences.specs.Hearing.{Hears}
-use Rattle.call_sentences.specs.Station.{Station, Sound, Call, make, step, hear, replay, write, Typed, any-count, any-step, any-hear, all-bytes, all-words, AllTyped, none, one, Got, untold, got, all}
+use Rattle.call_sentences.specs.Station.{Station, Sound, Call, make, step, hear, replay, write, listen, Typed, any-count, any-step, any-hear, all-bytes, all-words, any-listen, AllTyped, none, one, Got, untold, unlistened, got, all}
 use Rattle.call_sentences.proofs.HoldsArguments.{lentBy, holds-tick-inputs, holds-write-calls}
 use Rattle.call_sentences.proofs.HoldsHearing.{toldBy, holds-hears}
+use Rattle.call_sentences.proofs.HoldsReceiving.{receiveBy, holds-receiving}
 use Rattle.call_sentences.proofs.OnlyArguments.{only-tick-inputs, only-write-calls}
 use Rattle.call_sentences.proofs.OnlyHearing.{only-hears}
+use Rattle.call_sentences.proofs.OnlyReceiving.{only-receiving}
 
--- what the contracts of `tarravane_new`, `_tick`, `_hear`, the batches and the writer say that they give
+-- what the contracts of `tarravane_new`, `_tick`, `_hear`, the batches, the writer and `tarravane_receive` say that they give
 abbrev pub boundary : Station
 boundary =
     record {
@@ -43,6 +47,7 @@ boundary =
       batch-list = λ e h bytes out. batch e h bytes out .out;
       write-answer = λ l buffer. writeLent (lentBy l) buffer .answer;
       write-buffer = λ l buffer. writeLent (lentBy l) buffer .buffer;
+      receive = receiveBy;
     }
 
 pub sound-boundary : Sound boundary
@@ -63,6 +68,7 @@ sound-boundary =
       batch-answer = λ e h bytes out. refl;
       batch-list = λ e h bytes out. refl;
       writes = holds-write-calls;
+      receives = holds-receiving;
     }
 
 -- a call leaves the arrays their lengths
@@ -72,17 +78,18 @@ sized-call c s h (step k r v w) z = subst Sized (sym (s .tick-state h k r v w)) 
 sized-call c s h (hear k r v w) z = z
 sized-call c s h (replay e bytes out) z = subst Sized (sym (s .batch-state e h bytes out)) (sized-leaves (s .behind) (s .sound) h (l-replay e bytes out) z)
 sized-call c s h (write l buffer) z = z
+sized-call c s h (listen r p m) z = z
 
 module _ (c d : Station) (s : Sound c) (t : Sound d) where
   same-new : (n : ℕ) → c .new n ≡ d .new n
   same-new n = s .new n ∙ only-making (s .behind .new) (t .behind .new) (s .sound .making) (t .sound .making) n ∙ sym (t .new n)
 
-  same-input : (k r v : ℕ) (w : Sample) → s .input k r v w ≡ t .input k r v w
+  same-input : (k r v : ℕ) (w : Wired) → s .input k r v w ≡ t .input k r v w
   same-input = only-tick-inputs (s .input) (t .input) (s .inputs) (t .inputs)
 
   same-call : (h : Handler) (x : Call) → Sized h → Typed x → got c h x ≡ got d h x
   same-call h (make n) z any-count =
-      ap (λ (m : Made). record { number = m .answer; output = off; told = untold; lent = []; state = m .handler }) (same-new n)
+      ap (λ (m : Made). record { number = m .answer; output = off; told = untold; lent = []; listened = unlistened; state = m .handler }) (same-new n)
   same-call h (step k r v w) z any-step =
       let x = s .input k r v w in
       let g = same-got (s .behind) (t .behind) (s .sound) (t .sound) h (l-step x) z l-input in
@@ -94,6 +101,7 @@ module _ (c d : Station) (s : Sound c) (t : Sound d) where
         output = (s .tick-output h k r v w ∙ ap (λ (y : LGot). y .output) g ∙ ap (t .behind .output h) e ∙ sym (t .tick-output h k r v w)) i;
         told = untold;
         lent = [];
+        listened = unlistened;
         state = (s .tick-state h k r v w ∙ l ∙ ap (t .behind .tick h) e ∙ sym (t .tick-state h k r v w)) i;
       }
   same-call h (hear k r v w) z any-hear =
@@ -107,6 +115,7 @@ module _ (c d : Station) (s : Sound c) (t : Sound d) where
         output = off;
         told = only-hears _ _ _ _ (s .sound .replays .ticks) (t .sound .replays .ticks) h x z (c .hear-told h k r v w) (d .hear-told h k r v w) (s .hear-told h k r v w) u i;
         lent = [];
+        listened = unlistened;
         state = h;
       }
   same-call h (replay e bytes out) z (all-bytes b) =
@@ -118,11 +127,15 @@ module _ (c d : Station) (s : Sound c) (t : Sound d) where
         output = off;
         told = untold;
         lent = (s .batch-list e h bytes out ∙ ap (λ (y : LGot). y .lent) g ∙ sym (t .batch-list e h bytes out)) i;
+        listened = unlistened;
         state = (s .batch-state e h bytes out ∙ l ∙ sym (t .batch-state e h bytes out)) i;
       }
   same-call h (write l buffer) z (all-words p) =
       let w = only-write-calls (c .write-answer) (d .write-answer) (c .write-buffer) (d .write-buffer) (s .writes) (t .writes) l buffer p in
-      λ i. record { number = w .answer i; output = off; told = untold; lent = w .buffer i; state = h }
+      λ i. record { number = w .answer i; output = off; told = untold; lent = w .buffer i; listened = unlistened; state = h }
+  same-call h (listen r p m) z any-listen =
+      ap (λ (x : Listened). record { number = pos 0; output = off; told = untold; lent = []; listened = x; state = h })
+      (only-receiving (c .receive) (d .receive) (s .receives) (t .receives) r p m)
 
   -- every sequence of calls, from any state whose arrays have their lengths
   pub only-station : (h : Handler) (xs : List Call) → Sized h → AllTyped xs → all c h xs ≡ all d h xs

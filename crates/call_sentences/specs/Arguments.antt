@@ -7,25 +7,29 @@ use mathlib.Core.Logic.{_⊎_, _≢_}
 use mathlib.Core.List.{List}
 use lib.IntN.{ℤ}
 use lib.ListN.{getD, length}
+use Rattle.boundary.specs.declared.Wired.{Wired}
 use Rattle.rules.specs.declared.Access.{Access}
 use Rattle.rules.specs.declared.Input.{Input}
-use Rattle.rules.specs.declared.Sample.{Sample}
+use Rattle.rules.specs.declared.Receive.{Receive}
 use Rattle.trace_sentences.specs.Writers.{entry, Refuses, WriteIs}
 
 -- ── a tick: "0 none, 1 read, 2 write. Any other is a malformed record. What the kind does not use is not looked at." ──
 
-pub record TickInput (kind register value : ℕ) (s : Sample) (x : Input) : Type 0 where
+pub record TickInput (kind register value : ℕ) (w : Wired) (x : Input) : Type 0 where
   pub nothing : kind ≡ 0 → x .access ≡ Access.Nothing
   pub read : kind ≡ 1 → x .access ≡ Access.Read register
   pub write : kind ≡ 2 → x .access ≡ Access.Write register value
   pub other : 3 ≤ kind → x .access ≡ Access.Malformed
-  -- the sample as it was handed in
-  pub sample : x .sample ≡ s
+  -- the alerts' pairs and the word as they were handed in
+  pub alerts : x .sample .alerts ≡ w .alerts
+  pub word : x .sample .word ≡ w .word
+  -- request (xi): "receive pairs are checked"
+  pub receive : x .sample .receive ≡ Receive.Pairs (w .«receive_positive») (w .«receive_negative»)
 
-abbrev pub TickInputs : (ℕ → ℕ → ℕ → Sample → Input) → Type 0
-TickInputs by = (kind register value : ℕ) (s : Sample) → TickInput kind register value s (by kind register value s)
+abbrev pub TickInputs : (ℕ → ℕ → ℕ → Wired → Input) → Type 0
+TickInputs by = (kind register value : ℕ) (w : Wired) → TickInput kind register value w (by kind register value w)
 
--- ── a writing: "seven lists of numbers, of which entry i is tick i's", as a record would hold it ──
+-- ── a writing: "eight lists of numbers, of which entry i is tick i's", as a record would hold it ──
 
 pub record Lists : Type 0 where
   pub kinds : List ℕ
@@ -33,9 +37,10 @@ pub record Lists : Type 0 where
   pub values : List ℕ
   pub positive : List ℕ
   pub negative : List ℕ
-  -- request (ix): the word of each tick, and the lines whose ping is answered
+  -- request (ix): the word of each tick; request (xi): the positive and the negative wires of its receive pairs
   pub entropy : List ℕ
-  pub answers : List ℕ
+  pub receive-positive : List ℕ
+  pub receive-negative : List ℕ
 
 pub record EntryIs (kind register value : ℕ) (a : Access) : Type 0 where
   pub nothing : kind ≡ 0 → register ≡ 0 → value ≡ 0 → a ≡ Access.Nothing
@@ -57,9 +62,10 @@ pub record ListIs (l : Lists) (xs : List Input) : Type 0 where
   pub access : (i : ℕ) → i < length (l .kinds) → EntryIs (getD (l .kinds) i 0) (getD (l .registers) i 0) (getD (l .values) i 0) (entry xs i .access)
   pub pos : (i : ℕ) → i < length (l .kinds) → FourOf (l .positive) i (entry xs i .sample .alerts .pos)
   pub neg : (i : ℕ) → i < length (l .kinds) → FourOf (l .negative) i (entry xs i .sample .alerts .neg)
-  -- request (ix): the words and the answers as they were handed in
+  -- requests (ix) and (xi): the words and the receive pairs as they were handed in
   pub word : (i : ℕ) → i < length (l .kinds) → entry xs i .sample .word ≡ getD (l .entropy) i 0
-  pub answers : (i : ℕ) → i < length (l .kinds) → entry xs i .sample .answers ≡ getD (l .answers) i 0
+  pub receive :
+      (i : ℕ) → i < length (l .kinds) → entry xs i .sample .receive ≡ Receive.Pairs (getD (l .receive-positive) i 0) (getD (l .receive-negative) i 0)
 
 -- "lists of unequal lengths name a tick that lacks a part, which no record holds: 10"
 abbrev pub Uneven : Lists → Type 0
@@ -68,7 +74,8 @@ Uneven l =
     ⊎ ((length (l .values) ≢ length (l .kinds))
     ⊎ ((length (l .positive) ≢ length (l .kinds) * 4)
     ⊎ ((length (l .negative) ≢ length (l .kinds) * 4)
-    ⊎ ((length (l .entropy) ≢ length (l .kinds)) ⊎ (length (l .answers) ≢ length (l .kinds))))))
+    ⊎ ((length (l .entropy) ≢ length (l .kinds))
+    ⊎ ((length (l .receive-positive) ≢ length (l .kinds)) ⊎ (length (l .receive-negative) ≢ length (l .kinds)))))))
 
 pub record WriteCall (l : Lists) (buffer : List ℕ) (a : ℤ) (left : List ℕ) : Type 0 where
   pub uneven : Uneven l → Refuses 10 buffer a left

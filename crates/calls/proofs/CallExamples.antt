@@ -34,10 +34,10 @@ use Rattle.calls.proofs.Calls.{across-calls}
 
 -- ── five calls: class 2 starts in the first, in tick 100, with phases of two ticks; line e is mapped to Phase e ──
 
-abbrev class : Class
+abbrev pub class : Class
 class = locked 0 0 (2 ∷ 2 ∷ 2 ∷ 2 ∷ [])
 
-abbrev station : Handler
+abbrev pub station : Handler
 station = post 2 class
 
 -- a record of each edition with no access and all wires at (0,1)
@@ -47,7 +47,7 @@ rest64 = replicate 16 0 ++ replicate 8 255
 abbrev rest248 : List ℕ
 rest248 = replicate 39 0 ++ replicate 31 255
 
-abbrev starting : Call
+abbrev pub starting : Call
 starting = Tick (raise 1 none)
 
 -- 71 bytes: refused with 8
@@ -61,7 +61,7 @@ old = Batch Edition.Alerts64 (rest64 ++ rest64) (7 ∷ 7 ∷ 7 ∷ [])
 abbrev new : Call
 new = Batch Edition.Alerts248 rest248 (9 ∷ [])
 
-abbrev calls : List Call
+abbrev pub calls : List Call
 calls = starting ∷ refused ∷ old ∷ new ∷ Tick (rest none) ∷ []
 
 -- what the batches give, each on the state that the calls before it left: the refused one its list as it was, the others their words

@@ -4,7 +4,7 @@ use Prim.Native.Nat.{ℕ, zero, suc, _-_, _<_}
 use mathlib.Core.Path.{_≡_, refl, sym, ap, subst, _∙_}
 use mathlib.Core.Logic.{_≢_}
 use mathlib.Core.Bool.{Bool, true, false, false≢true, true≢false}
-use mathlib.Core.List.{List, [], _∷_, _++_, map}
+use mathlib.Core.List.{List, [], _∷_, _++_, map, append-assoc}
 use native.Mathlib.Nat.{le-of-suc-le-suc, not-suc-le-zero}
 use native.Mathlib.Omega.{arith}
 use lib.ListN.{getD, length, take, drop, replicate, length-append, length-map}
@@ -113,15 +113,23 @@ seen-ticks h (Boot l) v = none-seen h (bootInputs l h)
 
 -- ── calls one after another ──
 
-all-run : (h : Handler) (cs : List Call) → leavesAll h cs ≡ run h (inputsAll h cs)
+pub all-run : (h : Handler) (cs : List Call) → leavesAll h cs ≡ run h (inputsAll h cs)
 unfolding leavesAll inTurn run
 all-run h [] = refl
 all-run h (c ∷ cs) =
     all-run (leaves h c) cs ∙ ap (λ (g : Handler). run g (inputsAll (leaves h c) cs)) (leaves-run h c)
     ∙ sym (run-append h (inputs h c) (inputsAll (leaves h c) cs))
 
+-- what calls give is what the first of them give, and then the others on the state that those left
+pub turn-append : {A : Type 0} (f : Handler → Call → List A) (h : Handler) (us bs : List Call)
+    → inTurn f h (us ++ bs) ≡ inTurn f h us ++ inTurn f (leavesAll h us) bs
+unfolding inTurn leavesAll
+turn-append {A} f h [] bs = refl
+turn-append {A} f h (a ∷ us) bs =
+    ap (λ (ys : List A). f h a ++ ys) (turn-append f (leaves h a) us bs) ∙ sym (append-assoc (f h a) (inTurn f (leaves h a) us) (inTurn f (leavesAll (leaves h a) us) bs))
+
 -- the ticks of the first i calls are the first of all
-inputs-first : (h : Handler) (cs : List Call) (i : ℕ) → inputsAll h (take i cs) ≡ take (length (inputsAll h (take i cs))) (inputsAll h cs)
+pub inputs-first : (h : Handler) (cs : List Call) (i : ℕ) → inputsAll h (take i cs) ≡ take (length (inputsAll h (take i cs))) (inputsAll h cs)
 unfolding inTurn
 inputs-first h cs zero = refl
 inputs-first h [] (suc i) = refl

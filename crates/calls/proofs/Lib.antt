@@ -3,3 +3,6 @@ pub mod Calls
 pub mod CallExamples
 pub mod BootCallExamples
 pub mod WholeCalls
+pub mod SeenCalls
+pub mod SeenCallExamples
+pub mod WholeSeenCalls

@@ -5,7 +5,7 @@ use Prim.Native.Nat.{ℕ, zero, suc, _+_, _-_, _≤_, _<_}
 use mathlib.Core.Path.{_≡_, refl, sym, ap, ap₂, subst, _∙_}
 use mathlib.Core.Logic.{_≢_, _⊎_, inl, inr}
 use mathlib.Core.Bool.{Bool, true, false}
-use mathlib.Core.List.{List, [], _∷_, _++_, map, append-assoc}
+use mathlib.Core.List.{List, [], _∷_, _++_, map}
 use native.Mathlib.Nat.{le-of-suc-le-suc, not-suc-le-zero}
 use native.Mathlib.Omega.{arith}
 use lib.IntN.{pos, negℤ}
@@ -37,17 +37,9 @@ use Rattle.rules.specs.declared.Ticked.{Ticked}
 use Rattle.calls.specs.BootTicks.{bootInputs}
 use Rattle.calls.specs.Calls.{Call, Tick, Batch, Boot, leaves, inputs, shows, lineIn, Seen, Shown, Unseen, seen, leavesAll, inTurn, inputsAll, seenAll, showsAll, seenAt, showsAt, AcrossCalls}
 use Rattle.calls.proofs.BootTicks.{boot-ran}
-use Rattle.calls.proofs.Calls.{across-calls}
+use Rattle.calls.proofs.Calls.{across-calls, turn-append}
 
 -- ── lists ──
-
--- what calls give is what the first of them give, and then the others on the state that those left
-turn-append : {A : Type 0} (f : Handler → Call → List A) (h : Handler) (us bs : List Call)
-    → inTurn f h (us ++ bs) ≡ inTurn f h us ++ inTurn f (leavesAll h us) bs
-unfolding inTurn leavesAll
-turn-append {A} f h [] bs = refl
-turn-append {A} f h (a ∷ us) bs =
-    ap (λ (ys : List A). f h a ++ ys) (turn-append f (leaves h a) us bs) ∙ sym (append-assoc (f h a) (inTurn f (leaves h a) us) (inTurn f (leavesAll (leaves h a) us) bs))
 
 shows-length : (h : Handler) (cs : List Call) → length (showsAll h cs) ≡ length (inputsAll h cs)
 unfolding inTurn

@@ -114,20 +114,25 @@ p8 = (list12 .P8 .0, list12 .P8 .1)
 abbrev cleared : Handler
 cleared = run twoEvents (raise 0 (Write 1283 1) ∷ [])
 
-p9 : (value twoEvents state ≡ 0)
-    × (value twoEvents (Block AccumThresh 0) ≡ 2)
-    × (value twoEvents accum ≡ 2)
-    × (value twoEvents (Only IntrState) ≡ 0)
-    × (said twoEvents (raise 0 (Write 1283 1) ∷ []) ≡ pos 0 ∷ [])
-    × (value cleared accum ≡ 0)
-    × (value cleared state ≡ 0)
-    × (value cleared (Only IntrState) ≡ 1)
-    × (value (run twoEvents (raise 0 none ∷ [])) state ≡ 4)
+p9-before :
+    (value (run twoEvents []) state ≡ 0)
+    × (value (run twoEvents []) (Block AccumThresh 0) ≡ 2)
+    × (value (run twoEvents []) accum ≡ 2)
+    × (value (run twoEvents []) (Only IntrState) ≡ 0)
 unfolding rules
-p9 =
-    let b = list12 .P9-before in
-    let a = list12 .P9 in
-    (b .0, b .1, b .2, b .3, ap (λ (z : ℤ). z ∷ []) (a .0), a .1, a .2, a .3, list12 .P9-start)
+p9-before = let b = list12 .P9-before in (b .0, b .1, b .2, b .3)
+
+p9-answer : said twoEvents (raise 0 (Write 1283 1) ∷ []) ≡ pos 0 ∷ []
+unfolding rules
+p9-answer = ap (λ (z : ℤ). z ∷ []) (list12 .P9 .0)
+
+p9-cleared : (value cleared accum ≡ 0) × (value cleared state ≡ 0) × (value cleared (Only IntrState) ≡ 1)
+unfolding rules
+p9-cleared = let a = list12 .P9 in (a .1, a .2, a .3)
+
+p9-start : value (run twoEvents (raise 0 none ∷ [])) state ≡ 4
+unfolding rules
+p9-start = list12 .P9-start
 
 p10 : (said (armed 0 0) (raise 0 none ∷ rest (Write 1283 1) ∷ []) ≡ pos 0 ∷ negsuc 2 ∷ [])
     × (held (lasting 5 5 5 5) (raise 0 none ∷ rest (Write 1283 1) ∷ []) state ≡ 4 ∷ 4 ∷ [])

@@ -30,9 +30,9 @@ const LOCAL2_CAUSE: u16 = 42;
 pub const NEXT_CLASS: u16 = 16;
 
 // The letters 0 and 1, and one that keeps the level.
-const LOW: u8 = 48;
+pub const LOW: u8 = 48;
 
-const HIGH: u8 = 49;
+pub const HIGH: u8 = 49;
 
 const KEEP: u8 = 46;
 

@@ -1,4 +1,5 @@
-// Request (ix), the ping timer: its turns through the code's own tick. Registers by the map's numbers.
+// Request (ix), the ping timer: its turns through the code's own tick, as an older record gives them, with a bit for a line's answer. Registers by the
+// map's numbers.
 use crate::pairs::NEXT_CLASS;
 use crate::pairs::watched;
 use crate::play::ACCUM_CNT;
@@ -14,6 +15,7 @@ use crate::play::stage;
 use crate::play::timing;
 use rules::Access;
 use rules::Handler;
+use rules::Receive;
 
 // The timer's timeout and enable, REGWEN of alert 0.
 const TIMEOUT: u16 = 5;
@@ -23,15 +25,15 @@ const ENABLE: u16 = 6;
 const REGWEN: u16 = 256;
 
 // EN and CLASS of local alerts 0 and 1, and CAUSE of local alert 0.
-const LOCAL0_EN: u16 = 24;
+pub const LOCAL0_EN: u16 = 24;
 
-const LOCAL0_CLASS: u16 = 32;
+pub const LOCAL0_CLASS: u16 = 32;
 
 const LOCAL0_CAUSE: u16 = 40;
 
 // A tick with the wires at rest that is not shown.
-fn given(h: Handler, x: Access, word: u32) -> Handler {
-    handler::tick::tick(h, timing(x, REST, !REST, word, 0)).handler
+pub fn given(h: Handler, x: Access, word: u32) -> Handler {
+    handler::tick::tick(h, timing(x, REST, !REST, word, Receive::Answers(0))).handler
 }
 
 // Register 6 becomes 1, and this word sets the first turn.
@@ -51,14 +53,18 @@ pub fn level(h: Handler) -> u64 {
     r.level[0] / RAISE
 }
 
+// The timer's timeout is given, by two equal writes.
+pub fn with_timeout(h: Handler, timeout: u32) -> Handler {
+    let h = given(h, Access::Write(TIMEOUT, timeout), 0);
+    given(h, Access::Write(TIMEOUT, timeout), 0)
+}
+
 // Alert 0 counts in class 0, local alerts 0 and 1 in class 1; the timeout is given, and alert 0 is not locked.
 fn timed(timeout: u32) -> Handler {
     let h = configure(watched(), LOCAL0_CLASS, 1);
     let h = configure(h, LOCAL0_CLASS + 1, 1);
     let h = configure(h, LOCAL0_EN, 1);
-    let h = configure(h, LOCAL0_EN + 1, 1);
-    let h = given(h, Access::Write(TIMEOUT, timeout), 0);
-    given(h, Access::Write(TIMEOUT, timeout), 0)
+    with_timeout(configure(h, LOCAL0_EN + 1, 1), timeout)
 }
 
 // The same with alert 0 locked.
@@ -81,7 +87,7 @@ fn show_turn(h: Handler) {
 // A tick, shown as: alert 0's positive wire and the lines that answer; the access's answer; the turn; ACCUM_CNT of classes 0 and 1, CAUSE of local
 // alerts 0 and 1, and the level of alert 0's ping pair.
 fn show_tick(h: Handler, x: Access, pos: u64, word: u32, answers: u32) -> Handler {
-    let t = handler::tick::tick(h, timing(x, pos, !pos, word, answers));
+    let t = handler::tick::tick(h, timing(x, pos, !pos, word, Receive::Answers(answers)));
     let g = t.handler;
     print(b"  ");
     print_number(pos / RAISE);

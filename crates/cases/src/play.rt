@@ -4,6 +4,7 @@ use rules::Access;
 use rules::Handler;
 use rules::Input;
 use rules::Output;
+use rules::Receive;
 use rules::Sample;
 use rules::Wires;
 use trace::edition::carry;
@@ -88,8 +89,8 @@ fn old(x: Access) -> Access {
     }
 }
 
-// An access by the map's numbers, these wires of the first alerts, the entropy word and the lines whose ping is answered.
-pub fn timing(x: Access, pos: u64, neg: u64, word: u32, answers: u32) -> Input {
+// An access by the map's numbers, these wires of the first alerts, the entropy word and what comes back from the lines.
+pub fn timing(x: Access, pos: u64, neg: u64, word: u32, receive: Receive) -> Input {
     Input {
         access: x,
         sample: Sample {
@@ -98,14 +99,14 @@ pub fn timing(x: Access, pos: u64, neg: u64, word: u32, answers: u32) -> Input {
                 neg: [neg, 0, 0, 0],
             },
             word: word,
-            answers: answers,
+            receive: receive,
         },
     }
 }
 
-// An access by document 01's numbers, word 0 and no answer.
+// An access by document 01's numbers, word 0 and no answer: an older record's tick, whose lines' senders are not checked.
 pub fn input(x: Access, pos: u64, neg: u64) -> Input {
-    timing(old(x), pos, neg, 0, 0)
+    timing(old(x), pos, neg, 0, Receive::Answers(0))
 }
 
 // A tick that is not shown.

@@ -14,8 +14,8 @@ fn show_bytes(bytes: &[u8]) {
     print(b"\n");
 }
 
-// A read of 1281 and a write of 0 to this register, with negative wire 0 at 1, into the first bytes of a buffer. The second has a word, and the
-// answers of lines 0 and 2 with a bit that is no line's.
+// A read of 1281 and a write of 0 to this register, with negative wire 0 at 1, into the first bytes of a buffer. The second has a word, lines
+// 0 and 2 at (1,0), and bits that are no line's.
 fn show_two(register: u16, out: &mut [u8]) {
     let registers: [u16; 2] = [1281, register];
     let positive: [u64; 2 * WORDS] = [0; 2 * WORDS];
@@ -31,6 +31,7 @@ fn show_two(register: u16, out: &mut [u8]) {
         &negative,
         &entropy,
         &[0, 0x15],
+        &[15, 0x2A],
         out,
     );
     print(b"  ");

@@ -9,11 +9,12 @@ use mir.Syntax.{w64}
 use mir.Val.{SFits, toZ, ofZ}
 use borrow.Author.Needs.{sfits-of}
 use Rattle.rules.specs.Answer.{number}
-use Rattle.rules.specs.Tick.{acknowledgePairs, pingPairs, outputOf, tick, ticked, noOutput}
+use Rattle.rules.specs.Tick.{acknowledgePairs, pingPairs, escalationPairs, outputOf, tick, ticked, noOutput}
 use Rattle.rules.specs.Valid.{valid}
 use Rattle.rules.specs.declared.Answer.{Answer}
 use Rattle.rules.specs.declared.Handler.{Handler}
 use Rattle.rules.specs.declared.Input.{Input}
+use Rattle.rules.specs.declared.LinePairs.{LinePairs}
 use Rattle.rules.specs.declared.Output.{Output}
 use Rattle.rules.specs.declared.Refusal.the-variants.{BadState}
 use Rattle.rules.specs.declared.Wires.{Wires}
@@ -33,25 +34,25 @@ pub read-back : (a : Answer) (z : ℤ) → (z ≡ number a) × Meaning a → toZ
 read-back a z p = toZ-ofZ (number-fits a z (p .0) (p .1)) ∙ p .0
 
 -- a valid state: its steps, and the pairs
-pub answered-good : (h : Handler) (x : Input) (t : Stepped) (a p : Wires) (z : ℤ) → valid h ≡ true → t ≡ steppedOf (tick h x)
-    → a ≡ acknowledgePairs h → p ≡ pingPairs (t .handler) → (z ≡ number (t .answer)) × Meaning (t .answer)
+pub answered-good : (h : Handler) (x : Input) (t : Stepped) (a p : Wires) (q : LinePairs) (z : ℤ) → valid h ≡ true → t ≡ steppedOf (tick h x)
+    → a ≡ acknowledgePairs h → p ≡ pingPairs (t .handler) → q ≡ escalationPairs (t .handler) → (z ≡ number (t .answer)) × Meaning (t .answer)
     → _≡_ {A = Answered}
     (record {
       handler = t .handler;
       answer = toZ w64 (ofZ w64 z);
-      output = record { interrupts = t .interrupts; lines = t .lines; acknowledge = a; ping = p };
+      output = record { interrupts = t .interrupts; lines = t .lines; acknowledge = a; ping = p; escalation = q };
     })
     (answered (ticked h x))
 unfolding answered tick outputOf
-answered-good h x t a p z v e ea ep m =
-    ap (λ (y : ℤ). ended (t .handler) y t a p) (read-back (t .answer) z m)
-    ∙ ap₂ (ended (t .handler) (number (t .answer)) t) ea ep
-    ∙ ap (λ (s : Stepped). ended (s .handler) (number (s .answer)) s (acknowledgePairs h) (pingPairs (s .handler))) e
+answered-good h x t a p q z v e ea ep eq m =
+    ap (λ (y : ℤ). ended (t .handler) y t a p q) (read-back (t .answer) z m)
+    ∙ (λ u. ended (t .handler) (number (t .answer)) t (ea u) (ep u) (eq u))
+    ∙ ap (λ (s : Stepped). ended (s .handler) (number (s .answer)) s (acknowledgePairs h) (pingPairs (s .handler)) (escalationPairs (s .handler))) e
     ∙ ap answered (sym (ticked-good h x v))
   where
-    ended : Handler → ℤ → Stepped → Wires → Wires → Answered
-    ended g y s a p =
-        record { handler = g; answer = y; output = record { interrupts = s .interrupts; lines = s .lines; acknowledge = a; ping = p } }
+    ended : Handler → ℤ → Stepped → Wires → Wires → LinePairs → Answered
+    ended g y s a p q =
+        record { handler = g; answer = y; output = record { interrupts = s .interrupts; lines = s .lines; acknowledge = a; ping = p; escalation = q } }
 
 -- any other
 pub answered-bad : (h : Handler) (x : Input) (z : ℤ) (o : Output) → valid h ≡ false → (z ≡ number (Answer.Refused BadState)) × Meaning (Answer.Refused BadState)

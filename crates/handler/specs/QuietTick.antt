@@ -7,6 +7,8 @@ use Rattle.rules.specs.declared.Answer.{Answer}
 use Rattle.rules.specs.declared.Handler.{Handler}
 use Rattle.rules.specs.declared.Interrupts.{Interrupts}
 use Rattle.rules.specs.declared.Links.{Links}
+use Rattle.samples.specs.Linked.{linkedBy}
+use Rattle.samples.specs.declared.pace.Met.{Met}
 use Rattle.handler.specs.Classes.{classesBy, interruptsBy}
 use Rattle.handler.specs.OutputMasks.{interruptsOn, linesOn}
 use Rattle.handler.specs.declared.quiet.Moved.{Moved}
@@ -28,6 +30,7 @@ movedBy before x =
       lines = linesOn cs;
     }
 
--- the tick of h that gives the answer a, and moves and puts out what these links and m say
-abbrev pub ended : Handler → Answer → Links → Moved → Stepped
-ended h a links m = record { handler = withMoved links m h; answer = a; interrupts = m .interrupts; lines = m .lines }
+-- the tick of h that gives the answer a, leaves v for the links in step 2, and moves and puts out what m says
+abbrev pub ended : Handler → Answer → Met → Moved → Stepped
+ended h a v m =
+    record { handler = withMoved (linkedBy (h .links) v (m .lines)) m h; answer = a; interrupts = m .interrupts; lines = m .lines }

@@ -1,12 +1,17 @@
-// Request (viii), step 5: the acknowledge and ping pairs, a bit for each alert in its words. A batch does not build them.
+// Step 5: request (viii)'s acknowledge and ping pairs, a bit for each alert in its words, and request (xi)'s escalation pairs, a bit for each line. A batch
+// does not build them.
+use link_rules::Senders;
 use masks::places::live;
+use rules::LinePairs;
 use rules::Receivers;
 use rules::WORDS;
 use rules::Wires;
 ghost use Prim.Native.Nat.{_<_};
 ghost use mathlib.Core.Path.{_≡_};
 ghost use Rattle.rules.specs.State.{words};
-ghost use Rattle.rules.specs.Tick.{pairs};
+ghost use Rattle.link_rules.specs.Codes.{lastBit};
+ghost use Rattle.link_rules.specs.Senders.{senderIn};
+ghost use Rattle.rules.specs.Tick.{pairs, linePairs};
 ghost use Rattle.handler.specs.PairWords.{spread, isAcknowledged, isHigh, wordBy};
 
 // The pair (1,0) where a bit is set, else (0,1).
@@ -55,4 +60,14 @@ pub fn ping_pairs(n: usize, r: Receivers) -> Wires
     let c = high(n, r, 2);
     let d = high(n, r, 3);
     spread([a, b, c, d])
+}
+
+// The escalation pairs: what the senders sent in the tick that left them so.
+pub fn escalation_pairs(s: Senders) -> LinePairs
+    ensures { λ r. ⌜ r ≡ linePairs (λ e. lastBit (senderIn s e .sound .stands)) ⌝ }
+{
+    LinePairs {
+        pos: s.last % 16,
+        neg: !s.last % 16,
+    }
 }

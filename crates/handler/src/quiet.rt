@@ -1,4 +1,4 @@
-// A tick in which the access leaves the state as it is, no alert has an event or equal wires and no ping fails. The links, the classes and INTR_STATE
+// A tick in which the access leaves the state as it is, no alert has an event or equal wires, no ping fails and no receive pair is wrong. The links, the classes and INTR_STATE
 // alone can move then, so that the state need not be handed from step to step.
 use crate::classes::classes_after;
 use crate::classes::interrupts_after;
@@ -10,9 +10,9 @@ use rules::Answer;
 use rules::Handler;
 use rules::Input;
 use rules::Interrupts;
-use rules::Links;
 use samples::hear::is_pingable;
-use samples::links::links_after;
+use samples::links::hear_quiet;
+use samples::pace::Met;
 ghost use mathlib.Core.Path.{_≡_};
 ghost use mathlib.Core.Bool.{true};
 ghost use Prim.Native.Nat.{_≤_};
@@ -21,10 +21,10 @@ ghost use Rattle.rules.specs.Tick.{tick};
 ghost use Rattle.handler.specs.Answered.{steppedOf};
 ghost use Rattle.handler.specs.QuietTick.{movedBy, ended};
 
-// Whether a tick is known to be such a one, and then the links after it and its answer.
+// Whether a tick is known to be such a one, and then what step 2 leaves for the links, and its answer.
 pub struct Quiet {
     pub holds: bool,
-    pub links: Links,
+    pub met: Met,
     pub answer: Answer,
 }
 
@@ -39,20 +39,20 @@ pub struct Moved {
 // Steps 1 and 2, of a state that was found valid.
 pub fn quiet_of(h: Handler, x: Input) -> Quiet
     requires { ⌜ h .n ≤ most ⌝ }
-    ensures { λ r. ⌜ (r .holds ≡ true → ended h (r .answer) (r .links) (movedBy (h .classes) (h .interrupts)) ≡ steppedOf (tick h x)) ⌝ }
+    ensures { λ r. ⌜ (r .holds ≡ true → ended h (r .answer) (r .met) (movedBy (h .classes) (h .interrupts)) ≡ steppedOf (tick h x)) ⌝ }
 {
     let sent = x.access;
     let before = h.links;
     let regwen = h.alerts.regwen;
     let en = h.alerts.en;
     let pingable = is_pingable(h.n, before.turn.alert, &regwen, &en);
-    let linked = links_after(h.n, before, h.timer, pingable, x.sample);
+    let heard = hear_quiet(h.n, before, h.timer, pingable, x.sample);
     let unmoved = unmoved_by(h, sent);
-    let links = linked.links;
+    let met = heard.met;
     let answer = unmoved.answer;
     Quiet {
-        holds: linked.quiet & unmoved.holds,
-        links,
+        holds: heard.quiet & unmoved.holds,
+        met,
         answer,
     }
 }

@@ -4,6 +4,7 @@ use crate::classes::interrupts_after;
 use crate::output::interrupts_on;
 use crate::output::lines_on;
 use crate::pairs::acknowledge_pairs;
+use crate::pairs::escalation_pairs;
 use crate::pairs::ping_pairs;
 use answers::signed;
 use registers::access::access;
@@ -11,11 +12,14 @@ use rules::Answer;
 use rules::Handler;
 use rules::Input;
 use rules::Interrupts;
+use rules::LinePairs;
 use rules::Output;
 use rules::Refusal;
 use rules::WORDS;
 use rules::Wires;
 use samples::hear::hear;
+use samples::link::link;
+use samples::pace::Met;
 use samples::sample;
 use state::valid::is_valid;
 ghost use mathlib.Core.Path.{_≡_};
@@ -65,13 +69,22 @@ pub fn step(h: Handler, x: Input) -> Stepped
     next.classes = classes;
     let interrupts = Interrupts { state, enable };
     next.interrupts = interrupts;
-    let links = heard.links;
+    let lines = lines_on(classes);
+    let receivers = heard.receivers;
+    let meets = heard.meets;
+    let met = Met {
+        receivers,
+        meets,
+        checked: heard.checked,
+        right: heard.right,
+    };
+    let links = link(g.links, met, lines as u32);
     next.links = links;
     Stepped {
         handler: next,
         answer,
         interrupts: interrupts_on(state, enable),
-        lines: lines_on(classes),
+        lines,
     }
 }
 
@@ -88,6 +101,7 @@ fn no_output() -> Output
         lines: 0,
         acknowledge: low,
         ping: low,
+        escalation: LinePairs { pos: 0, neg: 15 },
     }
 }
 
@@ -103,6 +117,7 @@ pub fn tick(h: Handler, x: Input) -> Answered
         let after = handler.links.receivers;
         let acknowledge = acknowledge_pairs(h.n, before);
         let ping = ping_pairs(handler.n, after);
+        let escalation = escalation_pairs(handler.links.senders);
         Answered {
             handler,
             answer: signed(answer),
@@ -111,6 +126,7 @@ pub fn tick(h: Handler, x: Input) -> Answered
                 lines: t.lines as u32,
                 acknowledge,
                 ping,
+                escalation,
             },
         }
     } else {

@@ -47,7 +47,7 @@ abbrev timed : ℕ → Handler
 timed timeout =
     let h = newHandler 1 in
     withTimer (record { timeout = timeout; regwen = 1; enable = 1 })
-    (withLinks (record { receivers = h .links .receivers; turn = record { number = 0; alert = 0; count = 0 }; lines = 0 })
+    (withLinks (record { receivers = h .links .receivers; turn = record { number = 0; alert = 0; count = 0 }; lines = 0; senders = h .links .senders; right = 0 })
     (withAlerts (record { regwen = replicate 248 0; en = replicate 248 1; class = replicate 248 0; cause = replicate 248 0 }) h))
 
 abbrev events : ℕ → List Input → ℕ → Bool

@@ -1,4 +1,5 @@
 pub mod Closing
+pub mod LineSteps
 pub mod Pinged
 pub mod TurnSteps
 pub mod Turning
@@ -12,5 +13,11 @@ pub mod PingFails
 pub mod TurnTimes
 pub mod OpenLines
 pub mod Pings
+pub mod LineTicks
+pub mod Apart
+pub mod Pattern
+pub mod LinePings
 pub mod WholePings
+pub mod WholeLinePings
 pub mod PingExamples
+pub mod LinePingExamples

@@ -8,22 +8,23 @@ use native.Mathlib.Omega.{arith}
 use borrow.Author.Tests.{eqb-true, lt-ltb, not-true}
 use lib.Dec.{eqb, ltb, leb}
 use Rattle.bits.proofs.IndexLaws.{and-true}
-use Rattle.bits.specs.Bits.{bit}
 use Rattle.laws.proofs.Samples.Heard.{heard-answer}
 use Rattle.laws.proofs.Samples.Receivers.{acted-links, happens-in, answered-in}
 use Rattle.laws.proofs.Tick.Turns.{met-pending}
 use Rattle.laws.specs.Pinging.{meetsIn, asksIn, failsIn}
 use Rattle.link_rules.proofs.Owned
+use Rattle.link_rules.specs.LinePing.{closedByLine}
 use Rattle.link_rules.specs.Receiver.{takes, askedFor, received}
+use Rattle.link_rules.specs.Sender.{closes}
 use Rattle.link_rules.specs.Timer.{isLine, lineOf, isDue, opens, openNow, age, fails}
 use Rattle.link_rules.specs.declared.Turn.{Turn}
 use Rattle.rules.specs.Access.{value, acted, effects}
-use Rattle.rules.specs.Samples.{positive, negative, answered, before, asksFor, pingable, alertEnabled}
-use Rattle.rules.specs.State.{most, alert, receiver}
-use Rattle.rules.specs.Tick.{hears, happensIn, answeredIn}
-use Rattle.rules.specs.declared.Effects.{Effects}
+use Rattle.rules.specs.Samples.{positive, negative, answered, asksFor, lineAnswered, pingable, alertEnabled}
+use Rattle.rules.specs.State.{most, alert, receiver, sender}
+use Rattle.rules.specs.Tick.{lines, driven, closedNow, hears, happensIn, answeredIn, reached}
 use Rattle.rules.specs.declared.Field.{Field}
 use Rattle.rules.specs.declared.Handler.{Handler}
+use Rattle.rules.specs.declared.Heard.{Heard}
 use Rattle.rules.specs.declared.Input.{Input}
 use Rattle.rules.specs.declared.Links.{Links}
 use Rattle.rules.specs.declared.Register.the-variants.{Alert}
@@ -33,20 +34,6 @@ not-taken : (t o : Bool) → o ≡ true → (t && o) ≡ false → ((t && not o)
 not-taken true true e f = absurd (true≢false f)
 not-taken true false e f = sym e
 not-taken false o e f = refl
-
--- a line's ping that the sample does not answer
-pub line-answer : (h : Handler) (x : Input) → isLine (h .links .turn) ≡ true → bit (x .sample .answers) (lineOf (h .links .turn)) ≡ false
-    → meetsIn h x .answered ≡ false
-line-answer h x l b =
-    let g : Handler = acted h (x .access) in
-    let fx : Effects = effects h (x .access) in
-    ap
-    (λ (c : Bool). cond c (openNow (before g (x .sample) fx) (g .links .turn) && bit (x .sample .answers) (lineOf (g .links .turn)))
-    (answered g (asksFor g (x .sample) fx) (x .sample .alerts) (g .links .turn .alert)))
-    (ap (λ (z : Links). isLine (z .turn)) (acted-links h (x .access)) ∙ l)
-    ∙ ap (λ (c : Bool). openNow (before g (x .sample) fx) (g .links .turn) && c)
-    (ap (λ (z : Links). bit (x .sample .answers) (lineOf (z .turn))) (acted-links h (x .access)) ∙ b)
-    ∙ and-false (openNow (before g (x .sample) fx) (g .links .turn))
 
 module _ (h : Handler) (x : Input) (i : ℕ) (m : h .n ≤ most) (l : i < h .n) where
   abbrev turn : Turn
@@ -67,12 +54,20 @@ module _ (h : Handler) (x : Input) (i : ℕ) (m : h .n ≤ most) (l : i < h .n) 
   unfolding hears
   answered-is t =
       ap
-      (λ (b : Bool). cond b (openNow (before g (x .sample) (effects h (x .access))) (g .links .turn) && bit (x .sample .answers) (lineOf (g .links .turn)))
+      (λ (b : Bool). cond b (lineAnswered g (x .sample) (effects h (x .access)))
       (answered g (asksFor g (x .sample) (effects h (x .access))) (x .sample .alerts) (g .links .turn .alert)))
       (ap (λ (z : Links). isLine (z .turn)) (acted-links h (x .access)) ∙ t .0)
       ∙ ap (answered g (asksFor g (x .sample) (effects h (x .access))) (x .sample .alerts))
       (ap (λ (z : Links). z .turn .alert) (acted-links h (x .access)) ∙ sym (t .1))
       ∙ sym (heard-answer g (x .sample) (effects h (x .access)) i (omega (arith, m, l)))
+
+  -- no escalation closes it
+  pub unclosed : isLine turn ≡ false → meetsIn h x .closed ≡ false
+  unfolding closedNow closedByLine
+  unclosed t =
+      let v : Heard = hears h x in
+      let d : Bool = openNow (v .meets) (g .links .turn) && closes (sender g (lineOf (g .links .turn))) (driven g v (lines (reached h x)) (lineOf (g .links .turn))) in
+      ap (λ (b : Bool). v .checked && (b && d)) (ap (λ (z : Links). isLine (z .turn)) (acted-links h (x .access)) ∙ t) ∙ and-false (v .checked)
 
   -- the timer finds its ping open exactly if it is
   pending-is : IsTurn → meetsIn h x .pending ≡ receiver h i .pending

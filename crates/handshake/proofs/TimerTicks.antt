@@ -31,7 +31,6 @@ use Rattle.rules.specs.declared.Register.{Register}
 use Rattle.rules.specs.declared.Register.the-variants.{Only}
 use Rattle.rules.specs.declared.Single.the-variants.{PingTimeout}
 use Rattle.handshake.specs.Pings.{readAt, meetsAt, turnAt}
-use Rattle.handshake.proofs.TurnSteps.{Runs}
 use Rattle.handshake.proofs.TurnSteps.{Runs, count-fits}
 
 module _ (h : Handler) (xs : List Input) (v : valid h ≡ true) where

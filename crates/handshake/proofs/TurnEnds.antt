@@ -36,6 +36,18 @@ module _ (m : Meets) (t : Turn) (r : Runs m) (above : 0 < m .timeout) (small : m
       either true = refl
       either false = refl
 
+  -- one that an escalation closes
+  closed-ends : openNow m t ≡ true → m .closed ≡ true → ends m t ≡ true
+  unfolding ends
+  closed-ends o x =
+      simp (o, x) (either (isDue m t && not (opens m t)) (m .answered) (fails m t))
+    where
+      either : (b c d : Bool) → (b || (c || (d || true))) ≡ true
+      either true c d = refl
+      either false true d = refl
+      either false false true = refl
+      either false false false = refl
+
   -- one that is as old as the timeout
   late-ends : m .pending ≡ true → m .answered ≡ false → m .timeout ≤ suc (t .count) → ends m t ≡ true
   unfolding ends fails openNow
@@ -59,17 +71,18 @@ module _ (m : Meets) (t : Turn) (r : Runs m) (above : 0 < m .timeout) (small : m
   unfolding ends
   unopened-ends p z o = let e : eqb (t .count) 0 ≡ true = eq-eqb (t .count) 0 z in simp (r .runs, p, e, o)
 
-  while-open : m .pending ≡ true → (b : Bool) → m .answered ≡ b → Onward
+  while-open : m .pending ≡ true → (b c : Bool) → m .answered ≡ b → m .closed ≡ c → Onward
   unfolding openNow remaining
-  while-open p true a = inl (answered-ends (simp (r .runs, p)) a)
-  while-open p false a = go (decLt (suc (t .count)) (m .timeout))
+  while-open p true c a x = inl (answered-ends (simp (r .runs, p)) a)
+  while-open p false true a x = inl (closed-ends (simp (r .runs, p)) x)
+  while-open p false false a x = go (decLt (suc (t .count)) (m .timeout))
     where
       go : Dec (suc (t .count) < m .timeout) → Onward
       go (yes l) =
           inr (
             true,
             suc (t .count),
-            aging m t r p a (omega (arith, l, small)) l,
+            aging m t r p a x (omega (arith, l, small)) l,
             subst (λ (b : Bool). remaining (m .timeout) true (suc (t .count)) < remaining (m .timeout) b (t .count)) (sym p) (omega (arith, l)),
           )
       go (no l) = inl (late-ends p a (omega (arith, l)))
@@ -78,14 +91,15 @@ module _ (m : Meets) (t : Turn) (r : Runs m) (above : 0 < m .timeout) (small : m
   unfolding openNow remaining
   while-shut p = go (decLt 0 (t .count))
     where
-      due : t .count ≡ 0 → (o b : Bool) → opens m t ≡ o → m .answered ≡ b → Onward
-      due z false b o a = inl (unopened-ends p z o)
-      due z true true o a = inl (answered-ends (simp (r .runs, p, o)) a)
-      due z true false o a =
+      due : t .count ≡ 0 → (o b c : Bool) → opens m t ≡ o → m .answered ≡ b → m .closed ≡ c → Onward
+      due z false b c o a x = inl (unopened-ends p z o)
+      due z true true c o a x = inl (answered-ends (simp (r .runs, p, o)) a)
+      due z true false true o a x = inl (closed-ends (simp (r .runs, p, o)) x)
+      due z true false false o a x =
           inr (
             true,
             0,
-            opening m t r o a above,
+            opening m t r o a x above,
             subst (λ (b : Bool). remaining (m .timeout) true 0 < remaining (m .timeout) b (t .count)) (sym p) (omega (arith, above, z)),
           )
 
@@ -97,13 +111,13 @@ module _ (m : Meets) (t : Turn) (r : Runs m) (above : 0 < m .timeout) (small : m
             waiting m t r p l,
             subst (λ (b : Bool). remaining (m .timeout) false (t .count - 1) < remaining (m .timeout) b (t .count)) (sym p) (omega (arith, l)),
           )
-      go (no l) = due (omega (arith, l)) (opens m t) (m .answered) refl refl
+      go (no l) = due (omega (arith, l)) (opens m t) (m .answered) (m .closed) refl refl refl
 
   pub onward : Onward
   onward = go (m .pending) refl
     where
       go : (b : Bool) → m .pending ≡ b → Onward
-      go true p = while-open p (m .answered) refl
+      go true p = while-open p (m .answered) (m .closed) refl refl
       go false p = while-shut p
 
 -- ── any number of them ──

@@ -2,13 +2,13 @@
 -- Assumes nothing.
 use Prim.Native.Nat.{ℕ, suc, _+_, _-_, _/_, _%_, _<_}
 use mathlib.Core.Path.{_≡_, refl, ap}
-use mathlib.Core.Bool.{Bool, true, false, and-false, cond, not, _&&_, _||_}
+use mathlib.Core.Bool.{Bool, true, false, false≢true, and-false, cond, not, _&&_, _||_}
 use native.Mathlib.Omega.{arith}
 use borrow.Author.Tests.{ne-eqb, lt-ltb, ltb-true, le-leb, lt-leb, not-true}
 use lib.Dec.{eqb, ltb, leb}
 use Rattle.bits.proofs.IndexLaws.{and-true}
 use Rattle.laws.proofs.Map.Cases.{pick}
-use Rattle.link_rules.specs.Timer.{firstTurn, nextTurn, isLine, isDue, opens, openNow, openAfter, fails, ends, goesOn, turned}
+use Rattle.link_rules.specs.Timer.{firstTurn, nextTurn, isLine, isDue, opens, openNow, age, openAfter, fails, ends, goesOn, turned}
 use Rattle.link_rules.specs.declared.Meets.{Meets}
 use Rattle.link_rules.specs.declared.Turn.{Turn}
 
@@ -47,32 +47,47 @@ module _ (m : Meets) (t : Turn) (r : Runs m) where
         turn = simp (r .runs, r .begins, p, z);
       }
 
-  -- it opens, and is not answered at once
-  pub opening : opens m t ≡ true → m .answered ≡ false → 0 < m .timeout → Goes m t true 0
-  unfolding turned ends openNow fails
-  opening o a l =
+  -- it opens, or is younger than the timeout: it does not fail
+  pub fresh : opens m t ≡ true → 0 < m .timeout → fails m t ≡ false
+  unfolding openNow fails
+  fresh o l =
       let p = was-shut m t o in
       let f : leb (m .timeout) 0 ≡ false = lt-leb (m .timeout) 0 l in
       let g : (ltb 0 (m .timeout) && false) ≡ false = and-false (ltb 0 (m .timeout)) in
-      let d : (eqb (t .count) 0 && false) ≡ false = and-false (eqb (t .count) 0) in
-      record {
-        unfailed = simp (r .runs, o, p, a, f, g);
-        left = simp (r .runs, o, p, a, f, g, d);
-        turn = simp (r .runs, r .begins, o, p, a, f, g, d);
-      }
+      simp (r .runs, o, p, f, g, and-false (not (m .answered)))
 
-  -- it is open, unanswered and younger than the timeout: a tick older
-  pub aging : m .pending ≡ true → m .answered ≡ false → t .count < 65535 → suc (t .count) < m .timeout → Goes m t true (suc (t .count))
-  unfolding turned ends openNow opens fails
-  aging p a l k =
+  pub young : m .pending ≡ true → t .count < 65535 → suc (t .count) < m .timeout → fails m t ≡ false
+  unfolding openNow fails
+  young p l k =
       let e : ltb (t .count) 65535 ≡ true = lt-ltb (t .count) 65535 l in
       let f : leb (m .timeout) (t .count + 1) ≡ false = lt-leb (m .timeout) (t .count + 1) (omega (arith, k)) in
       let g : (ltb 0 (m .timeout) && false) ≡ false = and-false (ltb 0 (m .timeout)) in
+      simp (r .runs, p, e, f, g, and-false (not (m .answered)))
+
+  -- it opens, and is not answered or closed at once
+  pub opening : opens m t ≡ true → m .answered ≡ false → m .closed ≡ false → 0 < m .timeout → Goes m t true 0
+  unfolding turned ends openNow
+  opening o a x l =
+      let p = was-shut m t o in
+      let f = fresh o l in
+      let d : (eqb (t .count) 0 && false) ≡ false = and-false (eqb (t .count) 0) in
+      record {
+        unfailed = f;
+        left = simp (r .runs, o, p, a, x, f, d);
+        turn = simp (r .runs, r .begins, o, p, a, x, f, d);
+      }
+
+  -- it is open, not answered or closed, and younger than the timeout: a tick older
+  pub aging : m .pending ≡ true → m .answered ≡ false → m .closed ≡ false → t .count < 65535 → suc (t .count) < m .timeout → Goes m t true (suc (t .count))
+  unfolding turned ends openNow opens
+  aging p a x l k =
+      let e : ltb (t .count) 65535 ≡ true = lt-ltb (t .count) 65535 l in
+      let f = young p l k in
       let c : t .count + 1 ≡ suc (t .count) = omega arith in
       record {
-        unfailed = simp (r .runs, p, a, e, f, g);
-        left = simp (r .runs, p, a, e, f, g);
-        turn = simp (r .runs, r .begins, p, a, e, f, g) (ap (at t) c);
+        unfailed = f;
+        left = simp (r .runs, p, a, x, f);
+        turn = simp (r .runs, r .begins, p, a, x, e, f) (ap (at t) c);
       }
 
   -- it is as old as the timeout: it fails
@@ -83,6 +98,24 @@ module _ (m : Meets) (t : Turn) (r : Runs m) where
       let f : leb (m .timeout) (t .count + 1) ≡ true = le-leb (m .timeout) (t .count + 1) (omega (arith, k)) in
       let g : ltb 0 (m .timeout) ≡ true = lt-ltb 0 (m .timeout) (omega (arith, k)) in
       simp (r .runs, p, a, e, f, g)
+
+-- an open ping in a tick that does not end the turn: it is a tick older
+pub kept : (m : Meets) (t : Turn) → Runs m → openNow m t ≡ true → ends m t ≡ false → (turned m t ≡ at t (age m t)) × (openAfter m t ≡ true)
+unfolding turned
+kept m t r o e = (simp (r .runs, r .begins, o, e), simp (o, e))
+
+-- what ends an open ping
+pub ends-open : (m : Meets) (t : Turn) → openNow m t ≡ true → ends m t ≡ (m .answered || (fails m t || m .closed))
+unfolding ends openNow opens
+ends-open m t o = go (m .runs) (m .pending) (eqb (t .count) 0) (isLine t || m .pingable) (m .answered || (fails m t || m .closed)) o
+  where
+    go : (r p d l b : Bool) → (r && (p || ((r && (not p && d)) && l))) ≡ true
+        → (((r && (not p && d)) && not ((r && (not p && d)) && l)) || ((r && (p || ((r && (not p && d)) && l))) && b)) ≡ b
+    go true true d l b e = refl
+    go true false true true b e = refl
+    go true false true false b e = absurd (false≢true e)
+    go true false false l b e = absurd (false≢true e)
+    go false p d l b e = absurd (false≢true e)
 
 -- ── the tick sets the next turn ──
 

@@ -29,6 +29,7 @@ use Rattle.rules.specs.declared.Access.{Access}
 use Rattle.rules.specs.declared.Handler.{Handler}
 use Rattle.rules.specs.declared.Input.{Input}
 use Rattle.rules.specs.declared.Output.{Output}
+use Rattle.rules.specs.declared.Receive.the-variants.{Pairs}
 use Rattle.handshake.specs.Alone.{receiverAt, Alone, Above}
 use Rattle.handshake.specs.Handshake.{OneAlert}
 use Rattle.handshake.proofs.Alone.{new}
@@ -50,7 +51,7 @@ no-fall true m n = refl
 no-fall false true n = absurd (n refl refl)
 no-fall false false n = refl
 
-one-of : (a b c : Bool) → (a || (b || c)) ≡ true → (a ≡ true) ⊎ ((b ≡ true) ⊎ (c ≡ true))
+pub one-of : (a b c : Bool) → (a || (b || c)) ≡ true → (a ≡ true) ⊎ ((b ≡ true) ⊎ (c ≡ true))
 one-of true b c e = inl refl
 one-of false true c e = inr (inl refl)
 one-of false false c e = inr (inr e)
@@ -78,7 +79,7 @@ module _ (h : Handler) (xs : List Input) (v : valid h ≡ true) where
   rest =
       record {
         access = Access.Nothing;
-        sample = record { alerts = record { pos = replicate 4 0; neg = replicate 4 (2 ^ 64 - 1) }; word = 0; answers = 0 };
+        sample = record { alerts = record { pos = replicate 4 0; neg = replicate 4 (2 ^ 64 - 1) }; word = 0; receive = Pairs 0 15 };
       }
 
   abbrev input : ℕ → Input

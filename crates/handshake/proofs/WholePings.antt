@@ -20,7 +20,7 @@ use Rattle.rules.specs.Tick.{hears, answeredIn}
 use Rattle.rules.specs.Valid.{valid}
 use Rattle.rules.specs.declared.Handler.{Handler}
 use Rattle.rules.specs.declared.Input.{Input}
-use Rattle.handshake.specs.Pings.{lineOpens, lineFails, sets, Pings}
+use Rattle.handshake.specs.Pings.{lineOpens, lineFails, lineAnswered, lineCloses, sets, Pings}
 use Rattle.handshake.proofs.Handshake.{handshake}
 use Rattle.handshake.proofs.Pings.{pings}
 
@@ -58,18 +58,19 @@ module _ (h : Handler) (xs : List Input) (v : valid h ≡ true) where
     not-before b =
         claim .alert-fails i p limit k l above (omega (arith, b)) inside o limits silent ∙ ne-eqb k limit (λ (e : k ≡ limit). omega (arith, b, e))
 
-  -- and of line e
+  -- and of line e, that no escalation closes before; what answers and closes it is said in WholeLinePings
   module _ (e p limit k : ℕ) (above : 0 < limit) (inside : p + k < length xs) (o : lineOpens h xs e p ≡ true)
       (limits : (t : ℕ) → p ≤ t → t ≤ p + k → read t .timer .timeout ≡ limit)
-      (silent : (t : ℕ) → p ≤ t → t ≤ p + k → bit (input t .sample .answers) e ≡ false) where
+      (silent : (t : ℕ) → p ≤ t → t ≤ p + k → lineAnswered h xs e t ≡ false)
+      (calm : (t : ℕ) → p ≤ t → t < p + k → lineCloses h xs e t ≡ false) where
     line-fails-at : k ≡ limit → lineFails h xs e (p + k) ≡ true
     unfolding value
-    line-fails-at b = claim .line-fails e p limit k above (omega (arith, b)) inside o limits silent ∙ eq-eqb k limit b
+    line-fails-at b = claim .line-fails e p limit k above (omega (arith, b)) inside o limits silent calm ∙ eq-eqb k limit b
 
     line-not-before : k < limit → lineFails h xs e (p + k) ≡ false
     unfolding value
     line-not-before b =
-        claim .line-fails e p limit k above (omega (arith, b)) inside o limits silent ∙ ne-eqb k limit (λ (d : k ≡ limit). omega (arith, b, d))
+        claim .line-fails e p limit k above (omega (arith, b)) inside o limits silent calm ∙ ne-eqb k limit (λ (d : k ≡ limit). omega (arith, b, d))
 
   -- at timeout 0 none fails
   none-at-0 : (t : ℕ) → read t .timer .timeout ≡ 0 → ((i : ℕ) → failsIn (state t) (input t) i ≡ false) × ((e : ℕ) → lineFails h xs e t ≡ false)
@@ -177,7 +178,7 @@ module _ (h : Handler) (xs : List Input) (v : valid h ≡ true) where
   ends-in-time a limit on r n above c inside =
       claim .turn-ends a limit (eq-eqb (state a .timer .enable) 1 on) r n above (count-fits c a (omega (arith, inside))) inside
 
-  -- a line's ping is open until it is answered or fails, and then closed
+  -- a line's ping is open until it is answered, fails or is closed by an escalation, and then closed
   module _ (e : ℕ) (l : e < 4) where
     abbrev open-in : ℕ → Bool
     open-in t = lineOpens h xs e t || bit (state t .links .lines) e
@@ -185,13 +186,13 @@ module _ (h : Handler) (xs : List Input) (v : valid h ≡ true) where
     line-opened : (t : ℕ) → t < length xs → lineOpens h xs e t ≡ true → bit (state t .links .lines) e ≡ false
     line-opened = claim .lines e l .opened
 
-    line-failed : (t : ℕ) → t < length xs → lineFails h xs e t ≡ true → (open-in t ≡ true) × (bit (input t .sample .answers) e ≡ false)
+    line-failed : (t : ℕ) → t < length xs → lineFails h xs e t ≡ true → (open-in t ≡ true) × (lineAnswered h xs e t ≡ false)
     line-failed = claim .lines e l .failed
 
-    line-stays : (t u : ℕ) → u < length xs → open-in t ≡ true → t ≤ u → ((w : ℕ) → t ≤ w → w < u → bit (input w .sample .answers) e ≡ false)
-        → ((w : ℕ) → t ≤ w → w < u → lineFails h xs e w ≡ false) → open-in u ≡ true
+    line-stays : (t u : ℕ) → u < length xs → open-in t ≡ true → t ≤ u → ((w : ℕ) → t ≤ w → w < u → lineAnswered h xs e w ≡ false)
+        → ((w : ℕ) → t ≤ w → w < u → lineFails h xs e w ≡ false) → ((w : ℕ) → t ≤ w → w < u → lineCloses h xs e w ≡ false) → open-in u ≡ true
     line-stays = claim .lines e l .stays
 
-    line-closed : (t u : ℕ) → u < length xs → (bit (input t .sample .answers) e || lineFails h xs e t) ≡ true → t < u
+    line-closed : (t u : ℕ) → u < length xs → (lineAnswered h xs e t || (lineFails h xs e t || lineCloses h xs e t)) ≡ true → t < u
         → ((w : ℕ) → suc t ≤ w → w < suc u → lineOpens h xs e w ≡ false) → open-in u ≡ false
     line-closed = claim .lines e l .closed

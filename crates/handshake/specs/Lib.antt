@@ -1,3 +1,4 @@
 pub mod Alone
 pub mod Handshake
+pub mod LinePings
 pub mod Pings

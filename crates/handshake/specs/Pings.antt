@@ -1,5 +1,5 @@
 -- Request (ix), "Ping timer", over lists of ticks: when a ping opens, when it fails, and which local alert occurs then. proofs/Pings.antt proves it of every
--- list, from every state that refusal 7 does not meet.
+-- list, from every state that refusal 7 does not meet. What answers a line's ping and what closes it is said in LinePings.
 -- Assumes nothing.
 use Prim.Native.Nat.{ℕ, suc, _+_, _/_, _%_, _≤_, _<_}
 use mathlib.Core.Path.{_≡_}
@@ -9,7 +9,7 @@ use lib.Dec.{eqb}
 use lib.ListN.{length}
 use Rattle.bits.specs.Bits.{bit}
 use Rattle.laws.specs.Pinging.{meetsIn}
-use Rattle.link_rules.specs.Timer.{isLine, lineOf, opens, failsLine, ends}
+use Rattle.link_rules.specs.Timer.{isLine, lineOf, opens, fails, ends}
 use Rattle.link_rules.specs.declared.Meets.{Meets}
 use Rattle.link_rules.specs.declared.Turn.{Turn}
 use Rattle.rules.specs.Access.{value, acted}
@@ -35,15 +35,22 @@ meetsAt h xs t = meetsIn (before h xs t) (inputAt xs t)
 abbrev pub turnAt : Handler → List Input → ℕ → Turn
 turnAt h xs t = before h xs t .links .turn
 
--- the ping of line e opens in it, and fails in it; the sample says that it is answered
+-- it is line e's turn
+abbrev pub linesTurn : Handler → List Input → ℕ → ℕ → Bool
+linesTurn h xs e t = isLine (turnAt h xs t) && eqb e (lineOf (turnAt h xs t))
+
+-- the ping of line e opens in it, fails in it, is answered in it; request (xi): an escalation closes it
 abbrev pub lineOpens : Handler → List Input → ℕ → ℕ → Bool
-lineOpens h xs e t = opens (meetsAt h xs t) (turnAt h xs t) && (isLine (turnAt h xs t) && eqb e (lineOf (turnAt h xs t)))
+lineOpens h xs e t = opens (meetsAt h xs t) (turnAt h xs t) && linesTurn h xs e t
 
 abbrev pub lineFails : Handler → List Input → ℕ → ℕ → Bool
-lineFails h xs e t = failsLine (meetsAt h xs t) (turnAt h xs t) && eqb e (lineOf (turnAt h xs t))
+lineFails h xs e t = fails (meetsAt h xs t) (turnAt h xs t) && linesTurn h xs e t
 
-abbrev pub lineAnswered : List Input → ℕ → ℕ → Bool
-lineAnswered xs e t = bit (inputAt xs t .sample .answers) e
+abbrev pub lineAnswered : Handler → List Input → ℕ → ℕ → Bool
+lineAnswered h xs e t = meetsAt h xs t .answered && linesTurn h xs e t
+
+abbrev pub lineCloses : Handler → List Input → ℕ → ℕ → Bool
+lineCloses h xs e t = meetsAt h xs t .closed && linesTurn h xs e t
 
 -- line e's ping is open before it, and while its answer is read
 abbrev pub lineOpenBefore : Handler → List Input → ℕ → ℕ → Bool
@@ -74,15 +81,15 @@ pub record OneLine (h : Handler) (xs : List Input) (e : ℕ) : Type 0 where
   -- it opens where it is not open
   pub opened : (t : ℕ) → t < length xs → lineOpens h xs e t ≡ true → lineOpenBefore h xs e t ≡ false
   -- what fails is open, "unanswered up to and in" that tick
-  pub failed : (t : ℕ) → t < length xs → lineFails h xs e t ≡ true → (lineOpenIn h xs e t ≡ true) × (lineAnswered xs e t ≡ false)
-  -- an open one is open up to and in the tick in which the sample answers it or it fails, whatever else comes ..
+  pub failed : (t : ℕ) → t < length xs → lineFails h xs e t ≡ true → (lineOpenIn h xs e t ≡ true) × (lineAnswered h xs e t ≡ false)
+  -- an open one is open up to and in the tick in which it is answered, fails or is closed by an escalation, whatever else comes ..
   pub stays :
-      (t u : ℕ) → u < length xs → lineOpenIn h xs e t ≡ true → t ≤ u → None (lineAnswered xs e) t u → None (lineFails h xs e) t u
+      (t u : ℕ) → u < length xs → lineOpenIn h xs e t ≡ true → t ≤ u → None (lineAnswered h xs e) t u → None (lineFails h xs e) t u → None (lineCloses h xs e) t u
       → lineOpenIn h xs e u ≡ true
   -- .. "and closes": after that it is not open until it opens again
   pub closed :
-      (t u : ℕ) → u < length xs → (lineAnswered xs e t || lineFails h xs e t) ≡ true → t < u → None (lineOpens h xs e) (suc t) (suc u)
-      → lineOpenIn h xs e u ≡ false
+      (t u : ℕ) → u < length xs → (lineAnswered h xs e t || (lineFails h xs e t || lineCloses h xs e t)) ≡ true → t < u
+      → None (lineOpens h xs e) (suc t) (suc u) → lineOpenIn h xs e u ≡ false
 
 -- ── request (ix), of the list of ticks with inputs xs from the state h ──
 
@@ -108,10 +115,10 @@ pub record Pings (h : Handler) (xs : List Input) : Type 0 where
   pub alert-fails :
       (i p limit k : ℕ) → i < h .n → 0 < limit → k ≤ limit → p + k < length xs → asksIn h xs i p ≡ true → Timeout h xs p (p + k) limit
       → ((t : ℕ) → p ≤ t → t ≤ p + k → answerIn h xs i t ≡ false) → failsIn h xs i (p + k) ≡ eqb k limit
-  -- .. and so does one of line e
+  -- .. and so does one of line e that no escalation closes before
   pub line-fails :
       (e p limit k : ℕ) → 0 < limit → k ≤ limit → p + k < length xs → lineOpens h xs e p ≡ true → Timeout h xs p (p + k) limit
-      → ((t : ℕ) → p ≤ t → t ≤ p + k → lineAnswered xs e t ≡ false) → lineFails h xs e (p + k) ≡ eqb k limit
+      → ((t : ℕ) → p ≤ t → t ≤ p + k → lineAnswered h xs e t ≡ false) → ((t : ℕ) → p ≤ t → t < p + k → lineCloses h xs e t ≡ false) → lineFails h xs e (p + k) ≡ eqb k limit
   -- "at timeout 0 it waits for its answer"
   pub none-fails-at-0 :
       (t : ℕ) → value (readAt h xs t) (Only PingTimeout) ≡ 0 → ((i : ℕ) → failsIn h xs i t ≡ false) × ((e : ℕ) → lineFails h xs e t ≡ false)

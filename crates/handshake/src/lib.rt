@@ -1,1 +1,1 @@
-// Request (viii): the claim about each alert's handshake in a list of ticks in specs/, its proof in proofs/.
+// Requests (viii), (ix) and (xi): the claims about each alert's handshake, the ping timer and lines' pings in a list of ticks in specs/, their proofs in proofs/.

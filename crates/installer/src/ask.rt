@@ -1,10 +1,11 @@
-// One access a tick with all wires at (0,1), word 0 and no answer, and a register written and read back.
+// One access a tick with all wires at (0,1), receive pairs too, and word 0, and a register written and read back.
 use handler::tick::tick;
 use policy::Installed;
 use policy::Progress;
 use rules::Access;
 use rules::Handler;
 use rules::Input;
+use rules::Receive;
 use rules::Sample;
 use rules::Wires;
 ghost use mathlib.Core.Path.{_≡_};
@@ -28,7 +29,7 @@ fn rest(x: Access) -> Input
                 ],
             },
             word: 0,
-            answers: 0,
+            receive: Receive::Pairs(0, 15),
         },
     }
 }

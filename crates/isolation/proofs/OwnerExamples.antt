@@ -19,19 +19,20 @@ use Rattle.rules.specs.Access.{value, acted}
 use Rattle.rules.specs.Map.{numberOf}
 use Rattle.rules.specs.Run.{ticks}
 use Rattle.rules.specs.Samples.{positive, negative}
-use Rattle.rules.specs.Scenes.{ones, timing, wired, wire, rest, raise, bothHigh, none, write, configure}
+use Rattle.rules.specs.Scenes.{ones, sampling, timing, wired, wire, rest, raise, bothHigh, none, write, configure}
 use Rattle.rules.specs.State.{alert, classAt, isOn, resetClass, withAlerts, withClasses, withLinks, withLocals, withTimer}
 use Rattle.rules.specs.declared.Access.{Access}
 use Rattle.rules.specs.declared.Field.{Field}
 use Rattle.rules.specs.declared.Handler.{Handler}
 use Rattle.rules.specs.declared.Input.{Input}
+use Rattle.rules.specs.declared.Receive.the-variants.{Pairs}
 use Rattle.rules.specs.declared.Register.{Register}
 use Rattle.rules.specs.declared.Register.the-variants.{Only, Local, Alert, Block}
 use Rattle.rules.specs.declared.Setting.{Setting}
 use Rattle.rules.specs.declared.Setting.the-variants.{Ctrl, Clr, AccumThresh, EscCnt}
 use Rattle.rules.specs.declared.Single.the-variants.{IntrState, IntrEnable, IntrTest, PingRegwen}
 use Rattle.rules.specs.declared.Ticked.{Ticked}
-use Rattle.isolation.specs.Owner.{byTenant, reaches, alertReaches, Apart, ButTenant, OnlyTenant, startsIn, Undisturbed}
+use Rattle.isolation.specs.Owner.{byTenant, reaches, alertReaches, wrongFor, Apart, ButTenant, OnlyTenant, startsIn, Undisturbed}
 use Rattle.isolation.proofs.Traces.{along, along-at}
 use Rattle.isolation.proofs.Undisturbed.{undisturbed}
 
@@ -41,17 +42,17 @@ abbrev his : ℕ → Bool
 his zero = false
 his (suc i) = true
 
--- local alerts are enabled, in class A, but for local 2, of this class, and local 5, enabled or not
-abbrev house : ℕ → ℕ → Handler
-house class-2 en-5 =
+-- local alerts are enabled, in class A, but for local 2 and local 3, of these classes, and local 5, enabled or not
+abbrev house : ℕ → ℕ → ℕ → Handler
+house class-2 class-3 en-5 =
     withLocals
-    (record { regwen = replicate 7 1; en = set (replicate 7 1) 5 en-5; class = set (replicate 7 0) 2 class-2; cause = replicate 7 0 })
+    (record { regwen = replicate 7 1; en = set (replicate 7 1) 5 en-5; class = set (set (replicate 7 0) 2 class-2) 3 class-3; cause = replicate 7 0 })
     (withClasses (settings 0x393F 0 0 zeros ∷ settings 0x393D 0 0 zeros ∷ resetClass ∷ resetClass ∷ [])
     (station 2 (1 ∷ 1 ∷ replicate 246 0) (0 ∷ 1 ∷ replicate 246 0) 2 resetClass))
 
--- local 2 is in class B and local 5 is disabled
+-- local 2 is in class B, local 3 in class C and local 5 is disabled
 abbrev home : Handler
-home = house 1 0
+home = house 1 2 0
 
 abbrev read : Register → Access
 read q = Access.Read (numberOf q)
@@ -91,6 +92,7 @@ record Seen : Type 0 where
   pub assigned : Bool
   pub two : Bool
   pub five : Bool
+  pub wrong : Bool
   pub on : Bool
 
 abbrev seen : ℕ → (ℕ → Bool) → Handler → Input → Seen
@@ -100,12 +102,13 @@ seen k his g x =
       assigned = anyTo (λ i. his i && alertReaches k (acted g (x .access)) i) (g .n);
       two = reaches k (acted g (x .access)) 2;
       five = reaches k (acted g (x .access)) 5;
+      wrong = wrongFor k g x;
       on = isOn g;
     }
 
 -- the conditions hold; the access is, or is not, one that the tenant may do
 abbrev fine : Bool → Seen
-fine b = record { tenant = b; assigned = false; two = false; five = false; on = false }
+fine b = record { tenant = b; assigned = false; two = false; five = false; wrong = false; on = false }
 
 -- of one tick
 module _ (k : ℕ) (his : ℕ → Bool) (g : Handler) (x : Input) (b : Bool) (s : seen k his g x ≡ fine b) where
@@ -114,6 +117,9 @@ module _ (k : ℕ) (his : ℕ → Bool) (g : Handler) (x : Input) (b : Bool) (s 
 
   is-off : isOn g ≡ false
   is-off = ap (λ (o : Seen). o .on) s
+
+  none-wrong : wrongFor k g x ≡ false
+  none-wrong = ap (λ (o : Seen). o .wrong) s
 
   apart : Apart k his g x
   apart = record { alerts = one; local-2 = ap (λ (o : Seen). o .two) s; local-5 = ap (λ (o : Seen). o .five) s; failing = inl is-off }
@@ -160,6 +166,7 @@ module _ (i : ℕ) (l : i < 8) (b : Bool) (e : getD course i (fine true) ≡ fin
           is-off 0 his (ListTicks.at home quiet i) (input quiet i) b quiet-at,
           is-off 0 his (ListTicks.at home busy i) (input busy i) b busy-at,
         );
+        wrong = none-wrong 0 his (ListTicks.at home quiet i) (input quiet i) b quiet-at ∙ sym (none-wrong 0 his (ListTicks.at home busy i) (input busy i) b busy-at);
         apart = (apart 0 his (ListTicks.at home quiet i) (input quiet i) b quiet-at, apart 0 his (ListTicks.at home busy i) (input busy i) b busy-at);
       }
     where
@@ -235,6 +242,7 @@ only-tenant-3 t m =
       pos = λ j n e. absurd (true≢false e);
       neg = λ j n e. absurd (true≢false e);
       pings = inr (λ j n e. absurd (true≢false e));
+      wrong = none-wrong 3 all (ListTicks.at home quiet i) (input quiet i) true q ∙ sym (none-wrong 3 all (ListTicks.at home busy i) (input busy i) true b);
       apart = (apart 3 all (ListTicks.at home quiet i) (input quiet i) true q, apart 3 all (ListTicks.at home busy i) (input busy i) true b);
     }
 
@@ -256,13 +264,26 @@ computed = (refl, refl, refl, refl)
 -- ── the conditions are needed ──
 
 -- local 2 in class A: the tenant's equal wires start it
-local-2-needed : (states 0 (house 0 0) (rest none ∷ []) ≡ 0 ∷ []) × (states 0 (house 0 0) (bothHigh 1 none ∷ []) ≡ 4 ∷ [])
+local-2-needed : (states 0 (house 0 2 0) (rest none ∷ []) ≡ 0 ∷ []) × (states 0 (house 0 2 0) (bothHigh 1 none ∷ []) ≡ 4 ∷ [])
 unfolding rules
 local-2-needed = (refl, refl)
 
+-- local 3 in class A, and the same receive pairs in both runs, at rest: the tenant's line asks for answers that do not come, and starts it
+local-3-needed : (states 0 (house 1 0 0) (rest none ∷ rest none ∷ []) ≡ 0 ∷ 0 ∷ []) × (states 0 (house 1 0 0) (raise 1 none ∷ rest none ∷ []) ≡ 0 ∷ 4 ∷ [])
+unfolding rules
+local-3-needed = (refl, refl)
+
+-- where the right answers come it does not: line e is on in tick e, its pair there and in the next, and the answer to that is one tick of 1
+abbrev answering : List Input
+answering = raise 1 none ∷ map (λ (p : ℕ). sampling 0 (Pairs p (15 - p)) 0 ones none) (1 ∷ 2 ∷ 4 ∷ 8 ∷ 0 ∷ 0 ∷ [])
+
+right-answers : (states 1 (house 1 0 0) answering ≡ 4 ∷ 5 ∷ 6 ∷ 7 ∷ 3 ∷ 3 ∷ 3 ∷ []) × (states 0 (house 1 0 0) answering ≡ replicate 7 0)
+unfolding rules
+right-answers = (refl, refl)
+
 -- local 5 in class A: the tenant's differing second write starts it; an equal one does not
-local-5-needed : (states 0 (house 1 1) (map rest (write (Block Ctrl 1) 5 ∷ write (Block Ctrl 1) 5 ∷ [])) ≡ 0 ∷ 0 ∷ [])
-    × (states 0 (house 1 1) (map rest (write (Block Ctrl 1) 5 ∷ write (Block Ctrl 1) 6 ∷ [])) ≡ 0 ∷ 4 ∷ [])
+local-5-needed : (states 0 (house 1 2 1) (map rest (write (Block Ctrl 1) 5 ∷ write (Block Ctrl 1) 5 ∷ [])) ≡ 0 ∷ 0 ∷ [])
+    × (states 0 (house 1 2 1) (map rest (write (Block Ctrl 1) 5 ∷ write (Block Ctrl 1) 6 ∷ [])) ≡ 0 ∷ 4 ∷ [])
 unfolding rules
 local-5-needed = (refl, refl)
 
@@ -278,7 +299,7 @@ alerts-needed = (refl, refl)
 abbrev pinged : ℕ → Handler
 pinged timeout =
     withTimer (record { timeout = timeout; regwen = 1; enable = 1 })
-    (withLinks (record { receivers = home .links .receivers; turn = record { number = 0; alert = 1; count = 0 }; lines = 0 })
+    (withLinks (record { receivers = home .links .receivers; turn = record { number = 0; alert = 1; count = 0 }; lines = 0; senders = home .links .senders; right = 0 })
     (withAlerts (record { regwen = replicate 248 0; en = home .alerts .en; class = home .alerts .class; cause = home .alerts .cause }) home))
 
 -- line 0's answer in tick 1 and a rise of the owner's alert in tick 2, after this tick of the tenant's

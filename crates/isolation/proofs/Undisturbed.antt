@@ -11,7 +11,7 @@ use lib.Dec.{eqb, ltb}
 use lib.ListN.{length}
 use Rattle.bits.specs.Bits.{bit}
 use Rattle.bits.specs.Index.{anyTo, placeIn}
-use Rattle.bits.proofs.IndexLaws.{any-ext}
+use Rattle.bits.proofs.IndexLaws.{any-ext, any-at, and-true}
 use Rattle.class_rules.specs.Step.{classEvent, starts}
 use Rattle.escalation.proofs.ListTicks
 use Rattle.escalation.proofs.ListTicks.{input, at-valid, at-next}
@@ -21,20 +21,21 @@ use Rattle.laws.proofs.Map.Cases.{by-kind}
 use Rattle.laws.proofs.Tick.Frame.{after-still, after-stage, after-n}
 use Rattle.laws.proofs.Tick.InterruptBits.{after-enable}
 use Rattle.laws.proofs.Tick.TimerOff.{none-asked, none-fails, none-failed}
+use Rattle.laws.proofs.Tick.Turns.{local-3}
 use Rattle.laws.proofs.Samples.Raises.{no-local}
 use Rattle.laws.proofs.Access.RegisterFile.{acted-n}
 use Rattle.laws.proofs.Valid.ValidLaws.{facts}
 use Rattle.laws.specs.Block.{ofBlock}
-use Rattle.laws.specs.Pinging.{meetsIn, asksIn, failsIn, givenIn, closedIf}
+use Rattle.laws.specs.Pinging.{asksIn, failsIn, givenIn, closedIf}
 use Rattle.link_rules.specs.Receiver.{received}
-use Rattle.link_rules.specs.Timer.{fails}
+use Rattle.link_rules.specs.Timer.{opens, openNow, fails}
 use Rattle.link_rules.specs.declared.Received.{Received}
 use Rattle.link_rules.specs.declared.Receiver.{Receiver}
-use Rattle.rules.specs.Access.{value, named, acted}
+use Rattle.rules.specs.Access.{value, named, acted, effects}
 use Rattle.rules.specs.Map.{decode, fieldRow}
 use Rattle.rules.specs.Run.{run}
-use Rattle.rules.specs.Samples.{positive, negative, alertEvent, assigned}
-use Rattle.rules.specs.State.{classCount, alert, receiver, isOn}
+use Rattle.rules.specs.Samples.{positive, negative, timed, alertEvent, occurs, assigned}
+use Rattle.rules.specs.State.{classCount, localCount, local, alert, receiver, isOn}
 use Rattle.rules.specs.Tick.{event, hears, happensIn, after}
 use Rattle.rules.specs.Valid.{valid}
 use Rattle.rules.specs.declared.Access.{Access}
@@ -47,7 +48,7 @@ use Rattle.rules.specs.declared.Register.{Register}
 use Rattle.rules.specs.declared.Register.the-variants.{Alert}
 use Rattle.isolation.specs.Isolation.{SameTick, Alike, AlikeEnable}
 use Rattle.isolation.specs.OwnAccess.{own}
-use Rattle.isolation.specs.Owner.{mayName, byTenant, reaches, alertReaches, Apart, ButTenant, OnlyTenant, startsIn, Undisturbed}
+use Rattle.isolation.specs.Owner.{mayName, byTenant, reaches, alertReaches, wrongIn, wrongFor, Apart, ButTenant, OnlyTenant, startsIn, Undisturbed}
 use Rattle.isolation.proofs.Isolated.{isolation, by-index}
 use Rattle.isolation.proofs.Own.{both, same-acted}
 use Rattle.isolation.proofs.Shared.{Shared, f-small}
@@ -104,17 +105,40 @@ module _ (k : ℕ) (his : ℕ → Bool) (g f : Handler) (v w : Heard) (s : Share
 -- no ping fails, or what it raises is not in class k
 abbrev FailsNone : ℕ → Handler → Input → Type 0
 FailsNone k h x =
-    (fails (meetsIn h x) (acted h (x .access) .links .turn) ≡ false)
+    (fails (timed (acted h (x .access)) (x .sample) (effects h (x .access))) (acted h (x .access) .links .turn) ≡ false)
     ⊎ ((reaches k (acted h (x .access)) 0 ≡ false) × (reaches k (acted h (x .access)) 1 ≡ false))
 
-fails-none : (k : ℕ) (his : ℕ → Bool) (h : Handler) (x : Input) → valid h ≡ true → Apart k his h x
-    → FailsNone k h x
+fails-none : (k : ℕ) (his : ℕ → Bool) (h : Handler) (x : Input) → valid h ≡ true → Apart k his h x → FailsNone k h x
+unfolding fails openNow opens
 fails-none k his h x v a = go (a .failing)
   where
     go : (isOn h ≡ false) ⊎ ((reaches k (acted h (x .access)) 0 ≡ false) × (reaches k (acted h (x .access)) 1 ≡ false))
         → FailsNone k h x
     go (inl o) = inl (none-fails h x v o (acted h (x .access) .links .turn))
     go (inr e) = inr e
+
+-- of two tests that do not both hold, one does not
+one-fails : (a b : Bool) → (a && b) ≡ false → (a ≡ false) ⊎ (b ≡ false)
+one-fails true b e = inr e
+one-fails false b e = inl refl
+
+-- so of the local alerts local 3 alone may occur in class k, where a receive pair is wrong for it
+locals-are : (k : ℕ) (his : ℕ → Bool) (h : Handler) (x : Input) → valid h ≡ true → Apart k his h x
+    → anyTo (λ j. occurs (acted h (x .access)) (hears h x) j && eqb (local (acted h (x .access)) Field.Class j) k) localCount ≡ wrongFor k h x
+unfolding hears
+locals-are k his h x v a = go (wrongFor k h x) refl
+  where
+    g : Handler
+    g = acted h (x .access)
+
+    go : (b : Bool) → wrongFor k h x ≡ b → anyTo (λ j. occurs g (hears h x) j && eqb (local g Field.Class j) k) localCount ≡ b
+    go true e =
+        let p = and-true (wrongIn h x) (reaches k g 3) e in
+        let q = and-true (eqb (local g Field.En 3) 1) (eqb (local g Field.Class 3) k) (p .1) in
+        any-at (λ j. occurs g (hears h x) j && eqb (local g Field.Class j) k) localCount 3 (omega arith)
+        (ap₂ _&&_ (local-3 h x ∙ ap₂ _&&_ (p .0) (q .0)) (q .1))
+    go false e =
+        no-local h (x .access) g (x .sample) k (fails-none k his h x v a) (one-fails (wrongIn h x) (reaches k g 3) e) (a .local-2) (a .local-5)
 
 -- ── one tick of each run ──
 
@@ -169,8 +193,7 @@ module _ (k : ℕ) (his : ℕ → Bool) (g : Handler) (x : Input) (f : Handler) 
       (alerts-same k his g1 f1 (hears g x) (hears f y) read events
       (λ i m. t .apart .0 .alerts i (omega (arith, acted-n g (x .access)))) (λ i m. t .apart .1 .alerts i (omega (arith, acted-n f (y .access)))))
       ∙ ap (λ (n : ℕ). anyTo (λ i. alertEvent f1 (hears f y) i && eqb (alert f1 Field.Class i) k) n) (read .n))
-      (no-local g (x .access) g1 (x .sample) k (fails-none k his g x v (t .apart .0)) (t .apart .0 .local-2) (t .apart .0 .local-5)
-      ∙ sym (no-local f (y .access) f1 (y .sample) k (fails-none k his f y w (t .apart .1)) (t .apart .1 .local-2) (t .apart .1 .local-5)))
+      (locals-are k his g x v (t .apart .0) ∙ t .wrong ∙ sym (locals-are k his f y w (t .apart .1)))
 
   -- class k is treated alike
   pub tick-alike : SameTick k g x f y

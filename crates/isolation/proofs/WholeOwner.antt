@@ -2,22 +2,25 @@
 -- bits, and what is then equal. A corollary that says less, or asks the tenant or the station for more, does not give it.
 -- Assumes nothing.
 use Prim.Native.Nat.{ℕ, _+_, _≤_, _<_}
-use mathlib.Core.Path.{_≡_, refl, sym, ap, ap₂}
+use mathlib.Core.Path.{_≡_, refl, sym, ap, ap₂, _∙_}
 use mathlib.Core.Logic.{_⊎_, inl, inr}
-use mathlib.Core.Bool.{Bool, true, false, not, _&&_, xor}
+use mathlib.Core.Bool.{Bool, true, false, and-false, not, _&&_, _||_, xor}
 use mathlib.Core.List.{List}
 use borrow.Author.Tests.{eqb-true, ne-eqb}
 use lib.Dec.{eqb}
 use lib.ListN.{length}
+use Rattle.bits.proofs.IndexLaws.{any-none, any-ext}
 use Rattle.bits.specs.Bits.{bit}
 use Rattle.class_rules.specs.Class.{drives}
 use Rattle.class_rules.specs.Step.{starts}
 use Rattle.escalation.specs.List.{IsTick, before, inputAt, givenAt, classRead}
 use Rattle.laws.proofs.Map.Cases.{by-kind, by-single}
+use Rattle.laws.proofs.Samples.Receivers.{acted-links}
 use Rattle.laws.specs.Block.{ofBlock}
 use Rattle.laws.specs.Pinging.{asksIn, failsIn}
+use Rattle.link_rules.specs.Pair.{equal, differ}
 use Rattle.rules.specs.Access.{value, named, acted}
-use Rattle.rules.specs.Samples.{positive, negative}
+use Rattle.rules.specs.Samples.{positive, negative, checks, receivePositive, receiveNegative, lineWrong}
 use Rattle.rules.specs.Stages.{stage}
 use Rattle.rules.specs.State.{local, alert, classAt, isOn}
 use Rattle.rules.specs.Tick.{signalsIn}
@@ -26,10 +29,13 @@ use Rattle.rules.specs.declared.Access.{Access}
 use Rattle.rules.specs.declared.Field.{Field}
 use Rattle.rules.specs.declared.Handler.{Handler}
 use Rattle.rules.specs.declared.Input.{Input}
+use Rattle.rules.specs.declared.Links.{Links}
+use Rattle.rules.specs.declared.Receive.{Receive}
+use Rattle.rules.specs.declared.Receive.the-variants.{Pairs, Answers}
 use Rattle.rules.specs.declared.Register.{Register}
 use Rattle.rules.specs.declared.Register.the-variants.{Only, Alert, Block}
 use Rattle.rules.specs.declared.Setting.{Setting}
-use Rattle.isolation.specs.Owner.{mayName, byTenant, reaches, Apart, ButTenant, OnlyTenant, Undisturbed}
+use Rattle.isolation.specs.Owner.{mayName, byTenant, reaches, wrongIn, wrongFor, Apart, ButTenant, OnlyTenant, Undisturbed}
 use Rattle.isolation.proofs.Undisturbed.{undisturbed}
 use Rattle.isolation.proofs.WholeIsolation.{shown, shown-same}
 
@@ -100,6 +106,62 @@ apart k his g x s =
       neither (local (acted g (x .access)) Field.En 1) (local (acted g (x .access)) Field.Class 1) k (e .1),
     )
 
+-- ── what comes back from the lines ──
+
+-- it is right: wires that differ, the positive one as what was sent asks for; an older record says nothing of it
+abbrev Right : Handler → Receive → Type 0
+Right g (Pairs p m) = (e : ℕ) → e < 4 → (bit p e ≡ bit (g .links .senders .answer) e) × (bit m e ≡ not (bit (g .links .senders .answer) e))
+Right g (Answers a) = Unit {0}
+
+-- no receive pair is wrong; or local 3, where enabled, is not in class k
+abbrev Unharmed : ℕ → Handler → Input → Type 0
+Unharmed k g x =
+    Right g (x .sample .receive)
+    ⊎ (local (acted g (x .access)) Field.En 3 ≡ 1 → local (acted g (x .access)) Field.Class 3 ≡ k → ⊥)
+
+-- the same comes back in both ticks, the same is right, and local 3 has the same registers
+record SameBack (g : Handler) (x : Input) (f : Handler) (y : Input) : Type 0 where
+  pub receive : x .sample .receive ≡ y .sample .receive
+  pub answers : (e : ℕ) → e < 4 → bit (g .links .senders .answer) e ≡ bit (f .links .senders .answer) e
+  pub en : local (acted g (x .access)) Field.En 3 ≡ local (acted f (y .access)) Field.En 3
+  pub class : local (acted g (x .access)) Field.Class 3 ≡ local (acted f (y .access)) Field.Class 3
+
+is-right : (a p m : Bool) → p ≡ a → m ≡ not a → (equal p m || differ p a) ≡ false
+is-right true p m e f = rw (e, f) refl
+is-right false p m e f = rw (e, f) refl
+
+-- the sender after step 1 is the one before it
+acted-answer : (g : Handler) (a : Access) (e : ℕ) → bit (acted g a .links .senders .answer) e ≡ bit (g .links .senders .answer) e
+acted-answer g a e = ap (λ (z : Links). bit (z .senders .answer) e) (acted-links g a)
+
+right-line : (g : Handler) (x : Input) (r : Receive) → x .sample .receive ≡ r → Right g r → (e : ℕ) → e < 4 → lineWrong (acted g (x .access)) (x .sample) e ≡ false
+unfolding lineWrong
+right-line g x (Pairs p m) c r e l =
+    rw c
+    (is-right (bit (acted g (x .access) .links .senders .answer) e) (bit p e) (bit m e) (r e l .0 ∙ sym (acted-answer g (x .access) e))
+    (r e l .1 ∙ ap not (sym (acted-answer g (x .access) e))))
+right-line g x (Answers a) c r e l = rw c refl
+
+unharmed : (k : ℕ) (g : Handler) (x : Input) → Unharmed k g x → wrongFor k g x ≡ false
+unharmed k g x (inl r) =
+    ap (λ (b : Bool). b && reaches k (acted g (x .access)) 3)
+    (any-none (lineWrong (acted g (x .access)) (x .sample)) 4 (right-line g x (x .sample .receive) refl r))
+unharmed k g x (inr e) =
+    ap (λ (b : Bool). wrongIn g x && b) (neither (local (acted g (x .access)) Field.En 3) (local (acted g (x .access)) Field.Class 3) k e)
+    ∙ and-false (wrongIn g x)
+
+same-line : (g : Handler) (x : Input) (f : Handler) (y : Input) → SameBack g x f y → (e : ℕ) → e < 4
+    → lineWrong (acted g (x .access)) (x .sample) e ≡ lineWrong (acted f (y .access)) (y .sample) e
+unfolding lineWrong
+same-line g x f y b e l =
+    ap₂ (λ (r : Receive) (a : Bool). checks r && (equal (receivePositive r e) (receiveNegative r e) || differ (receivePositive r e) a)) (b .receive)
+    (acted-answer g (x .access) e ∙ b .answers e l ∙ sym (acted-answer f (y .access) e))
+
+same-back : (k : ℕ) (g : Handler) (x : Input) (f : Handler) (y : Input) → SameBack g x f y → wrongFor k g x ≡ wrongFor k f y
+same-back k g x f y b =
+    ap₂ _&&_ (any-ext (lineWrong (acted g (x .access)) (x .sample)) (lineWrong (acted f (y .access)) (y .sample)) 4 (same-line g x f y b))
+    (ap₂ (λ (n c : ℕ). eqb n 1 && eqb c k) (b .en) (b .class))
+
 -- ── two ticks that are equal but for what the tenant does ──
 
 record Differ (k : ℕ) (his : ℕ → Bool) (g : Handler) (x : Input) (f : Handler) (y : Input) : Type 0 where
@@ -110,6 +172,8 @@ record Differ (k : ℕ) (his : ℕ → Bool) (g : Handler) (x : Input) (f : Hand
   pub pings :
       ((g .timer .enable ≡ 0) × (f .timer .enable ≡ 0))
       ⊎ ((i : ℕ) → i < g .n → his i ≡ false → (asksIn g x i ≡ asksIn f y i) × (failsIn g x i ≡ failsIn f y i))
+  -- what comes back from the lines does no harm to class k in either, or the same in both
+  pub back : (Unharmed k g x × Unharmed k f y) ⊎ SameBack g x f y
   pub stations : Station k his g x × Station k his f y
 
 but-tenant : (k : ℕ) (his : ℕ → Bool) (g : Handler) (x : Input) (f : Handler) (y : Input) → Differ k his g x f y → ButTenant k his g x f y
@@ -119,6 +183,7 @@ but-tenant k his g x f y d =
       pos = d .pos;
       neg = d .neg;
       pings = ping (d .pings);
+      wrong = back (d .back);
       apart = (apart k his g x (d .stations .0), apart k his f y (d .stations .1));
     }
   where
@@ -133,6 +198,10 @@ but-tenant k his g x f y d =
         ⊎ ((i : ℕ) → i < g .n → his i ≡ false → (asksIn g x i ≡ asksIn f y i) × (failsIn g x i ≡ failsIn f y i))
     ping (inl o) = inl (off g (o .0), off f (o .1))
     ping (inr p) = inr p
+
+    back : (Unharmed k g x × Unharmed k f y) ⊎ SameBack g x f y → wrongFor k g x ≡ wrongFor k f y
+    back (inl u) = unharmed k g x (u .0) ∙ sym (unharmed k f y (u .1))
+    back (inr b) = same-back k g x f y b
 
 -- ── then the owner's class starts in the same ticks, and shows and answers the same in each ──
 

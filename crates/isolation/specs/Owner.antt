@@ -7,11 +7,13 @@ use mathlib.Core.Logic.{_⊎_}
 use mathlib.Core.Bool.{Bool, true, false, not, _&&_}
 use mathlib.Core.List.{List}
 use lib.Dec.{eqb}
+use Rattle.bits.specs.Index.{anyTo}
 use Rattle.class_rules.specs.Step.{starts}
 use Rattle.escalation.specs.List.{IsTick, before, inputAt, givenAt, classRead}
 use Rattle.laws.specs.Pinging.{asksIn, failsIn}
+use Rattle.link_rules.specs.Senders.{lineCount}
 use Rattle.rules.specs.Access.{acted, named}
-use Rattle.rules.specs.Samples.{positive, negative}
+use Rattle.rules.specs.Samples.{positive, negative, lineWrong}
 use Rattle.rules.specs.State.{local, alert, isOn}
 use Rattle.rules.specs.Tick.{signalsIn}
 use Rattle.rules.specs.declared.Access.{Access}
@@ -56,6 +58,13 @@ reaches k h j = eqb (local h Field.En j) 1 && eqb (local h Field.Class j) k
 abbrev pub alertReaches : ℕ → Handler → ℕ → Bool
 alertReaches k h i = eqb (alert h Field.En i) 1 && eqb (alert h Field.Class i) k
 
+-- request (xi), in the tick of state g and input x: a line's receive pair is wrong; and local 3, which it raises, is enabled and assigned to class k
+abbrev pub wrongIn : Handler → Input → Bool
+wrongIn g x = anyTo (lineWrong (acted g (x .access)) (x .sample)) lineCount
+
+abbrev pub wrongFor : ℕ → Handler → Input → Bool
+wrongFor k g x = wrongIn g x && reaches k (acted g (x .access)) 3
+
 -- in the tick of state g and input x, as step 2 reads them: each of his alerts, local 2 and local 5 are disabled or assigned to another class
 pub record Apart (k : ℕ) (his : ℕ → Bool) (g : Handler) (x : Input) : Type 0 where
   pub alerts : (i : ℕ) → i < g .n → his i ≡ true → alertReaches k (acted g (x .access)) i ≡ false
@@ -64,7 +73,7 @@ pub record Apart (k : ℕ) (his : ℕ → Bool) (g : Handler) (x : Input) : Type
   -- request (ix): register 6 is 0 before the tick, or local 0 and local 1, which a ping that fails raises, are disabled or assigned to another class too
   pub failing : (isOn g ≡ false) ⊎ ((reaches k (acted g (x .access)) 0 ≡ false) × (reaches k (acted g (x .access)) 1 ≡ false))
 
--- two ticks that are equal but for his accesses, his alerts' wires, the entropy word and the lines' answers. The ping timer is shared: his answer ends a
+-- two ticks that are equal but for his accesses, his alerts' wires, the entropy word and what comes back from the lines. The ping timer is shared: his answer ends a
 -- turn, so that another's alert is pinged in another tick, and a rise of it is then an answer and no event (requests (viii) and (ix)). So register 6 is 0
 -- before both ticks, or the pings of alerts that are not his open in both or in neither, and fail so
 pub record ButTenant (k : ℕ) (his : ℕ → Bool) (g : Handler) (x : Input) (f : Handler) (y : Input) : Type 0 where
@@ -74,6 +83,9 @@ pub record ButTenant (k : ℕ) (his : ℕ → Bool) (g : Handler) (x : Input) (f
   pub pings :
       ((isOn g ≡ false) × (isOn f ≡ false))
       ⊎ ((i : ℕ) → i < g .n → his i ≡ false → (asksIn g x i ≡ asksIn f y i) × (failsIn g x i ≡ failsIn f y i))
+  -- request (xi): the lines are shared too, and what is right on a receive pair goes by what was sent on the line, by the tenant's class too. So a pair is
+  -- wrong for class k in both ticks or in neither: equal receive pairs do if what was sent is equal, and any do if no pair is wrong or local 3 is elsewhere
+  pub wrong : wrongFor k g x ≡ wrongFor k f y
   pub apart : Apart k his g x × Apart k his f y
 
 -- so are all ticks of the runs with inputs xs and ys from the state h

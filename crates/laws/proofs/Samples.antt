@@ -3,4 +3,3 @@ pub mod Receivers
 pub mod AtRest
 pub mod Raises
 pub mod Off
-pub mod OpenPings

@@ -5,6 +5,9 @@ pub mod InterruptBits
 pub mod AlertStarts
 pub mod Quiet
 pub mod Pairs
+pub mod Links
+pub mod OpenPings
 pub mod Turns
+pub mod Senders
 pub mod TimerOff
 pub mod Runs

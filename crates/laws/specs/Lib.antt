@@ -11,3 +11,4 @@ pub mod Unchecked
 pub mod Columns
 pub mod Quiet
 pub mod Pinging
+pub mod Sending

@@ -4,6 +4,7 @@ use Prim.Native.Nat.{ℕ}
 use mathlib.Core.Bool.{Bool, false, not, _&&_}
 use lib.Dec.{eqb}
 use Rattle.bits.specs.Bits.{bit}
+use Rattle.link_rules.specs.LinePing.{closing}
 use Rattle.link_rules.specs.Pings.{pending, asks}
 use Rattle.link_rules.specs.Timer.{failsAlert}
 use Rattle.link_rules.specs.declared.Given.{Given}
@@ -13,6 +14,7 @@ use Rattle.rules.specs.Access.{accepted, acted, effects}
 use Rattle.rules.specs.Map.{singleNumber}
 use Rattle.rules.specs.Samples.{positive, negative, timed}
 use Rattle.rules.specs.State.{receiverIn}
+use Rattle.rules.specs.Tick.{hears, lines, reached, closedNow}
 use Rattle.rules.specs.declared.Access.{Access}
 use Rattle.rules.specs.declared.Access.the-variants.{Nothing, Read, Write, Malformed}
 use Rattle.rules.specs.declared.Handler.{Handler}
@@ -31,9 +33,13 @@ enables h Malformed = false
 abbrev pub linksPending : ℕ → Links → Bool
 linksPending n l = pending n (l .turn) (λ i. receiverIn (l .receivers) i .pending) (bit (l .lines))
 
+-- an escalation closes the turn's ping in the tick, or keeps it from the wire
+abbrev pub closedIn : Handler → Input → Bool
+closedIn h x = closedNow (acted h (x .access)) (hears h x) (lines (reached h x))
+
 -- what the timer meets in the tick
 abbrev pub meetsIn : Handler → Input → Meets
-meetsIn h x = timed (acted h (x .access)) (x .sample) (effects h (x .access))
+meetsIn h x = closing (closedIn h x) (timed (acted h (x .access)) (x .sample) (effects h (x .access)))
 
 -- it asks for the ping of alert i; the ping of alert i fails
 abbrev pub asksIn : Handler → Input → ℕ → Bool

@@ -8,3 +8,12 @@ pub mod Times
 pub mod Owned
 pub mod Pending
 pub mod TimerWaves
+pub mod SenderLaws
+pub mod Closing
+pub mod Seen
+pub mod SoundLines
+pub mod WholeSeen
+pub mod WholeLines
+pub mod EscalationScenes
+pub mod EscalationWaves
+pub mod Paper004

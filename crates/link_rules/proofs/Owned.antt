@@ -129,7 +129,7 @@ pub goes-on : (n : ℕ) (m : Meets) (t : Turn) (alerts lines taken : ℕ → Boo
     → failsAlert m t && eqb i (t .alert) ≡ false → ends m t ≡ false
 unfolding ends
 goes-on n m t alerts lines taken g i h k f =
-    simp (h .early, h .opened, answered, failed)
+    simp (h .early, h .opened, answered, failed, closed)
   where
     answered : m .answered ≡ false
     answered = g .is-answer (h .alerting) ∙ simp (← eqb-true i (t .alert) (h .drawn), k)
@@ -142,6 +142,9 @@ goes-on n m t alerts lines taken g i h k f =
         go true false true x y z = z
         go true true c x y z = absurd (false≢true (sym x))
         go true false false x y z = absurd (false≢true y)
+
+    closed : m .closed ≡ false
+    closed = is-false (m .closed) (λ c. sym (h .alerting) ∙ g .is-closed c)
 
 pub keeps-owned : (n : ℕ) (m : Meets) (t : Turn) (alerts lines taken : ℕ → Bool) → KeepsOwned n m t alerts lines taken
 keeps-owned n m t alerts lines taken = record { keeps = λ o g. record { alert = alert o g; line = line o g } }

@@ -47,8 +47,9 @@ opens-alert m t l e = ap (λ b. b || m .pingable) (sym l) ∙ and-true (isDue m 
 ends-not : (m : Meets) (t : Turn) → openNow m t ≡ true → ends m t ≡ false → (m .answered ≡ false) × (fails m t ≡ false)
 unfolding ends
 ends-not m t e x =
-    let a : openNow m t && (m .answered || fails m t) ≡ false = or-false (isDue m t && not (opens m t)) _ x .1 in
-    or-false (m .answered) (fails m t) (ap (λ k. k && (m .answered || fails m t)) (sym e) ∙ a)
+    let a : openNow m t && (m .answered || (fails m t || m .closed)) ≡ false = or-false (isDue m t && not (opens m t)) _ x .1 in
+    let b = or-false (m .answered) (fails m t || m .closed) (ap (λ k. k && (m .answered || (fails m t || m .closed))) (sym e) ∙ a) in
+    (b .0, or-false (fails m t) (m .closed) (b .1) .0)
 
 module _ (n : ℕ) (m : Meets) (t : Turn) (alerts lines taken : ℕ → Bool) (o : Owned n (m .runs) t alerts lines) (g : Handed n m t alerts lines taken) where
   abbrev alerts' : ℕ → Bool

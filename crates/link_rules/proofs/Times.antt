@@ -59,7 +59,7 @@ aged T b t l m =
     let f : leb T (t .count + 1) ≡ false = lt-leb T (t .count + 1) (omega arith) in
     simp (e, f) (go (ltb 0 T))
   where
-    go : (a : Bool) → cond (a && false) (nextTurn t 0) (at t (t .count + 1)) ≡ at t (suc (t .count))
+    go : (a : Bool) → cond (a && false || false) (nextTurn t 0) (at t (t .count + 1)) ≡ at t (suc (t .count))
     go true = ap (at t) (omega arith)
     go false = ap (at t) (omega arith)
 

@@ -5,3 +5,10 @@ pub mod Handshake
 pub mod Timer
 pub mod Times
 pub mod Pings
+pub mod EscalationReceiver
+pub mod Sender
+pub mod Senders
+pub mod LineReceivers
+pub mod LinePing
+pub mod Seen
+pub mod SoundLines

@@ -1,4 +1,4 @@
--- Requests (viii) and (ix): the open pings of a handler of n alerts and four lines, whatever holds them: `alerts i` says that the ping of alert
+-- Requests (viii), (ix) and (xi): the open pings of a handler of n alerts and four lines, whatever holds them: `alerts i` says that the ping of alert
 -- i is open, `lines e` that of line e. What the timer is told of them, what a tick leaves of them, and refusal 7's rule.
 -- Assumes nothing.
 use Prim.Native.Nat.{ℕ, _<_}
@@ -35,8 +35,9 @@ pub record Owned (n : ℕ) (runs : Bool) (t : Turn) (alerts lines : ℕ → Bool
 pub record Handed (n : ℕ) (m : Meets) (t : Turn) (alerts lines taken : ℕ → Bool) : Type 0 where
   pub is-pending : m .pending ≡ pending n t alerts lines
   pub is-start : m .begins ≡ true → m .runs ≡ false
-  -- an alert's ping is answered by a rise that is taken
+  -- an alert's ping is answered by a rise that is taken, and no line closes it
   pub is-answer : isLine t ≡ false → m .answered ≡ taken (t .alert) && openNow m t
+  pub is-closed : m .closed ≡ true → isLine t ≡ true
   -- an alert that can be pinged is one
   pub is-alert : m .pingable ≡ true → t .alert < n
 

@@ -54,9 +54,9 @@ failsAlert m t = fails m t && not (isLine t)
 abbrev pub failsLine : Meets → Turn → Bool
 failsLine m t = fails m t && isLine t
 
--- the turn ends in this tick: none opens, or its ping is answered or fails
+-- the turn ends in this tick: none opens, or its ping is answered or fails, or, request (xi), an escalation closes it
 unfoldable pub ends : Meets → Turn → Bool
-ends m t = (isDue m t && not (opens m t)) || (openNow m t && (m .answered || fails m t))
+ends m t = (isDue m t && not (opens m t)) || (openNow m t && (m .answered || (fails m t || m .closed)))
 
 -- the turn's ping is open after the tick
 abbrev pub openAfter : Meets → Turn → Bool

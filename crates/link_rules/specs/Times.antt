@@ -8,7 +8,7 @@ use Rattle.link_rules.specs.Timer.{drawn, isDue, fails, turned}
 use Rattle.link_rules.specs.declared.Meets.{Meets}
 use Rattle.link_rules.specs.declared.Turn.{Turn}
 
--- a tick of a timer that is on, at this timeout: no answer comes; the turn's ping is open or not, the drawn alert can be pinged or not
+-- a tick of a timer that is on, at this timeout: no answer comes and no escalation; the turn's ping is open or not, the drawn alert can be pinged or not
 abbrev pub silent : ℕ → Bool → Bool → Meets
 silent timeout pending pingable =
     record {
@@ -19,6 +19,7 @@ silent timeout pending pingable =
       pingable = pingable;
       pending = pending;
       answered = false;
+      closed = false;
     }
 
 -- the turn after k such ticks

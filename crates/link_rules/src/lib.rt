@@ -62,6 +62,82 @@ pub struct Meets {
     pub pingable: bool,
     // the turn's ping was open before the tick
     pub pending: bool,
-    // it is answered in this tick
+    // it is answered in this tick; request (xi): an escalation on its line closes it, or keeps it from the wire
     pub answered: bool,
+    pub closed: bool,
+}
+
+// Where an escalation receiver stands, by its pair in the ticks before, request (xi).
+pub enum Response {
+    // off: nothing to answer
+    Quiet,
+    // on in the last tick and off before it: a ping, or the start of an escalation
+    Checking,
+    // off again after one tick: a ping, which it answers
+    Answering,
+    // on in the last two ticks: an escalation
+    Escalating,
+}
+
+// An escalation receiver on sound wires: where it stands, and the answer that it sends in the coming tick.
+pub struct SoundReceiver {
+    pub stands: Response,
+    pub answer: bool,
+}
+
+// An escalation receiver on any wires: broken if they were equal in the last tick.
+pub struct EscalationReceiver {
+    pub sound: SoundReceiver,
+    pub broken: bool,
+}
+
+// The sender of one escalation line.
+pub struct Sender {
+    // the line was on in the last tick; the last tick was the first of its being on
+    pub on: bool,
+    pub first: bool,
+    // a sound receiver of all that was sent: it knows the right answer
+    pub sound: SoundReceiver,
+}
+
+// The senders of the four lines, bit e for line e; bits from 4 up are never looked at. Any bits are four senders.
+#[repr(C)]
+pub struct Senders {
+    pub on: u32,
+    pub first: u32,
+    // where the sound receiver stands: its pair in the last tick, and 0 0 quiet, 1 0 checking, 0 1 answering, 1 1 escalating
+    pub last: u32,
+    pub deep: u32,
+    // the right answer of the coming tick
+    pub answer: u32,
+}
+
+// What a sender is given in a tick: the line, and whether the line's ping opens.
+pub struct Drive {
+    pub line: bool,
+    pub ping: bool,
+}
+
+// The receivers at the ends of the four lines, bit e for line e; bits from 4 up are never looked at. Any bits are four receivers, and 0 are four new ones.
+#[repr(C)]
+pub struct LineReceivers {
+    // where it stands: its pair in the last tick, and 0 0 quiet, 1 0 checking, 0 1 answering, 1 1 escalating
+    pub last: u32,
+    pub deep: u32,
+    // the answer that it sends in the coming tick
+    pub answer: u32,
+    // its wires were equal in the last tick
+    pub broken: u32,
+}
+
+// What they give in a tick.
+#[repr(C)]
+pub struct Listened {
+    // the receivers after it
+    pub receivers: LineReceivers,
+    // the pairs that they send back in it: positive and negative wires
+    pub positive: u32,
+    pub negative: u32,
+    // the lines whose receiver sees an escalation in it
+    pub seen: u32,
 }

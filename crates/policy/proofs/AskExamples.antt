@@ -63,6 +63,8 @@ staged regwen code =
       receivers = record { pausing = replicate 4 0; busy = replicate 4 (2 ^ 64 - 1); level = replicate 4 0; pending = replicate 4 0 };
       turn = newHandler 58 .links .turn;
       lines = 0;
+      senders = newHandler 58 .links .senders;
+      right = 0;
     })
     (withLocals (record { regwen = replicate 7 1; en = set (replicate 7 0) 5 1; class = replicate 7 0; cause = replicate 7 0 })
     (withAlerts (record { regwen = set (replicate 248 1) 0 regwen; en = replicate 248 0; class = replicate 248 0; cause = replicate 248 0 }) (newHandler 58))))

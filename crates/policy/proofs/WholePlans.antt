@@ -12,6 +12,7 @@ use Rattle.rules.specs.Map.{numberOf, isShadowed}
 use Rattle.rules.specs.declared.Access.{Access}
 use Rattle.rules.specs.declared.Access.the-variants.{Read, Write}
 use Rattle.rules.specs.declared.Field.{Field}
+use Rattle.rules.specs.declared.Receive.the-variants.{Pairs}
 use Rattle.rules.specs.declared.Register.the-variants.{Alert, Block}
 use Rattle.rules.specs.declared.Setting.{Setting}
 use Rattle.rules.specs.declared.Setting.the-variants.{Ctrl, AccumThresh, TimeoutCyc, PhaseCyc}
@@ -139,13 +140,13 @@ ticksOf : (length (asks (planOf Lifecycle.Prod)) ≡ 474) × (length (asks (plan
 unfolding plans
 ticksOf = (refl, refl)
 
--- "with all wires at (0,1)", those of alerts at N and above too, and, by request (ix), "the installer 0 and no answer"
+-- "with all wires at (0,1)", those of alerts at N and above too; request (ix): "the installer 0", and request (xi): "The installer hands in (0,1)"
 wires : (x : Access)
     → (rest x .access ≡ x)
     × (rest x .sample .alerts .pos ≡ 0 ∷ 0 ∷ 0 ∷ 0 ∷ [])
     × (rest x .sample .alerts .neg ≡ 18446744073709551615 ∷ 18446744073709551615 ∷ 18446744073709551615 ∷ 18446744073709551615 ∷ [])
     × (rest x .sample .word ≡ 0)
-    × (rest x .sample .answers ≡ 0)
+    × (rest x .sample .receive ≡ Pairs 0 15)
 wires x = (refl, refl, refl, refl, refl)
 
 -- ── lifecycles by number ──

@@ -51,3 +51,6 @@ made-admits-248 n = admits-made Edition.Alerts248 n (facts (made n .handler) (ma
 
 pub made-admits-pings : (n : ℕ) → admits Edition.Pings (made n .handler) ≡ true
 made-admits-pings n = admits-made Edition.Pings n (facts (made n .handler) (made-valid n) .n)
+
+pub made-admits-wires : (n : ℕ) → admits Edition.Wires (made n .handler) ≡ true
+made-admits-wires n = admits-made Edition.Wires n (facts (made n .handler) (made-valid n) .n)

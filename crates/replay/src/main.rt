@@ -18,6 +18,7 @@ use state::new::new;
 use trace::edition::ALERTS_64_BYTES;
 use trace::edition::ALERTS_248_BYTES;
 use trace::edition::PINGS_BYTES;
+use trace::edition::WIRES_BYTES;
 use trace_rules::Edition;
 ghost use mathlib.Core.Path.{_≡_};
 ghost use mathlib.Core.Bool.{true};
@@ -128,12 +129,20 @@ fn run_248(h: Handler)
     take_turns(Edition::Alerts248, h, &mut bytes);
 }
 
-// The newest records, of 75 bytes, with the ping timer's word and answers.
+// Records of 75 bytes, with the ping timer's word and answers.
 fn run_pings(h: Handler)
     requires { ⌜ admits Edition.Pings h ≡ true ⌝ }
 {
     let mut bytes = [0u8; TURN * PINGS_BYTES];
     take_turns(Edition::Pings, h, &mut bytes);
+}
+
+// The newest records, of 75 bytes, with receive pairs.
+fn run_wires(h: Handler)
+    requires { ⌜ admits Edition.Wires h ≡ true ⌝ }
+{
+    let mut bytes = [0u8; TURN * WIRES_BYTES];
+    take_turns(Edition::Wires, h, &mut bytes);
 }
 
 // A handler for N.
@@ -172,13 +181,23 @@ fn start_248(n: u8) {
     }
 }
 
-// The newest records, of 75 bytes.
+// Records of 75 bytes with answers.
 fn start_pings(n: u8) {
     let made = make(n);
     if made.answer < 0 {
         refuse();
     } else {
         run_pings(made.handler);
+    }
+}
+
+// The newest records, of 75 bytes with receive pairs.
+fn start_wires(n: u8) {
+    let made = make(n);
+    if made.answer < 0 {
+        refuse();
+    } else {
+        run_wires(made.handler);
     }
 }
 
@@ -202,6 +221,8 @@ fn choose(first: u8) -> Edition
         Edition::Alerts248
     } else if first == 254 {
         Edition::Pings
+    } else if first == 253 {
+        Edition::Wires
     } else {
         Edition::Alerts64
     }
@@ -220,6 +241,10 @@ fn main() {
             Edition::Pings => match read_byte() {
                 Byte::Missing => {}
                 Byte::Read(n) => start_pings(n),
+            },
+            Edition::Wires => match read_byte() {
+                Byte::Missing => {}
+                Byte::Read(n) => start_wires(n),
             },
         },
     }

@@ -57,7 +57,13 @@ held = (refl, refl, refl, refl)
 abbrev pub pinging : ℕ → ℕ → Handler → Handler
 pinging i c h =
     withTimer (record { timeout = 0; regwen = 1; enable = 1 })
-    (withLinks (record { receivers = h .links .receivers; turn = record { number = 0; alert = i; count = c }; lines = 0 })
+    (withLinks (record {
+      receivers = h .links .receivers;
+      turn = record { number = 0; alert = i; count = c };
+      lines = 0;
+      senders = h .links .senders;
+      right = 0;
+    })
     (withAlerts (record { regwen = replicate 248 0; en = replicate 248 1; class = h .alerts .class; cause = h .alerts .cause }) h))
 
 abbrev cause : ℕ → ℕ → List Input → ℕ
@@ -121,8 +127,9 @@ theirWords =
     ∷ (0 ∷ 0 ∷ 0 ∷ 2 ^ 8 ∷ [])
     ∷ []
 
-abbrev withReceivers : Receivers → Handler → Handler
-withReceivers r h = withLinks (record { receivers = r; turn = h .links .turn; lines = h .links .lines }) h
+abbrev pub withReceivers : Receivers → Handler → Handler
+withReceivers r h =
+    withLinks (record { receivers = r; turn = h .links .turn; lines = h .links .lines; senders = h .links .senders; right = h .links .right }) h
 
 -- a handler of 248 alerts with these words for where the receivers stand
 abbrev standing : List ℕ → List ℕ → Handler

@@ -1,3 +1,4 @@
+pub mod SoundLines
 pub mod SampleExamples
 pub mod HandshakeExamples
 pub mod PairExamples
@@ -11,3 +12,7 @@ pub mod ShadowRegisterExamples
 pub mod ShadowAlertExamples
 pub mod OwnBitsExamples
 pub mod MostAlertsExamples
+pub mod WireScenes
+pub mod WireExamples
+pub mod LineExamples
+pub mod OlderRecordExamples

@@ -20,6 +20,7 @@ use Rattle.rules.specs.declared.Setting.the-variants.{ClrRegwen, Clr, AccumCnt,
 use Rattle.rules.specs.Scenes.{ones, wired, wire, rest, raise, pause, bothHigh, none, write}
 use Rattle.rules.specs.declared.Single.the-variants.{IntrState, IntrTest}
 use Rattle.rules.proofs.Scenes.{rules, settings, station}
+use Rattle.rule_examples.proofs.SoundLines.{runSoundly}
 
 -- ── alert k is enabled in class k; the classes have EN, LOCK, all lines and these thresholds and timeouts; local alerts are of one class ──
 
@@ -29,12 +30,12 @@ four thresholds timeout j =
     (withClasses (map (λ t. settings 0x393F t timeout (99 ∷ 0 ∷ 0 ∷ 0 ∷ [])) thresholds)
     (station 4 (1 ∷ 1 ∷ 1 ∷ 1 ∷ replicate 244 0) (0 ∷ 1 ∷ 2 ∷ 3 ∷ replicate 244 0) 0 resetClass))
 
--- register s of each class after these accesses, with the wires at rest
+-- register s of each class; the state after these accesses, with the wires at rest and the lines answered, so that local 3 stays away
 abbrev seen : Setting → Handler → List ℕ
 seen s h = map (λ k. value h (Block s k)) (0 ∷ 1 ∷ 2 ∷ 3 ∷ [])
 
 abbrev accesses : Handler → List Access → Handler
-accesses h xs = run h (map rest xs)
+accesses h xs = runSoundly h (map rest xs)
 
 -- 1 for class k, 0 for the others
 abbrev only : List (List ℕ)
@@ -131,7 +132,7 @@ ctrls-own = refl
 
 -- ── a clear is of its own class, tried for all four: ACCUM_CNT is 0 there and 1 in the others ──
 
-clears-each : map (λ k. seen AccumCnt (run (paced (λ j. 0) (λ j. 99)) (wired (wire 0 + wire 1 + wire 2 + wire 3) (ones - wire 0 - wire 1 - wire 2 - wire 3) none ∷ rest (write (Block Clr k) 1) ∷ []))) (0 ∷ 1 ∷ 2 ∷ 3 ∷ [])
+clears-each : map (λ k. seen AccumCnt (runSoundly (paced (λ j. 0) (λ j. 99)) (wired (wire 0 + wire 1 + wire 2 + wire 3) (ones - wire 0 - wire 1 - wire 2 - wire 3) none ∷ rest (write (Block Clr k) 1) ∷ []))) (0 ∷ 1 ∷ 2 ∷ 3 ∷ [])
     ≡ butOne
 unfolding rules
 clears-each = refl

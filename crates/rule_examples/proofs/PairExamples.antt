@@ -5,7 +5,7 @@ use mathlib.Core.Path.{_≡_, refl}
 use mathlib.Core.List.{List, [], _∷_, map}
 use lib.ListN.{getD, replicate}
 use Rattle.rules.specs.Run.{ticks}
-use Rattle.rules.specs.State.{newHandler, withLinks}
+use Rattle.rules.specs.State.{newHandler}
 use Rattle.rules.specs.Tick.{acknowledgePairs, pingPairs, after, ticked}
 use Rattle.rules.specs.declared.Handler.{Handler}
 use Rattle.rules.specs.declared.Input.{Input}
@@ -13,7 +13,7 @@ use Rattle.rules.specs.declared.Ticked.{Ticked}
 use Rattle.rules.specs.declared.Wires.{Wires}
 use Rattle.rules.specs.Scenes.{ones, timing, rest, raise, bothHigh, bothLow, none}
 use Rattle.rules.proofs.Scenes.{rules, zeros, ready}
-use Rattle.rule_examples.proofs.HandshakeExamples.{pinging}
+use Rattle.rule_examples.proofs.HandshakeExamples.{pinging, withReceivers}
 
 -- ── in time: 1 where alert 0's pair is (1,0), tick by tick ──
 
@@ -76,7 +76,7 @@ unfolding rules
 places = (refl, refl)
 
 -- "(0,1) at reset"
-at-reset : (ticked (newHandler 1) (rest none) .output ≡ record { interrupts = 0; lines = 0; acknowledge = low; ping = low })
+at-reset : (ticked (newHandler 1) (rest none) .output ≡ record { interrupts = 0; lines = 0; acknowledge = low; ping = low; escalation = record { pos = 0; neg = 15 } })
     × (acknowledgePairs (newHandler 248) ≡ low)
     × (pingPairs (newHandler 248) ≡ low)
 unfolding rules
@@ -86,8 +86,7 @@ at-reset = (refl, refl, refl)
 abbrev stuffed : ℕ → Handler
 stuffed n =
     let all = replicate 4 (2 ^ 64 - 1) in
-    let h = newHandler n in
-    withLinks (record { receivers = record { pausing = zeros; busy = all; level = all; pending = zeros }; turn = h .links .turn; lines = h .links .lines }) h
+    withReceivers (record { pausing = zeros; busy = all; level = all; pending = zeros }) (newHandler n)
 
 above : (acknowledgePairs (stuffed 2) ≡ pairOf ((2 ^ 63 + 2 ^ 62) ∷ 0 ∷ 0 ∷ 0 ∷ []))
     × (pingPairs (stuffed 2) ≡ pairOf ((2 ^ 63 + 2 ^ 62) ∷ 0 ∷ 0 ∷ 0 ∷ []))

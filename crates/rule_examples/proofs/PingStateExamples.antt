@@ -55,6 +55,8 @@ holding enable number alerts lines =
       receivers = record { pausing = zeros; busy = zeros; level = zeros; pending = alerts ∷ 0 ∷ 0 ∷ 0 ∷ [] };
       turn = record { number = number; alert = 0; count = 9 };
       lines = lines;
+      senders = record { on = 0; first = 0; last = 0; deep = 0; answer = 0 };
+      right = 0;
     }) (newHandler 2))
 
 abbrev told : List Handler → List ℤ

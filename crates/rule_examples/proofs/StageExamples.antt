@@ -141,9 +141,12 @@ fullClass regwen =
       state = 7;
     }
 
--- request (viii): any bits are receivers; request (ix): of the open pings below N only that of the turn's alert, 4
+-- requests (viii) and (xi): any bits are receivers and senders; request (ix): of the open pings below N only that of the turn's alert, 4
 abbrev ones64 : List ℕ
 ones64 = replicate 4 (2 ^ 64 - 1)
+
+abbrev ones32 : ℕ
+ones32 = 2 ^ 32 - 1
 
 abbrev full : ℕ → Handler
 full regwen =
@@ -154,6 +157,8 @@ full regwen =
             receivers = record { pausing = ones64; busy = ones64; level = ones64; pending = set ones64 0 (2 ^ 60 - 1) };
             turn = record { number = 254; alert = 4; count = 65535 };
             lines = 2 ^ 32 - 16;
+            senders = record { on = ones32; first = ones32; last = ones32; deep = ones32; answer = ones32 };
+            right = ones32;
           };
       classes = replicate 4 (fullClass regwen);
       alerts = record { regwen = replicate 248 regwen; en = replicate 248 1; class = replicate 248 3; cause = replicate 248 1 };

@@ -50,11 +50,11 @@ no-alerts : gives (newHandler 0) (rest (Access.Read 1281)) ≡ pos 0x393C
 unfolding rules
 no-alerts = refl
 
--- "All REGWEN and CLR_REGWEN start at 1, all CTRL at 0x393C, every other register at 0, classes Idle"; receivers ready, ping pairs at (0,1), no ping and no stage open
+-- "All REGWEN and CLR_REGWEN start at 1, all CTRL at 0x393C, every other register at 0, classes Idle"; receivers ready, ping pairs at (0,1), senders at rest, no ping and no stage open
 new : newHandler 1
     ≡ record {
       n = 1;
-      links = record { receivers = record { pausing = replicate 4 0; busy = replicate 4 0; level = replicate 4 0; pending = replicate 4 0 }; turn = record { number = 0; alert = 0; count = 0 }; lines = 0 };
+      links = record { receivers = record { pausing = replicate 4 0; busy = replicate 4 0; level = replicate 4 0; pending = replicate 4 0 }; turn = record { number = 0; alert = 0; count = 0 }; lines = 0; senders = record { on = 0; first = 0; last = 0; deep = 0; answer = 0 }; right = 0 };
       classes =
           replicate 4
           (record {

@@ -10,7 +10,10 @@ use Rattle.bits.specs.Fields.{pack, unpack}
 use Rattle.class_rules.specs.declared.Class.{Class}
 use Rattle.class_rules.specs.Class.{stateOf, drives, classFits}
 use Rattle.class_rules.specs.Step.{counted, startsFrom, movedFrom, classStep}
+use Rattle.link_rules.specs.EscalationReceiver.{soundAfter}
+use Rattle.link_rules.specs.LinePing.{answeredByWires, rightAfter, closedByLine}
 use Rattle.link_rules.specs.Receiver.{askedFor, standsAfter, received}
+use Rattle.link_rules.specs.Sender.{sent}
 use Rattle.link_rules.specs.Timer.{opens, openNow, fails, ends, turned}
 use Rattle.rules.specs.Answer.{number, firstOf}
 use Rattle.rules.specs.State.{put, newHandler, made, resetClass, withLocals, withAlerts, withClasses}
@@ -19,15 +22,15 @@ use Rattle.rules.specs.Stages.{stageIn, withStage, dropped}
 use Rattle.rules.specs.Scenes.{rest, raise, none}
 use Rattle.rules.specs.Valid.{classStagesFit, stagesFit, pingsFit, valid}
 use Rattle.rules.specs.Access.{value, locked, verdict, store, written, acted, answerTo, effects, clears, accessed}
-use Rattle.rules.specs.Samples.{happened, answered, receiverAfter, receiverTimed, linesTimed, alertBroken, raised, heard, alertEvent, occurs, sampled, assigned}
-use Rattle.rules.specs.Tick.{event, interruptNow, signals, stepped, interrupts, lines, acknowledgePairs, pingPairs, outputOf, hears, after, tick, ticked}
+use Rattle.rules.specs.Samples.{happened, answered, receiverAfter, receiverTimed, alertBroken, lineWrong, raised, heard, alertEvent, occurs, sampled, assigned}
+use Rattle.rules.specs.Tick.{event, interruptNow, signals, stepped, interrupts, lines, driven, closedNow, linesTimed, linksAfter, acknowledgePairs, pingPairs, escalationPairs, outputOf, hears, after, tick, ticked}
 use Rattle.rules.specs.Run.{run, ticks}
 use Rattle.rules.specs.declared.Access.{Access}
 use Rattle.rules.specs.declared.Handler.{Handler}
 
 -- names every definition that an example computes with: `unfolding rules` opens them all
 unfoldable pub rules : ℕ → ℕ
-unfolding bit bitsOf wordOf eachFrom anyTo allTo pack unpack stateOf drives classFits counted startsFrom movedFrom classStep number firstOf put newHandler made blockAt decode numberOf bits writeOnly readOnly guard isLock isShadowed stageIn withStage dropped classStagesFit stagesFit pingsFit valid value locked verdict store written acted answerTo effects clears accessed received askedFor standsAfter opens openNow fails ends turned happened answered receiverAfter receiverTimed linesTimed alertBroken raised heard alertEvent occurs sampled assigned event interruptNow signals stepped interrupts lines acknowledgePairs pingPairs outputOf hears after tick ticked run ticks
+unfolding bit bitsOf wordOf eachFrom anyTo allTo pack unpack stateOf drives classFits counted startsFrom movedFrom classStep number firstOf put newHandler made blockAt decode numberOf bits writeOnly readOnly guard isLock isShadowed stageIn withStage dropped classStagesFit stagesFit pingsFit valid value locked verdict store written acted answerTo effects clears accessed received askedFor standsAfter opens openNow fails ends turned soundAfter sent answeredByWires rightAfter closedByLine happened answered receiverAfter receiverTimed alertBroken lineWrong raised heard alertEvent occurs sampled assigned event interruptNow signals stepped interrupts lines driven closedNow linesTimed linksAfter acknowledgePairs pingPairs escalationPairs outputOf hears after tick ticked run ticks
 rules n = n
 
 -- the state after these accesses, and the number that an access or a read answers

@@ -87,7 +87,7 @@ refuses : ticked broken (raise 0 (Access.Write 1 3))
     ≡ record {
       handler = broken;
       answer = Answer.Refused BadState;
-      output = record { interrupts = 0; lines = 0; acknowledge = low; ping = low };
+      output = record { interrupts = 0; lines = 0; acknowledge = low; ping = low; escalation = record { pos = 0; neg = 15 } };
     }
 unfolding rules
 refuses = refl

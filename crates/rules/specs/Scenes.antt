@@ -13,6 +13,8 @@ use Rattle.rules.specs.Tick.{ticked}
 use Rattle.rules.specs.declared.Access.{Access}
 use Rattle.rules.specs.declared.Handler.{Handler}
 use Rattle.rules.specs.declared.Input.{Input}
+use Rattle.rules.specs.declared.Receive.{Receive}
+use Rattle.rules.specs.declared.Receive.the-variants.{Pairs, Answers}
 use Rattle.rules.specs.declared.Register.{Register}
 
 -- ── inputs ──
@@ -20,14 +22,19 @@ use Rattle.rules.specs.declared.Register.{Register}
 abbrev pub ones : ℕ
 ones = 2 ^ 256 - 1
 
--- an access with this entropy word, these answered escalation pings and these positive and negative wires, each set as one number, alert 0 highest
-abbrev pub timing : ℕ → ℕ → ℕ → ℕ → Access → Input
-timing u a p m x =
+-- an access with this entropy word, what comes back from the lines and these positive and negative wires, each set as one number, alert 0 highest
+abbrev pub sampling : ℕ → Receive → ℕ → ℕ → Access → Input
+sampling u r p m x =
     let cut = unpack (replicate words 64) in
-    record { access = x; sample = record { alerts = record { pos = cut p; neg = cut m }; word = u; answers = a } }
+    record { access = x; sample = record { alerts = record { pos = cut p; neg = cut m }; word = u; receive = r } }
 
+-- as a record of request (ix) has it, with these answered escalation pings
+abbrev pub timing : ℕ → ℕ → ℕ → ℕ → Access → Input
+timing u a p m x = sampling u (Answers a) p m x
+
+-- receive pairs at rest
 abbrev pub wired : ℕ → ℕ → Access → Input
-wired p m x = timing 0 0 p m x
+wired p m x = sampling 0 (Pairs 0 15) p m x
 
 -- alert i's place in a set of wires
 abbrev pub wire : ℕ → ℕ

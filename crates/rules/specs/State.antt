@@ -10,7 +10,10 @@ use Rattle.class_rules.specs.Class.{noClass}
 use Rattle.class_rules.specs.declared.Class.{Class}
 use Rattle.link_rules.specs.Codes.{handshakeOf, pausingBit, busyBit}
 use Rattle.link_rules.specs.Receiver.{newReceiver}
+use Rattle.link_rules.specs.Sender.{newSender}
+use Rattle.link_rules.specs.Senders.{senderIn, sendersBy}
 use Rattle.link_rules.specs.declared.Receiver.{Receiver}
+use Rattle.link_rules.specs.declared.Sender.{Sender}
 use Rattle.rules.specs.Answer.{number}
 use Rattle.rules.specs.declared.Alerts.{Alerts}
 use Rattle.rules.specs.declared.Answer.{Answer}
@@ -83,6 +86,10 @@ receiverIn r i =
 
 abbrev pub receiver : Handler → ℕ → Receiver
 receiver h i = receiverIn (h .links .receivers) i
+
+-- request (xi): line e's sender
+abbrev pub sender : Handler → ℕ → Sender
+sender h e = senderIn (h .links .senders) e
 
 -- request (ix): the ping timer is on
 abbrev pub isOn : Handler → Bool
@@ -159,8 +166,8 @@ withAlertColumn f x a =
 unfoldable pub put {ℓ} : {A : Type ℓ} → ℕ → List A → A → ℕ → A → List A
 put n xs d i v = each n (λ j. cond (eqb j i) v (getD xs j d))
 
--- ── a new handler: all REGWEN and CLR_REGWEN start at 1, all CTRL at 0x393C, every other register at 0, classes Idle, receivers as
--- request (viii) has them at reset ──
+-- ── a new handler: all REGWEN and CLR_REGWEN start at 1, all CTRL at 0x393C, every other register at 0, classes Idle, receivers and
+-- senders as requests (viii) and (xi) have them at reset ──
 
 abbrev pub resetClass : Class
 resetClass =
@@ -190,7 +197,7 @@ unfoldable pub newHandler : ℕ → Handler
 newHandler n =
     record {
       n = n;
-      links = record { receivers = receiversBy (λ i. newReceiver); turn = record { number = 0; alert = 0; count = 0 }; lines = 0 };
+      links = record { receivers = receiversBy (λ i. newReceiver); turn = record { number = 0; alert = 0; count = 0 }; lines = 0; senders = sendersBy (λ e. newSender); right = 0 };
       classes = replicate classCount resetClass;
       alerts = record { regwen = replicate most 1; en = replicate most 0; class = replicate most 0; cause = replicate most 0 };
       locals =

@@ -1,5 +1,7 @@
 // The types of the handler. Its rules, document 01 section by section, are the definitions in specs/.
 use class_rules::Class;
+use link_rules::Meets;
+use link_rules::Senders;
 use link_rules::Turn;
 
 // The most alerts that a handler is made for, and the words of 64 that hold a bit of each.
@@ -51,6 +53,9 @@ pub struct Links {
     // request (ix): the ping timer's turn, and the lines whose ping is open, line 0 at the lowest bit; bits from 4 up are never looked at
     pub turn: Turn,
     pub lines: u32,
+    // request (xi): the lines' senders, and whether all answers to the open ping of the turn's line were right so far, in the lowest bit
+    pub senders: Senders,
+    pub right: u32,
 }
 
 // The ping timer's registers, request (ix): REGWEN, timeout and enable.
@@ -193,13 +198,18 @@ pub struct Wires {
     pub neg: [u64; WORDS],
 }
 
-// What comes in on the wires; request (ix): the entropy word, and the lines whose ping is answered, line 0 at the lowest bit. Bits from 4 up
-// count for nothing.
-#[repr(C)]
+// What comes back from the lines, line 0 at the lowest bit; bits from 4 up count for nothing. Request (xi): the receive pairs' positive and negative wires;
+// request (ix): from older records, whose pairs nobody checks, the lines whose ping is answered.
+pub enum Receive {
+    Pairs(u32, u32),
+    Answers(u32),
+}
+
+// What comes in on the wires, and the entropy word.
 pub struct Sample {
     pub alerts: Wires,
     pub word: u32,
-    pub answers: u32,
+    pub receive: Receive,
 }
 
 pub struct Input {
@@ -237,13 +247,22 @@ pub enum Answer {
     Refused(Refusal),
 }
 
-// Interrupts and lines, class and line 0 at the lowest bits, in 32 bits so that there is no padding; and each alert's acknowledge and ping pair.
+// The lines' pairs, line 0 at the lowest bit.
+#[repr(C)]
+pub struct LinePairs {
+    pub pos: u32,
+    pub neg: u32,
+}
+
+// Interrupts and lines, class and line 0 at the lowest bits, in 32 bits so that there is no padding; each alert's acknowledge and ping pair, and each
+// line's escalation pair.
 #[repr(C)]
 pub struct Output {
     pub interrupts: u32,
     pub lines: u32,
     pub acknowledge: Wires,
     pub ping: Wires,
+    pub escalation: LinePairs,
 }
 
 // A handler that was made, and the signed number that answers.
@@ -263,13 +282,17 @@ pub struct Effects {
     pub begins: bool,
 }
 
-// What step 2 hears in a tick: the links after it, the alerts with an event and those whose open ping is answered, alert i at bit
+// What step 2 hears in a tick: the receivers after it, the alerts with an event and those whose open ping is answered, alert i at bit
 // 63 - i % 64 of word i / 64, and the local alerts that are raised, local 0 at the lowest bit. Which of them are enabled is not looked at.
 pub struct Heard {
-    pub links: Links,
+    pub receivers: Receivers,
     pub events: [u64; WORDS],
     pub answers: [u64; WORDS],
     pub raises: u8,
+    // what the ping timer met, up to what step 5 closes; whether the receive pairs are checked, and the answers to the open ping right up to now
+    pub meets: Meets,
+    pub checked: bool,
+    pub right: bool,
 }
 
 // The state after step 1, the answer, and the effects.

@@ -12,17 +12,17 @@ use Rattle.bits.proofs.IndexLaws.{any-ext}
 use Rattle.bits.proofs.WordLaws.{placeIn-each}
 use Rattle.link_rules.specs.Pair.{equal}
 use Rattle.rules.specs.State.{most, words, localCount}
-use Rattle.rules.specs.Samples.{positive, negative, happened, answered, receiverAfter, alertBroken, pingable, receiverTimed, linesTimed, raised, heard}
+use Rattle.rules.specs.Samples.{positive, negative, happened, answered, receiverAfter, alertBroken, pingable, receiverTimed, lineWrong, raised, heard}
 use Rattle.rules.specs.declared.Effects.{Effects}
 use Rattle.rules.specs.declared.Handler.{Handler}
 use Rattle.rules.specs.declared.Heard.{Heard}
-use Rattle.rules.specs.declared.Links.{Links}
 use Rattle.rules.specs.declared.Sample.{Sample}
 use Rattle.rules.specs.declared.Wires.{Wires}
 use Rattle.events.specs.Noted.{enabledIn}
 use Rattle.events.specs.Gathered.{amongWords}
 use Rattle.samples.specs.Paced.{PacedBy}
 use Rattle.samples.specs.Occurred.{raisedBy}
+use Rattle.samples.specs.declared.pace.Met.{Met}
 use Rattle.samples.specs.declared.pace.Paced.{Paced}
 
 -- the enabled alerts among those that the words of a rule name
@@ -33,15 +33,24 @@ among f ws en n i small h e =
     ∙ ap (λ (t : Bool). t && enabledIn en i) (placeIn-each words (λ j. ltb j n && f j) i (omega arith))
     ∙ and-assoc (ltb i n) (f i) (enabledIn en i)
 
--- these links, events, answers and local alerts
-abbrev hearing : Links → List ℕ → List ℕ → ℕ → Heard
-hearing links events answers raises = record { links = links; events = events; answers = answers; raises = raises }
+-- what is left for the links, events, answers and local alerts
+abbrev hearing : Met → List ℕ → List ℕ → ℕ → Heard
+hearing v events answers raises =
+    record {
+      receivers = v .receivers;
+      events = events;
+      answers = answers;
+      raises = raises;
+      meets = v .meets;
+      checked = v .checked;
+      right = v .right;
+    }
 
 module _ (g : Handler) (x : Sample) (fx : Effects) (r : Paced) (drawn b : Bool) (mask : ℕ) (small : g .n ≤ most)
     (can : drawn ≡ pingable g)
     (paced : PacedBy (g .n) (g .links) (g .timer) (fx .begins) drawn x r)
     (search : b ≡ anyTo (amongWords (r .equal) (g .alerts .en)) (g .n))
-    (raises : mask ≡ bitsOf localCount (raisedBy b (r .«fails_alert») (r .«fails_line») (fx .raises))) where
+    (raises : mask ≡ bitsOf localCount (raisedBy b (r .wrong) (r .«fails_alert») (r .«fails_line») (fx .raises))) where
   abbrev w : Wires
   w = x .alerts
 
@@ -56,8 +65,10 @@ module _ (g : Handler) (x : Sample) (fx : Effects) (r : Paced) (drawn b : Bool) 
   broken : b ≡ anyTo (alertBroken g w) (g .n)
   broken = search ∙ any-ext (amongWords (r .equal) (g .alerts .en)) (alertBroken g w) (g .n) breaks
 
-  pub heard-by : hearing (r .links) (r .events) (r .answers) mask ≡ heard g x fx
-  unfolding heard happened answered receiverAfter receiverTimed linesTimed raised
+  pub heard-by : hearing (r .met) (r .events) (r .answers) mask ≡ heard g x fx
+  unfolding heard happened answered receiverAfter receiverTimed lineWrong raised
   heard-by =
-      λ t. hearing (told .links t) (told .happened t) (told .answered t)
-      ((raises ∙ (λ u. bitsOf localCount (raisedBy (broken u) (told .alert-fails u) (told .line-fails u) (fx .raises)))) t)
+      λ t.
+      hearing (record { receivers = told .receivers t; meets = told .meets t; checked = told .checked t; right = told .right t })
+      (told .happened t) (told .answered t)
+      ((raises ∙ (λ u. bitsOf localCount (raisedBy (broken u) (told .any-wrong u) (told .alert-fails u) (told .line-fails u) (fx .raises)))) t)

@@ -5,6 +5,7 @@ pub mod OneAlert
 pub mod LineMasks
 pub mod ClosedPings
 pub mod Pacing
+pub mod Linking
 pub mod QuietLinks
 pub mod Hearing
 pub mod SampleSteps

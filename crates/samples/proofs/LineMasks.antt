@@ -1,4 +1,4 @@
--- A mask with a bit for each line, as `lines_after` sets and clears one of them.
+-- A mask with a bit for each line, as `lines_after` sets and clears one of them and `ping_mask` makes it.
 -- Assumes nothing.
 use Prim.Native.Nat.{ℕ, zero, suc, _-_, _*_, _/_, _%_, _^_, _<_}
 use mathlib.Core.Path.{_≡_, refl, sym, ap, _∙_}
@@ -12,7 +12,7 @@ use borrow.Author.Tests.{lt-ltb, le-ltb, ne-eqb}
 use Rattle.bits.specs.Bits.{bit}
 use Rattle.bits.proofs.BitLaws.{bit-and, bit-or, bit-none, bit-zero, bit-suc, bit-not, is-bitsOf}
 use Rattle.bits.proofs.FirstLaws.{one-shl}
-use Rattle.samples.specs.Paced.{linesBy}
+use Rattle.samples.specs.Linked.{linesBy}
 
 -- a power of two has one bit
 bit-pow : (e l : ℕ) → bit (2 ^ e) l ≡ eqb l e
@@ -76,3 +76,7 @@ module _ (lines e : ℕ) (small : lines < 2 ^ 32) (h : e < 4) where
 
   pub no-line : (pend : Bool) → lines ≡ linesBy false e pend lines
   no-line pend = is-bitsOf 32 lines _ small (λ l m. in-lines false pend (bit lines l) e l h)
+
+  -- the mask of one line, or of none
+  pub one-mask : (l : ℕ) → bit mark l ≡ eqb l e
+  one-mask = mark-bit

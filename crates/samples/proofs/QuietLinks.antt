@@ -1,4 +1,4 @@
--- The links alone, by the words of what `pace` tells: where none has a place set, no alert has what they tell.
+-- A step 2 of which nothing comes but for the links, by the words of what `pace` tells: where none has a place set, no alert has what they tell.
 -- Assumes nothing.
 use Prim.Native.Nat.{ℕ, zero, suc, _/_, _%_, _-_, _<_}
 use mathlib.Core.Path.{_≡_, refl, sym, ap, _∙_}
@@ -17,7 +17,7 @@ use Rattle.rules.specs.State.{most, words}
 use Rattle.rules.specs.declared.Links.{Links}
 use Rattle.rules.specs.declared.Sample.{Sample}
 use Rattle.rules.specs.declared.Timer.{Timer}
-use Rattle.samples.specs.Linked.{noneSet, LinkedBy}
+use Rattle.samples.specs.Quiet.{noneSet, QuietBy}
 use Rattle.samples.specs.Paced.{asksBy, PacedBy}
 use Rattle.samples.specs.Received.{happensAt, equalAt}
 use Rattle.samples.specs.declared.pace.Paced.{Paced}
@@ -45,27 +45,32 @@ module _ (ws : List ℕ) (e : noneSet ws ≡ true) where
 
 -- ── pings ──
 
--- neither fails
-neither : (a b : Bool) → not (a || b) ≡ true → (a ≡ false) × (b ≡ false)
-neither true b e = absurd (false≢true e)
-neither false true e = absurd (false≢true e)
-neither false false e = (refl, refl)
+-- none of three
+none-of : (a b c : Bool) → not (a || (b || c)) ≡ true → (a ≡ false) × (b ≡ false) × (c ≡ false)
+none-of true b c e = absurd (false≢true e)
+none-of false true c e = absurd (false≢true e)
+none-of false false true e = absurd (false≢true e)
+none-of false false false e = (refl, refl, refl)
 
--- what `pace` tells is what the links alone promise
+-- what `pace` tells is what a quiet step 2 promises
 module _ (n : ℕ) (k : Links) (c : Timer) (pingable : Bool) (s : Sample) (r : Paced) (a b : Bool) (p : PacedBy n k c false pingable s r)
     (y : a ≡ noneSet (r .events)) (z : b ≡ noneSet (r .equal)) where
   abbrev steady : Bool
-  steady = not (r .«fails_alert» || r .«fails_line»)
+  steady = not (r .«fails_alert» || (r .«fails_line» || r .wrong))
 
-  pub linked-by : LinkedBy n k c pingable s (record { links = r .links; quiet = a && (b && steady) })
-  linked-by =
+  none : (a && (b && steady)) ≡ true → (r .«fails_alert» ≡ false) × (r .«fails_line» ≡ false) × (r .wrong ≡ false)
+  none q = none-of (r .«fails_alert») (r .«fails_line») (r .wrong) (and-true b steady (and-true a (b && steady) q .1) .1)
+
+  pub quiet-by : QuietBy n k c pingable s (record { met = r .met; quiet = a && (b && steady) })
+  quiet-by =
       record {
-        links = p .links;
+        leaves = λ t. record { receivers = p .receivers t; meets = p .meets t; checked = p .checked t; right = p .right t };
         no-event =
             λ q i l. rule-none (r .events) (sym y ∙ and-true a (b && steady) q .0) (happensAt n (k .receivers) (asksBy n k c false pingable s) (s .alerts)) (p .happened) i l;
         none-equal =
             λ q i l. rule-none (r .equal) (sym z ∙ and-true b steady (and-true a (b && steady) q .1) .0)
             (equalAt n (k .receivers) (asksBy n k c false pingable s) (s .alerts)) (p .equals) i l;
-        no-alert-fails = λ q. sym (p .alert-fails) ∙ neither (r .«fails_alert») (r .«fails_line») (and-true b steady (and-true a (b && steady) q .1) .1) .0;
-        no-line-fails = λ q. sym (p .line-fails) ∙ neither (r .«fails_alert») (r .«fails_line») (and-true b steady (and-true a (b && steady) q .1) .1) .1;
+        no-alert-fails = λ q. sym (p .alert-fails) ∙ none q .0;
+        no-line-fails = λ q. sym (p .line-fails) ∙ none q .1;
+        none-wrong = λ q. sym (p .any-wrong) ∙ none q .2;
       }

@@ -1,4 +1,4 @@
--- Step 2 where no alert has an event or equal wires, no ping fails and step 1 raises nothing: the links move, and nothing else.
+-- Step 2 where no alert has an event or equal wires, no ping fails, no receive pair is wrong and step 1 raises nothing: the links move, and nothing else.
 -- Assumes nothing.
 use Prim.Native.Nat.{ℕ, _≤_, _<_}
 use mathlib.Core.Path.{_≡_, refl, sym, ap, _∙_}
@@ -6,14 +6,14 @@ use mathlib.Core.Bool.{Bool, true, false, true≢false, not, _&&_}
 use native.Mathlib.Omega.{arith}
 use lib.Dec.{ltb}
 use lib.ListN.{length}
-use Rattle.bits.specs.Index.{each}
+use Rattle.bits.specs.Index.{each, anyTo}
 use Rattle.bits.proofs.BitLaws.{bit-none, is-bitsOf}
 use Rattle.bits.proofs.IndexLaws.{is-each}
 use Rattle.link_rules.specs.Pair.{equal}
+use Rattle.link_rules.specs.Senders.{lineCount}
 use Rattle.link_rules.specs.Timer.{isLine, fails}
 use Rattle.rules.specs.State.{most, localCount, local, alert, withLocals, withAlerts, withLocalColumn, withAlertColumn}
-use Rattle.rules.specs.Samples.{positive, negative, alertEnabled, happened, answered, receiverAfter, alertBroken, pingable, timed, receiverTimed, linesTimed, heard, alertEvent, occurs, marked, sampled, assigned}
-use Rattle.rules.specs.Tick.{linksAfter}
+use Rattle.rules.specs.Samples.{positive, negative, alertEnabled, happened, answered, receiverAfter, alertBroken, pingable, timed, receiverTimed, lineWrong, heard, alertEvent, occurs, marked, sampled, assigned}
 use Rattle.rules.specs.declared.Effects.{Effects}
 use Rattle.rules.specs.declared.Field.{Field}
 use Rattle.rules.specs.declared.Handler.{Handler}
@@ -23,9 +23,11 @@ use Rattle.laws.specs.Quiet.{Silent}
 use Rattle.laws.proofs.Samples.Heard.{unheard}
 use Rattle.laws.proofs.Tick.Quiet.{none-assigned}
 use Rattle.laws.proofs.Samples.Raises.{none-occurs}
-use Rattle.samples.specs.Linked.{LinkedBy}
+use Rattle.samples.specs.Linked.{linkedBy}
+use Rattle.samples.specs.Quiet.{QuietBy}
 use Rattle.samples.specs.Sampled.{SampledBy}
-use Rattle.samples.specs.declared.links.Linked.{Linked}
+use Rattle.samples.specs.declared.links.Quiet.{Quiet}
+use Rattle.samples.specs.declared.pace.Met.{Met}
 
 -- ── the state after step 2 ──
 
@@ -45,7 +47,7 @@ unfailed false line a b = refl
 abbrev pub still : Effects
 still = record { clears = 0; raises = 0; begins = false }
 
-module _ (g : Handler) (x : Sample) (r : Linked) (small : g .n ≤ most) (s : LinkedBy (g .n) (g .links) (g .timer) (pingable g) x r)
+module _ (g : Handler) (x : Sample) (r : Quiet) (small : g .n ≤ most) (s : QuietBy (g .n) (g .links) (g .timer) (pingable g) x r)
     (q : r .quiet ≡ true) where
   abbrev fx : Effects
   fx = still
@@ -58,13 +60,17 @@ module _ (g : Handler) (x : Sample) (r : Linked) (small : g .n ≤ most) (s : Li
   none-broken i l = and-none (ltb i (g .n)) (equal (positive (x .alerts) i) (negative (x .alerts) i)) (alertEnabled g i) (s .none-equal q i l)
 
   none-fails : fails (timed g x fx) (g .links .turn) ≡ false
-  unfolding answered
+  unfolding answered lineWrong
   none-fails = unfailed (fails (timed g x fx) (g .links .turn)) (isLine (g .links .turn)) (s .no-alert-fails q) (s .no-line-fails q)
+
+  none-wrong : anyTo (lineWrong g x) lineCount ≡ false
+  unfolding lineWrong
+  none-wrong = s .none-wrong q
 
   -- nothing comes of what step 2 hears
   silent : Silent g v
   unfolding happened
-  silent = record { alerts = λ i l. unheard g x fx i l (s .no-event q i l); locals = none-occurs g x fx small refl none-fails none-broken }
+  silent = record { alerts = λ i l. unheard g x fx i l (s .no-event q i l); locals = none-occurs g x fx small refl none-fails none-broken none-wrong }
 
   -- no cause is set
   alerts-same : length (g .alerts .cause) ≡ most → g .alerts .cause ≡ each most (λ i. marked (alertEvent g v i) (alert g Field.Cause i))
@@ -84,7 +90,9 @@ module _ (g : Handler) (x : Sample) (r : Linked) (small : g .n ≤ most) (s : Li
         assigns = is-bitsOf 4 0 (assigned g v) (omega arith) (λ j l. bit-none j ∙ sym (none-assigned g v small silent j));
       }
 
-  -- and the links are those of what was heard
-  pub quiet-links : r .links ≡ linksAfter v
-  unfolding heard answered receiverAfter receiverTimed linesTimed
-  quiet-links = s .links
+  -- and what is left for the links is what was heard
+  pub quiet-links : (lit : ℕ)
+      → linkedBy (g .links) (r .met) lit
+      ≡ linkedBy (g .links) (record { receivers = v .receivers; meets = v .meets; checked = v .checked; right = v .right }) lit
+  unfolding heard answered receiverAfter receiverTimed lineWrong
+  quiet-links lit = ap (λ (m : Met). linkedBy (g .links) m lit) (s .leaves)

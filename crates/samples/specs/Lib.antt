@@ -1,5 +1,6 @@
 pub mod Received
 pub mod Paced
+pub mod Quiet
 pub mod Linked
 pub mod Occurred
 pub mod Sampled

@@ -1,28 +1,38 @@
--- What the links alone promise, in a tick that does not start the timer.
+-- Request (xi), the links after a tick, of the parts that they hang on: the links k before it, what step 2 leaves for them, and the lines of step 5.
 -- Assumes nothing.
-use Prim.Native.Nat.{ℕ, _<_}
-use mathlib.Core.Path.{_≡_}
-use mathlib.Core.Bool.{Bool, true, false, _&&_}
-use mathlib.Core.List.{List}
-use lib.Dec.{eqb}
-use lib.ListN.{getD}
-use Rattle.link_rules.specs.Timer.{failsAlert, failsLine}
-use Rattle.rules.specs.State.{most}
+use Prim.Native.Nat.{ℕ}
+use mathlib.Core.Bool.{Bool, cond, _&&_}
+use lib.Dec.{eqb, ltb}
+use Rattle.bits.specs.Bits.{bit, bitsOf, num}
+use Rattle.link_rules.specs.LinePing.{closedByLine, closing}
+use Rattle.link_rules.specs.Pings.{lineAfter}
+use Rattle.link_rules.specs.Senders.{lineCount, senderIn, sentAll}
+use Rattle.link_rules.specs.Timer.{isLine, lineOf, opens, turned}
+use Rattle.link_rules.specs.declared.Drive.{Drive}
+use Rattle.link_rules.specs.declared.Meets.{Meets}
 use Rattle.rules.specs.declared.Links.{Links}
-use Rattle.rules.specs.declared.Sample.{Sample}
-use Rattle.rules.specs.declared.Timer.{Timer}
-use Rattle.samples.specs.Paced.{asksBy, timedBy, linksBy}
-use Rattle.samples.specs.Received.{happensAt, equalAt}
-use Rattle.samples.specs.declared.links.Linked.{Linked}
+use Rattle.samples.specs.declared.pace.Met.{Met}
 
--- no place of the four words is set
-abbrev pub noneSet : List ℕ → Bool
-noneSet ws = eqb (getD ws 0 0) 0 && (eqb (getD ws 1 0) 0 && (eqb (getD ws 2 0) 0 && eqb (getD ws 3 0) 0))
+-- the lines whose ping is open after the tick, where the turn's line e, if it is a line's turn, has its ping open or not
+abbrev pub linesBy : Bool → ℕ → Bool → ℕ → ℕ
+linesBy line e pend lines = bitsOf 32 (λ l. cond (ltb l lineCount) (cond (line && eqb l e) pend (bit lines l)) (bit lines l))
 
--- the links after step 2; where it is quiet no alert has an event, enabled or not, none has equal wires, and no ping fails
-pub record LinkedBy (n : ℕ) (k : Links) (c : Timer) (pingable : Bool) (s : Sample) (r : Linked) : Type 0 where
-  pub links : r .links ≡ linksBy n k c false pingable s
-  pub no-event : r .quiet ≡ true → (i : ℕ) → i < most → happensAt n (k .receivers) (asksBy n k c false pingable s) (s .alerts) i ≡ false
-  pub none-equal : r .quiet ≡ true → (i : ℕ) → i < most → equalAt n (k .receivers) (asksBy n k c false pingable s) (s .alerts) i ≡ false
-  pub no-alert-fails : r .quiet ≡ true → failsAlert (timedBy n k c false pingable s) (k .turn) ≡ false
-  pub no-line-fails : r .quiet ≡ true → failsLine (timedBy n k c false pingable s) (k .turn) ≡ false
+module _ (k : Links) (v : Met) (lit : ℕ) where
+  abbrev pub drivenBy : ℕ → Drive
+  drivenBy e = record { line = bit lit e; ping = opens (v .meets) (k .turn) && (isLine (k .turn) && eqb e (lineOf (k .turn))) }
+
+  abbrev pub closedLine : Bool
+  closedLine = closedByLine (v .checked) (v .meets) (k .turn) (senderIn (k .senders) (lineOf (k .turn))) (drivenBy (lineOf (k .turn)))
+
+  abbrev pub wholeBy : Meets
+  wholeBy = closing closedLine (v .meets)
+
+  abbrev pub linkedBy : Links
+  linkedBy =
+      record {
+        receivers = v .receivers;
+        turn = turned wholeBy (k .turn);
+        lines = bitsOf 32 (λ l. cond (ltb l lineCount) (lineAfter wholeBy (k .turn) (bit (k .lines) l) l) (bit (k .lines) l));
+        senders = sentAll (k .senders) drivenBy;
+        right = num (v .right);
+      }

@@ -40,16 +40,27 @@ pub fn hear(g: Handler, s: Sample, fx: Effects) -> Heard
     let en = g.alerts.en;
     let pingable = is_pingable(n, before.turn.alert, &regwen, &en);
     let paced = pace(n, before, g.timer, fx.begins, pingable, s);
-    let links = paced.links;
+    let met = paced.met;
     let events = paced.events;
     let answers = paced.answers;
     let equal = paced.equal;
     let broken = any_broken(n, &equal, &en);
-    let raises = raise(broken, paced.fails_alert, paced.fails_line, fx.raises);
+    let raises = raise(
+        broken,
+        paced.wrong,
+        paced.fails_alert,
+        paced.fails_line,
+        fx.raises,
+    );
+    let receivers = met.receivers;
+    let meets = met.meets;
     Heard {
-        links,
+        receivers,
         events,
         answers,
         raises,
+        meets,
+        checked: met.checked,
+        right: met.right,
     }
 }

@@ -1,8 +1,10 @@
 // Step 2 of a tick: the samples. First what is heard, then what it does.
 mod receive; // receive.rt: the receivers, 64 alerts at a time
-mod pace; // pace.rt: the ping timer among the receivers and the lines
+mod back; // back.rt: what comes back from the lines
+pub mod pace; // pace.rt: the ping timer among the receivers and the lines
 pub mod hear; // hear.rt: what is heard: receivers, events, local alerts raised
-pub mod links; // links.rt: the links alone
+pub mod links; // links.rt: a step 2 of which nothing comes but for the links
+pub mod link; // link.rt: the links after the tick, by the lines of step 5
 pub mod locals; // locals.rt: the local alerts
 
 use events::gather::gather;

@@ -1,16 +1,17 @@
-// The links alone: all that step 2 moves where no alert has an event or equal wires, no ping fails, and step 1 raises nothing and leaves the
-// timer as it is.
+// What step 2 leaves for the links, where nothing else comes of it: no alert has an event or equal wires, no ping fails, no receive pair is wrong,
+// and step 1 raises nothing and leaves the timer as it is.
+use crate::pace::Met;
 use crate::pace::pace;
 use rules::Links;
 use rules::Sample;
 use rules::Timer;
 use rules::WORDS;
 ghost use mathlib.Core.Path.{_≡_};
-ghost use Rattle.samples.specs.Linked.{noneSet, LinkedBy};
+ghost use Rattle.samples.specs.Quiet.{noneSet, QuietBy};
 
-// The links after step 2, and whether no alert has an event or equal wires and no ping fails.
-pub struct Linked {
-    pub links: Links,
+// What is left for the links, and whether nothing else comes of step 2.
+pub struct Quiet {
+    pub met: Met,
     pub quiet: bool,
 }
 
@@ -23,16 +24,16 @@ fn none_set(w: [u64; WORDS]) -> bool
 
 // The n alerts, their links and the timer's registers meet the sample s; pingable says so of the alert drawn. It reads no column of the alerts,
 // so that a tick without events need not copy one.
-pub fn links_after(n: usize, links: Links, timer: Timer, pingable: bool, s: Sample) -> Linked
-    ensures { λ r. ⌜ LinkedBy n links timer pingable s r ⌝ }
+pub fn hear_quiet(n: usize, links: Links, timer: Timer, pingable: bool, s: Sample) -> Quiet
+    ensures { λ r. ⌜ QuietBy n links timer pingable s r ⌝ }
 {
     let paced = pace(n, links, timer, false, pingable, s);
-    let after = paced.links;
+    let met = paced.met;
     let events = paced.events;
     let equal = paced.equal;
-    let fails = paced.fails_alert | paced.fails_line;
-    Linked {
-        links: after,
+    let fails = paced.fails_alert | (paced.fails_line | paced.wrong);
+    Quiet {
+        met,
         quiet: none_set(events) & (none_set(equal) & !fails),
     }
 }

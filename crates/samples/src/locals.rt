@@ -9,12 +9,12 @@ ghost use Rattle.bits.specs.Bits.{bit, bitsOf, num};
 ghost use Rattle.rules.specs.State.{localCount};
 ghost use Rattle.samples.specs.Occurred.{OccurredAll, amongBits, raisedBy};
 
-// The local alerts that are raised, local 0 at the lowest bit: 0 and 1, alert and escalation ping, by a ping that fails, 2, alert integrity, by
-// equal wires, and those that step 1 raises.
-pub fn raise(broken: bool, alert: bool, line: bool, raises: u8) -> u8
-    ensures { λ r. ⌜ r ≡ bitsOf localCount (raisedBy broken alert line raises) ⌝ }
+// The local alerts that are raised, local 0 at the lowest bit: 0 and 1, alert and escalation ping, by a ping that fails, 2 and 3, alert and escalation
+// integrity, by equal wires and by a wrong receive pair, and those that step 1 raises.
+pub fn raise(broken: bool, wrong: bool, alert: bool, line: bool, raises: u8) -> u8
+    ensures { λ r. ⌜ r ≡ bitsOf localCount (raisedBy broken wrong alert line raises) ⌝ }
 {
-    num(alert) | (2 * num(line) | (4 * num(broken) | raises % 128))
+    num(alert) | (2 * num(line) | (4 * num(broken) | (8 * num(wrong) | raises % 128)))
 }
 
 // The local alerts' causes, and the classes that those that occur are assigned to.

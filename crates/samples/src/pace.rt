@@ -1,19 +1,23 @@
 // Step 2, the ping timer among the receivers and the lines: it asks before the wires are read, and closes what fails.
+use crate::back::is_checked;
+use crate::back::said_answered;
+use crate::back::wrong_lines;
 use crate::receive::receive_all;
 use link_rules::Meets;
 use link_rules::Turn;
 use masks::places::live;
 use rules::Links;
+use rules::Receive;
 use rules::Receivers;
 use rules::Sample;
 use rules::Timer;
 use rules::WORDS;
-use timer::turn::does_end;
+use timer::line::is_answered_by_wires;
+use timer::line::stays_right;
 use timer::turn::does_fail;
 use timer::turn::does_open;
 use timer::turn::is_line;
 use timer::turn::is_open;
-use timer::turn::turn;
 ghost use Prim.Native.Nat.{_<_};
 ghost use mathlib.Core.Path.{_≡_};
 ghost use mathlib.Core.Bool.{cond, _&&_, not};
@@ -23,15 +27,25 @@ ghost use Rattle.bits.specs.Index.{placeIn, wordsBy};
 ghost use Rattle.link_rules.specs.Pings.{pending};
 ghost use Rattle.link_rules.specs.Timer.{isLine, lineOf};
 ghost use Rattle.rules.specs.State.{words, receiverIn};
-ghost use Rattle.samples.specs.Paced.{askWord, closedWord, closedBy, metBy, linesBy, PacedBy};
+ghost use Rattle.samples.specs.Paced.{askWord, closedWord, closedBy, metBy, lineAnswer, BegunBy, PacedBy};
 
-// What the receivers, the lines and the timer tell: the links after it, who had an event, whose open ping was answered, whose wires are
-// equal, and whether an alert's or a line's ping fails.
+// What step 2 leaves for the links: the receivers after it, what the timer met, whether the receive pairs are checked, and whether the answers to
+// the open ping were right up to now.
+pub struct Met {
+    pub receivers: Receivers,
+    pub meets: Meets,
+    pub checked: bool,
+    pub right: bool,
+}
+
+// What the receivers, the lines and the timer tell: what is left for the links, who had an event, whose open ping was answered, whose wires are
+// equal, whether a line's receive pair is wrong, and whether an alert's or a line's ping fails.
 pub struct Paced {
-    pub links: Links,
+    pub met: Met,
     pub events: [u64; WORDS],
     pub answers: [u64; WORDS],
     pub equal: [u64; WORDS],
+    pub wrong: bool,
     pub fails_alert: bool,
     pub fails_line: bool,
 }
@@ -45,7 +59,7 @@ fn is_at(w: [u64; WORDS], i: u8) -> bool
 }
 
 // Line e of a mask, line 0 at the lowest bit.
-fn is_line_set(mask: u32, e: u8) -> bool
+pub fn is_line_set(mask: u32, e: u8) -> bool
     requires { ⌜ e < 4 ⌝ }
     ensures { λ r. ⌜ r ≡ bit mask e ⌝ }
 {
@@ -53,7 +67,7 @@ fn is_line_set(mask: u32, e: u8) -> bool
 }
 
 // The line of a line's turn.
-fn line_of(t: Turn) -> u8
+pub fn line_of(t: Turn) -> u8
     ensures { λ r. ⌜ (r ≡ lineOf t) × (r < 4) ⌝ }
 {
     t.number / 2 % 4
@@ -104,20 +118,6 @@ fn asks_for(opens: bool, line: bool, i: u8) -> [u64; WORDS]
     [a, b, c, d]
 }
 
-// The lines whose ping is open after the tick.
-fn lines_after(lines: u32, line: bool, e: u8, pend: bool) -> u32
-    requires { ⌜ e < 4 ⌝ }
-    ensures { λ r. ⌜ r ≡ linesBy line e pend lines ⌝ }
-{
-    let one: u32 = 1;
-    let mark = one << e;
-    if line {
-        if pend { lines | mark } else { lines & !mark }
-    } else {
-        lines
-    }
-}
-
 // Word v of the open pings without the one that fails.
 fn close_word(n: usize, pends: [u64; WORDS], fails: bool, i: u8, v: usize) -> u64
     requires { ⌜ v < words ⌝ }
@@ -153,7 +153,7 @@ fn closed(n: usize, r: Receivers, fails: bool, i: u8) -> Receivers
     }
 }
 
-// What the timer meets.
+// What the timer meets, before step 5.
 fn meet(c: Timer, begins: bool, pingable: bool, pend: bool, word: u32, answered: bool) -> Meets
     ensures { λ r. ⌜ r ≡ metBy c begins pingable pend word answered ⌝ }
 {
@@ -165,16 +165,48 @@ fn meet(c: Timer, begins: bool, pingable: bool, pend: bool, word: u32, answered:
         pingable,
         pending: pend,
         answered,
+        closed: false,
     }
 }
 
-// The turn's ping is answered: an alert's by a rise that is taken, a line's by the sample.
-fn is_answered(t: Turn, pend: bool, bits: u32, answers: [u64; WORDS]) -> bool
-    ensures { λ r. ⌜ r ≡ cond (isLine t) (pend && bit bits (lineOf t)) (placeIn answers (t .alert)) ⌝ }
+// What the timer meets before the wires are read, and the alert whose ping it asks for.
+pub struct Begun {
+    pub meets: Meets,
+    pub asks: [u64; WORDS],
+}
+
+// Before the wires: the links k of n alerts, the timer's registers c and the entropy word.
+fn begin(n: usize, k: Links, c: Timer, begins: bool, pingable: bool, word: u32) -> Begun
+    ensures { λ r. ⌜ BegunBy n k c begins pingable word r ⌝ }
+{
+    let t = k.turn;
+    let pends = turn_pending(n, k);
+    let meets = meet(c, begins, pingable, pends, word, false);
+    Begun {
+        meets,
+        asks: asks_for(does_open(meets, t), is_line(t), t.alert),
+    }
+}
+
+// The ping of the turn's line is answered: by its receive pair, or as an older record says. wrong has the lines whose pair is wrong.
+fn is_line_answered(m: Meets, t: Turn, right: bool, wrong: u32, back: Receive) -> bool
+    ensures { λ r. ⌜ r ≡ lineAnswer m t right (bit wrong (lineOf t)) back ⌝ }
+{
+    let e = line_of(t);
+    if is_checked(back) {
+        is_answered_by_wires(m, t, right, is_line_set(wrong, e))
+    } else {
+        let said = said_answered(back);
+        is_open(m, t) & is_line_set(said, e)
+    }
+}
+
+// The turn's ping is answered: an alert's by a rise that is taken, a line's as its line tells.
+fn is_answered(t: Turn, line: bool, answers: [u64; WORDS]) -> bool
+    ensures { λ r. ⌜ r ≡ cond (isLine t) line (placeIn answers (t .alert)) ⌝ }
 {
     if is_line(t) {
-        let e = line_of(t);
-        pend & is_line_set(bits, e)
+        line
     } else {
         is_at(answers, t.alert)
     }
@@ -186,31 +218,37 @@ pub fn pace(n: usize, k: Links, c: Timer, begins: bool, pingable: bool, s: Sampl
 {
     let t = k.turn;
     let before = k.receivers;
-    let pends = turn_pending(n, k);
-    let early = meet(c, begins, pingable, pends, s.word, false);
-    let line = is_line(t);
-    let i = alert_of(t);
-    let asks = asks_for(does_open(early, t), line, i);
+    let senders = k.senders;
+    let back = s.receive;
     let wires = s.alerts;
+    let right = k.right % 2 == 1;
+    let begun = begin(n, k, c, begins, pingable, s.word);
+    let early = begun.meets;
+    let asks = begun.asks;
     let received = receive_all(n, before, asks, wires);
     let answers = received.answers;
-    let answered = is_answered(t, is_open(early, t), s.answers, answers);
-    let m = meet(c, begins, pingable, pends, s.word, answered);
-    let fails = does_fail(m, t);
+    let wrong = wrong_lines(senders, back);
+    let told_line = is_line_answered(early, t, right, wrong, back);
+    let answered = is_answered(t, told_line, answers);
+    let meets = meet(c, begins, pingable, early.pending, s.word, answered);
+    let fails = does_fail(meets, t);
+    let line = is_line(t);
+    let i = alert_of(t);
+    let checked = is_checked(back);
+    let told = received.receivers;
     let events = received.events;
     let equal = received.equal;
-    let told = received.receivers;
-    let e = line_of(t);
-    let left = is_open(m, t) & !does_end(m, t);
     Paced {
-        links: Links {
+        met: Met {
             receivers: closed(n, told, fails & !line, i),
-            turn: turn(m, t),
-            lines: lines_after(k.lines, line, e, left),
+            meets,
+            checked,
+            right: stays_right(checked, early, t, right, is_line_set(wrong, line_of(t))),
         },
         events,
         answers,
         equal,
+        wrong: wrong != 0,
         fails_alert: fails & !line,
         fails_line: fails & line,
     }

@@ -8,7 +8,7 @@ use native.Mathlib.Decide.{decLt}
 use borrow.Author.Tests.{eq-eqb, ne-eqb, lt-ltb, le-ltb}
 use lib.Dec.{eqb}
 use lib.ListN.{getD, replicate, getD-replicate, length-replicate}
-use Rattle.bits.specs.Bits.{wordOf}
+use Rattle.bits.specs.Bits.{bitsOf, wordOf}
 use Rattle.bits.specs.Index.{eachFrom, wordsBy}
 use Rattle.bits.proofs.IndexLaws.{or-right}
 use Rattle.class_rules.specs.Class.{noClass}
@@ -50,7 +50,7 @@ unfolding wordOf eachFrom
 no-bits = record { many = refl; each-is = by-phase (λ v. getD (wordsBy 4 (λ i. false)) v 0 ≡ 0) refl refl refl refl }
 
 new : (n : ℕ) → New n (newHandler n)
-unfolding newHandler
+unfolding newHandler bitsOf
 new n =
     record {
       alerts = refl;
@@ -77,6 +77,12 @@ new n =
       turn-alert = refl;
       turn-count = refl;
       line-pings = refl;
+      sender-on = refl;
+      sender-first = refl;
+      sender-last = refl;
+      sender-deep = refl;
+      sender-answer = refl;
+      ping-right = refl;
       staged-local-en = repeated 7 0;
       staged-local-class = repeated 7 0;
       staged-alert-en = repeated 248 0;

@@ -1,23 +1,24 @@
 -- The rules of steps 3 to 5 of the whole handler satisfy the sentences.
 -- Assumes nothing.
-use Prim.Native.Nat.{ℕ, _≤_, _<_}
+use Prim.Native.Nat.{ℕ, _<_}
 use mathlib.Core.Path.{_≡_, refl, sym, ap, subst, _∙_}
 use mathlib.Core.Logic.{_↔_, Iff·rfl}
 use mathlib.Core.Bool.{Bool, true, false, false≢true, and-false, not, _&&_}
 use native.Mathlib.Omega.{arith}
 use borrow.Author.Tests.{lt-ltb, le-ltb}
 use lib.Dec.{ltb}
-use Rattle.bits.specs.Bits.{bit, bitsOf}
+use Rattle.bits.specs.Bits.{bit}
 use Rattle.bits.specs.Index.{anyTo}
-use Rattle.bits.proofs.BitLaws.{bitsOf-lt, bit-bitsOf}
+use Rattle.bits.proofs.BitLaws.{bit-bitsOf}
 use Rattle.bits.proofs.IndexLaws.{true-and, at-each, length-each}
 use Rattle.class_rules.specs.Class.{noClass, drives}
 use Rattle.class_rules.specs.Step.{classStep}
-use Rattle.link_rules.specs.Codes.{handshakeOf}
+use Rattle.link_rules.proofs.CodeLaws.{last-back}
+use Rattle.link_rules.specs.Codes.{handshakeOf, lastBit}
 use Rattle.link_rules.specs.Receiver.{acknowledges}
 use Rattle.rules.specs.Samples.{heard, sampled, assigned}
-use Rattle.rules.specs.State.{classAt, receiver, withLinks}
-use Rattle.rules.specs.Tick.{event, interruptNow, signals, stepped, linksAfter, interrupts, lines, pairs, acknowledgePairs, pingPairs, outputOf}
+use Rattle.rules.specs.State.{classAt, receiver, sender}
+use Rattle.rules.specs.Tick.{event, interruptNow, signals, stepped, interrupts, lines, pairs, linePairs, acknowledgePairs, pingPairs, escalationPairs, outputOf}
 use Rattle.rules.specs.declared.Effects.{Effects}
 use Rattle.rules.specs.declared.Handler.{Handler}
 use Rattle.rules.specs.declared.Sample.{Sample}
@@ -25,25 +26,17 @@ use Rattle.rules.specs.declared.Wires.{Wires}
 use Rattle.laws.proofs.Tick.Pairs.{pairs-at}
 use Rattle.sentences.specs.ClassStep.{Stepped}
 use Rattle.sentences.specs.Outputs.{ClassHasEvent, Meets, ClassesStepped, Outputs}
-use Rattle.sentences.specs.Pairs.{PairsBy, AllLow}
-use Rattle.sentences.specs.Raw.{positive, negative, pausing, busy, level, classOf}
+use Rattle.sentences.specs.Pairs.{PairsBy, AllLow, LinePairsBy}
+use Rattle.sentences.specs.Raw.{positive, negative, pausing, busy, level, pairLast, pairDeep, classOf}
 use Rattle.sentences.specs.Receivers.{Acknowledged}
 use Rattle.sentences.specs.Samples.{RaisesFiveOrNone}
 use Rattle.sentences.specs.Valid.{Valid}
-use Rattle.sentences.proofs.SentenceCases.{off, and-is, or-is, any-is, then}
+use Rattle.sentences.proofs.SentenceCases.{off, same-word, and-is, or-is, any-is, then, up-to-15}
 use Rattle.sentences.proofs.HoldsClass.{holds-class}
 use Rattle.sentences.proofs.HoldsLines.{drives-is}
-use Rattle.sentences.proofs.HoldsSamples.{holds-assigned}
-use Rattle.sentences.proofs.HoldsReceivers.{after2, four-words}
+use Rattle.sentences.proofs.HoldsSamples.{after2, holds-assigned}
+use Rattle.sentences.proofs.HoldsReceivers.{four-words}
 use Rattle.sentences.proofs.SentenceWords.{holds-event}
-
--- a test that is another says what the other says
-same-word : {P : Type 0} {a b : Bool} → a ≡ b → (b ≡ true) ↔ P → (a ≡ true) ↔ P
-same-word {P} e f = subst (λ (t : Bool). (t ≡ true) ↔ P) (sym e) f
-
--- four bits
-up-to-15 : (f : ℕ → Bool) → bitsOf 4 f ≤ 15
-up-to-15 f = omega (arith, bitsOf-lt 4 f)
 
 -- ── step 5 ──
 
@@ -64,6 +57,19 @@ module _ (n : ℕ) (On : ℕ → Type 0) (t : ℕ → Bool) (e : (i : ℕ) → (
         words = record { positives = four-words (λ i. ltb i n && t i); negatives = four-words (λ i. not (ltb i n && t i)) };
       }
 
+-- line e's pair is (1,0) where t says so, and (0,1) elsewhere
+line-pairs-by : (On : ℕ → Type 0) (t : ℕ → Bool) → ((e : ℕ) → (t e ≡ true) ↔ On e) → LinePairsBy On (linePairs t)
+line-pairs-by On t is =
+    record {
+      high = λ e l o. shown e true l (is e .1 o);
+      low = λ e l o. shown e false l (off (t e) (is e) o);
+      positives = up-to-15 t;
+      negatives = up-to-15 (λ e. not (t e));
+    }
+  where
+    shown : (e : ℕ) (b : Bool) → e < 4 → t e ≡ b → (bit (linePairs t .pos) e ≡ b) × (bit (linePairs t .neg) e ≡ not b)
+    shown e b l x = (bit-bitsOf 4 t e l ∙ x, bit-bitsOf 4 (λ e. not (t e)) e l ∙ ap not x)
+
 -- "acknowledged": the bits 0 1
 acknowledged-is : (p b : Bool) → (acknowledges (handshakeOf p b) ≡ true) ↔ ((p ≡ false) × (b ≡ true))
 acknowledged-is false true = (λ _. (refl, refl), λ _. refl)
@@ -72,7 +78,7 @@ acknowledged-is true true = (λ t. absurd (false≢true t), λ d. absurd (false�
 acknowledged-is true false = (λ t. absurd (false≢true t), λ d. absurd (false≢true (d .1)))
 
 pub holds-outputs : Outputs outputOf
-unfolding outputOf interrupts lines acknowledgePairs pingPairs
+unfolding outputOf interrupts lines acknowledgePairs pingPairs escalationPairs
 holds-outputs g h =
     record {
       interrupt = λ k l.
@@ -85,6 +91,9 @@ holds-outputs g h =
       line-bits = up-to-15 _;
       acknowledge = pairs-by (g .n) (Acknowledged g) (λ i. acknowledges (receiver g i .stands)) (λ i. acknowledged-is (pausing g i) (busy g i));
       ping = pairs-by (h .n) (λ i. level h i ≡ true) (level h) (λ i. Iff·rfl);
+      escalation =
+          line-pairs-by (λ e. pairLast h e ≡ true) (λ e. lastBit (sender h e .sound .stands))
+          (λ e. same-word (last-back (pairLast h e) (pairDeep h e)) Iff·rfl);
     }
 
 -- refusal 7
@@ -97,9 +106,9 @@ all-low =
 
 -- ── steps 3 and 4 ──
 
--- the state after step 4, its links those of step 2
+-- the state after step 4
 abbrev pub after4 : Handler → Sample → Effects → Handler
-after4 g s f = withLinks (linksAfter (heard g s f)) (stepped g (heard g s f) f)
+after4 g s f = stepped g (heard g s f) f
 
 module _ (g : Handler) (s : Sample) (f : Effects) (v : Valid g) (r : RaisesFiveOrNone f) where
   event-is : (k : ℕ) → (event g (heard g s f) k ≡ true) ↔ ClassHasEvent g s f (after2 g s f) k

@@ -8,7 +8,7 @@ use native.Mathlib.Decide.{decLt}
 use native.Mathlib.Omega.{arith}
 use borrow.Author.Tests.{lt-ltb, le-ltb}
 use lib.Dec.{eqb, leb, ltb}
-use Rattle.bits.specs.Bits.{bit, wordOf}
+use Rattle.bits.specs.Bits.{wordOf}
 use Rattle.bits.specs.Index.{placeIn, wordsBy}
 use Rattle.bits.proofs.BitLaws.{wordOf-lt}
 use Rattle.bits.proofs.IndexLaws.{at-each, length-each}
@@ -17,12 +17,12 @@ use Rattle.link_rules.proofs.CodeLaws.{pausing-back, busy-back}
 use Rattle.link_rules.specs.Codes.{handshakeOf, pausingBit, busyBit}
 use Rattle.link_rules.specs.Pair.{rises}
 use Rattle.link_rules.specs.Receiver.{isReady, takes, askedFor, standsAfter, received}
-use Rattle.link_rules.specs.Timer.{isLine, lineOf, openNow, age, fails, failsAlert}
+use Rattle.link_rules.specs.Timer.{isLine, openNow, age, fails, failsAlert}
 use Rattle.link_rules.specs.declared.Handshake.{Handshake}
 use Rattle.link_rules.specs.declared.Receiver.{Receiver}
 use Rattle.link_rules.specs.declared.Turn.{Turn}
-use Rattle.rules.specs.Samples.{receivedBy, happened, answered, receiverAfter, turnPending, before, asksFor, turnAnswered, timed, receiverTimed, heard, sampled}
-use Rattle.rules.specs.State.{words, receiver, withLinks}
+use Rattle.rules.specs.Samples.{receivedBy, happened, answered, receiverAfter, turnPending, asksFor, lineAnswered, turnAnswered, timed, receiverTimed, heard}
+use Rattle.rules.specs.State.{words, receiver}
 use Rattle.rules.specs.Tick.{linksAfter}
 use Rattle.rules.specs.declared.Effects.{Effects}
 use Rattle.rules.specs.declared.Handler.{Handler}
@@ -30,12 +30,10 @@ use Rattle.rules.specs.declared.Sample.{Sample}
 use Rattle.sentences.specs.Pairs.{FourWords}
 use Rattle.sentences.specs.Raw.{positive, negative, pausing, busy, level, pending}
 use Rattle.sentences.specs.Receivers.{Taken, PingOpen, Answers, Event, TurnAnswered, Fails, AlertFails, Handshaken, Pinged, Received}
+use Rattle.sentences.proofs.HoldsLinePings.{line-answered-is}
+use Rattle.sentences.proofs.HoldsSenders.{linked}
 use Rattle.sentences.proofs.HoldsTurns.{cond-is, age-is, line-is, alerts-is, turn-open-is, open-now-is, asked-is}
 use Rattle.sentences.proofs.SentenceCases.{off, eq-is, lt-is, not-is, denied, and-is, and-then, or-is, then}
-
--- the state after step 2: what it does to the registers, and the links
-abbrev pub after2 : Handler → Sample → Effects → Handler
-after2 g s f = withLinks (linksAfter (heard g s f)) (sampled g (heard g s f))
 
 -- words that are made place by place
 pub four-words : (f : ℕ → Bool) → FourWords (wordsBy 4 f)
@@ -131,8 +129,8 @@ module _ (g : Handler) (s : Sample) (f : Effects) (m : g .n ≤ 248) where
 
   pub turn-answered-is : (turnAnswered g s f ≡ true) ↔ TurnAnswered g s f
   turn-answered-is =
-      cond-is (isLine t) (openNow (before g s f) t && bit (s .answers) (lineOf t)) (answered g (asksFor g s f) (s .alerts) (t .alert)) (line-is g) (alerts-is g)
-      (and-is (openNow (before g s f) t) (bit (s .answers) (lineOf t)) (open-now-is g s f false) Iff·rfl) (answers-any g s f (t .alert) m)
+      cond-is (isLine t) (lineAnswered g s f) (answered g (asksFor g s f) (s .alerts) (t .alert)) (line-is g) (alerts-is g) (line-answered-is g s f)
+      (answers-any g s f (t .alert) m)
 
   module _ (u : g .timer .timeout ≤ 65535) where
     pub fails-is : (fails (timed g s f) t ≡ true) ↔ Fails g s f
@@ -152,26 +150,26 @@ module _ (g : Handler) (s : Sample) (f : Effects) (m : g .n ≤ 248) where
         let e = and-is (failsAlert (timed g s f) t) (eqb i (t .alert)) (and-is (fails (timed g s f) t) (not (isLine t)) fails-is (alerts-is g)) (eq-is i (t .alert)) in
         then e (λ d. (d .0 .0, (d .0 .1, d .1)), λ d. ((d .0, d .1 .0), d .1 .1))
 
--- ── the receivers after step 2 ──
+-- ── the receivers after the tick, whatever the lines of step 5 and the state after step 4 are ──
 
-module _ (g : Handler) (s : Sample) (f : Effects) (m : g .n ≤ 248) (u : g .timer .timeout ≤ 65535) where
+module _ (g : Handler) (s : Sample) (f : Effects) (lit : ℕ) (z : Handler) (m : g .n ≤ 248) (u : g .timer .timeout ≤ 65535) where
   abbrev h : Handler
-  h = after2 g s f
+  h = linked g s f lit z
 
   abbrev next : ℕ → Receiver
   next i = receiverAfter g (asksFor g s f) (s .alerts) i
 
   -- every bit of the four words
   pausing-at : (i : ℕ) → i < 256 → pausing h i ≡ pausingBit (next i .stands)
-  unfolding heard receiverTimed
+  unfolding heard linksAfter receiverTimed
   pausing-at i l = placeIn-each words (λ j. pausingBit (next j .stands)) i l
 
   busy-at : (i : ℕ) → i < 256 → busy h i ≡ busyBit (next i .stands)
-  unfolding heard receiverTimed
+  unfolding heard linksAfter receiverTimed
   busy-at i l = placeIn-each words (λ j. busyBit (next j .stands)) i l
 
   level-at : (i : ℕ) → i < 256 → level h i ≡ next i .level
-  unfolding heard receiverTimed
+  unfolding heard linksAfter receiverTimed
   level-at i l = placeIn-each words (λ j. next j .level) i l
 
   -- its ping fails
@@ -179,7 +177,7 @@ module _ (g : Handler) (s : Sample) (f : Effects) (m : g .n ≤ 248) (u : g .tim
   failing i = failsAlert (timed g s f) (g .links .turn) && eqb i (g .links .turn .alert)
 
   pending-at : (i : ℕ) → i < 256 → pending h i ≡ (next i .pending && not (ltb i (g .n) && failing i))
-  unfolding heard receiverTimed
+  unfolding heard linksAfter receiverTimed
   pending-at i l = placeIn-each words (λ j. next j .pending && not (ltb j (g .n) && failing j)) i l
 
   next-above : (i : ℕ) → g .n ≤ i → next i ≡ receiver g i
@@ -273,7 +271,7 @@ module _ (g : Handler) (s : Sample) (f : Effects) (m : g .n ≤ 248) (u : g .tim
       while-open i l false x y = level-below i l false true x y
 
   pub holds-receivers : Received g s f h
-  unfolding heard receiverTimed
+  unfolding heard linksAfter receiverTimed
   holds-receivers =
       record {
         handshake = handshakes;

@@ -1,9 +1,9 @@
 -- The rules of step 2 satisfy the sentences.
 -- Assumes nothing.
 use Prim.Native.Nat.{ℕ, zero, suc, _≤_, _<_}
-use mathlib.Core.Path.{_≡_, refl, sym, ap, subst, _∙_}
+use mathlib.Core.Path.{_≡_, refl, sym, ap, _∙_, subst}
 use mathlib.Core.Logic.{_↔_, _⊎_, ⊎-elim}
-use mathlib.Core.Bool.{Bool, true, false, false≢true, not, _&&_}
+use mathlib.Core.Bool.{Bool, true, false≢true, not, _&&_}
 use native.Mathlib.Decide.{decLt}
 use native.Mathlib.Omega.{arith}
 use lib.Dec.{eqb, ltb}
@@ -13,7 +13,7 @@ use Rattle.bits.proofs.BitLaws.{bit-none}
 use Rattle.bits.proofs.IndexLaws.{and-true, length-each}
 use Rattle.link_rules.specs.Pair.{equal}
 use Rattle.link_rules.specs.Timer.{isLine, fails, failsAlert, failsLine}
-use Rattle.rules.specs.Samples.{alertBroken, timed, raised, heard, alertEvent, occurs, sampled, assigned}
+use Rattle.rules.specs.Samples.{alertBroken, lineWrong, timed, raised, heard, alertEvent, occurs, sampled, assigned}
 use Rattle.rules.specs.State.{local, alert}
 use Rattle.rules.specs.declared.Effects.{Effects}
 use Rattle.rules.specs.declared.Field.{Field}
@@ -24,21 +24,19 @@ use Rattle.laws.proofs.Samples.Heard.{heard-event, heard-answer, heard-raise}
 use Rattle.sentences.specs.Pairs.{Equal}
 use Rattle.sentences.specs.Raw.{positive, negative}
 use Rattle.sentences.specs.Receivers.{Answers, Event, Fails}
-use Rattle.sentences.specs.Samples.{AlertEnabled, EqualWires, DifferingWrite, RaisesFiveOrNone, Occurs, Sampled, SampleStep, EventIs, AnswersIs, AlertEventIs, OccursIs, AssignedIs}
+use Rattle.sentences.specs.Samples.{AlertEnabled, EqualWires, WrongPairs, DifferingWrite, RaisesFiveOrNone, Occurs, Sampled, SampleStep, EventIs, AnswersIs, AlertEventIs, OccursIs, AssignedIs}
 use Rattle.sentences.specs.Turns.{AlertsTurn, LinesTurn}
 use Rattle.sentences.specs.Valid.{Valid}
-use Rattle.sentences.proofs.HoldsReceivers.{after2, event-is, answers-is, fails-is, holds-receivers}
-use Rattle.sentences.proofs.HoldsTimer.{holds-timer}
+use Rattle.sentences.proofs.HoldsReceivers.{event-is, answers-is, fails-is}
+use Rattle.sentences.proofs.HoldsSenders.{equal-is, wrong-is}
 use Rattle.sentences.proofs.HoldsTurns.{line-is, alerts-is}
 use Rattle.sentences.proofs.SentenceCases.{off, eq-is, lt-is, and-is, or-is, any-is, then}
 
--- ── equal wires ──
+-- the state after step 2
+abbrev pub after2 : Handler → Sample → Effects → Handler
+after2 g s f = sampled g (heard g s f)
 
-equal-is : (p m : Bool) → (equal p m ≡ true) ↔ (p ≡ m)
-equal-is true true = (λ _. refl, λ _. refl)
-equal-is true false = (λ t. absurd (false≢true t), λ e. absurd (false≢true (sym e)))
-equal-is false true = (λ t. absurd (false≢true t), λ e. absurd (false≢true e))
-equal-is false false = (λ _. refl, λ _. refl)
+-- ── equal wires ──
 
 module _ (g : Handler) (s : Sample) where
   broken-is : (i : ℕ) → (alertBroken g (s .alerts) i ≡ true) ↔ ((i < g .n) × (AlertEnabled g i × Equal (s .alerts) i))
@@ -54,6 +52,12 @@ module _ (g : Handler) (s : Sample) where
   equal-wires-is =
       let e = any-is _ (alertBroken g (s .alerts)) (g .n) (λ i l. broken-is i) in
       (λ t. let d = e .0 t in (d .0, d .1, d .2 .1 .0, d .2 .1 .1), λ d. e .1 (d .0, d .1, (d .1, (d .2, d .3))))
+
+  -- ── receive pairs ──
+
+  wrong-pairs-is : (anyTo (lineWrong g s) 4 ≡ true) ↔ WrongPairs g s
+  unfolding lineWrong
+  wrong-pairs-is = any-is _ (lineWrong g s) 4 (λ e l. wrong-is g (s .receive) e)
 
 -- ── one alert: below N its bit of what is heard ──
 
@@ -114,7 +118,8 @@ raised-by f j r h = (λ t. let e : j ≡ 5 = is-five t in (e, ap (bit (f .raises
 -- what raises local alert j
 abbrev Raised : Handler → Sample → Effects → ℕ → Type 0
 Raised g s f j =
-    ((j ≡ 0) × (Fails g s f × AlertsTurn g)) ⊎ (((j ≡ 1) × (Fails g s f × LinesTurn g)) ⊎ (((j ≡ 2) × EqualWires g s) ⊎ ((j ≡ 5) × DifferingWrite f)))
+    ((j ≡ 0) × (Fails g s f × AlertsTurn g))
+    ⊎ (((j ≡ 1) × (Fails g s f × LinesTurn g)) ⊎ (((j ≡ 2) × EqualWires g s) ⊎ (((j ≡ 3) × WrongPairs g s) ⊎ ((j ≡ 5) × DifferingWrite f))))
 
 raised-is : (g : Handler) (s : Sample) (f : Effects) (j : ℕ) → g .n ≤ 248 → g .timer .timeout ≤ 65535 → RaisesFiveOrNone f → j < 7 → (raised g s f j ≡ true) ↔ Raised g s f j
 unfolding raised
@@ -126,8 +131,10 @@ raised-is g s f j n fits r h =
     (and-is (eqb j 0) (failsAlert m t) (eq-is j 0) (and-is (fails m t) (not (isLine t)) e (alerts-is g)))
     (or-is (eqb j 1 && failsLine m t) _
     (and-is (eqb j 1) (failsLine m t) (eq-is j 1) (and-is (fails m t) (isLine t) e (line-is g)))
-    (or-is (eqb j 2 && anyTo (alertBroken g (s .alerts)) (g .n)) (bit (f .raises) j)
-    (and-is (eqb j 2) (anyTo (alertBroken g (s .alerts)) (g .n)) (eq-is j 2) (equal-wires-is g s)) (raised-by f j r h)))
+    (or-is (eqb j 2 && anyTo (alertBroken g (s .alerts)) (g .n)) _
+    (and-is (eqb j 2) (anyTo (alertBroken g (s .alerts)) (g .n)) (eq-is j 2) (equal-wires-is g s))
+    (or-is (eqb j 3 && anyTo (lineWrong g s) 4) (bit (f .raises) j)
+    (and-is (eqb j 3) (anyTo (lineWrong g s) 4) (eq-is j 3) (wrong-pairs-is g s)) (raised-by f j r h))))
 
 pub holds-occurs : OccursIs (λ g s f. occurs g (heard g s f))
 unfolding occurs
@@ -153,13 +160,11 @@ holds-assigned g s f k n fits r =
 
 module _ (g : Handler) (s : Sample) (f : Effects) (v : Valid g) (r : RaisesFiveOrNone f) where
   samples-hold : Sampled g s f (after2 g s f)
-  unfolding sampled heard
+  unfolding sampled
   samples-hold =
       let on-event : (i : ℕ) → Event g s f i → AlertEnabled g i → alertEvent g (heard g s f) i ≡ true = λ i e n. holds-alert-event g s f i (v .n) .1 (e, n) in
       let on-local : (j : ℕ) → j < 7 → Occurs g s f j → occurs g (heard g s f) j ≡ true = λ j l o. holds-occurs g s f j (v .n) (v .ping-timeout) r l .1 o in
       record {
-        receivers = holds-receivers g s f (v .n) (v .ping-timeout);
-        timer-turn = holds-timer g s f (v .n) (v .ping-timeout);
         cause-sets = λ i e n. let b : i < 248 = omega (arith, v .n, e .0 .0) in alert-sampled g (heard g s f) Field.Cause i b ∙ simp (on-event i e n);
         cause-stays = λ i b n. alert-sampled g (heard g s f) Field.Cause i b ∙ simp (off (alertEvent g (heard g s f) i) (holds-alert-event g s f i (v .n)) n);
         cause-entries = length-each 248 _;
@@ -167,6 +172,7 @@ module _ (g : Handler) (s : Sample) (f : Effects) (v : Valid g) (r : RaisesFiveO
         local-stays = λ j l n. local-sampled g (heard g s f) Field.Cause j l ∙ simp (off (occurs g (heard g s f) j) (holds-occurs g s f j (v .n) (v .ping-timeout) r l) n);
         local-entries = length-each 7 _;
         n = refl;
+        links = refl;
         alert-regwen = refl;
         alert-en = refl;
         alert-class = refl;

@@ -1,15 +1,16 @@
 -- The rule of the whole tick satisfies the sentences: each step on its state, and refusal 7.
 -- Assumes nothing.
 use Prim.Native.Nat.{ℕ}
-use mathlib.Core.Path.{_≡_, refl, sym, ap, ap₂, subst}
+use mathlib.Core.Path.{_≡_, refl, sym, ap, ap₂, _∙_, subst}
 use mathlib.Core.Logic.{_⊎_, inl, inr}
-use mathlib.Core.Bool.{false, _&&_}
+use mathlib.Core.Bool.{true, false, _&&_}
 use lib.Dec.{eqb, ltb}
+use Rattle.bits.specs.Bits.{bitsOf}
 use Rattle.link_rules.specs.Receiver.{acknowledges}
 use Rattle.rules.specs.Access.{verdict, accessedBy, accessed, acted, answerTo, effects}
 use Rattle.rules.specs.Answer.{refusalNumber, number}
 use Rattle.rules.specs.State.{receiverIn}
-use Rattle.rules.specs.Tick.{interrupts, lines, pairs, acknowledgePairs, pingPairs, outputOf, hears, after, tick, ticked}
+use Rattle.rules.specs.Tick.{interrupts, lines, pairs, acknowledgePairs, pingPairs, escalationPairs, outputOf, hears, reached, after, tick, ticked}
 use Rattle.rules.specs.Valid.{valid}
 use Rattle.rules.specs.declared.Access.{Access}
 use Rattle.rules.specs.declared.Handler.{Handler}
@@ -23,6 +24,7 @@ use Rattle.laws.proofs.Samples.Receivers.{acted-links}
 use Rattle.laws.proofs.Valid.KeepsAccess.{acted-valid}
 use Rattle.laws.proofs.Valid.KeepsValid.{ticked-valid}
 use Rattle.laws.proofs.Valid.Refusal7.{ticked-good, ticked-bad}
+use Rattle.sentences.specs.Links.{Linked}
 use Rattle.sentences.specs.Numbers.{Numbers}
 use Rattle.sentences.specs.Outputs.{OutputOf}
 use Rattle.sentences.specs.Pairs.{AllLow}
@@ -30,9 +32,9 @@ use Rattle.sentences.specs.Samples.{RaisesFiveOrNone}
 use Rattle.sentences.specs.Tick.{Runs, Refused7, Tick, Step1}
 use Rattle.sentences.specs.Valid.{Valid}
 use Rattle.sentences.proofs.SentenceCases.{off}
-use Rattle.sentences.proofs.HoldsOutputs.{holds-outputs, all-low, holds-classes}
-use Rattle.sentences.proofs.HoldsReceivers.{after2}
-use Rattle.sentences.proofs.HoldsSamples.{holds-samples}
+use Rattle.sentences.proofs.HoldsOutputs.{holds-outputs, all-low, after4, holds-classes}
+use Rattle.sentences.proofs.HoldsLinks.{holds-links}
+use Rattle.sentences.proofs.HoldsSamples.{after2, holds-samples}
 use Rattle.sentences.proofs.HoldsValid.{holds-valid}
 
 -- ── step 1 ──
@@ -51,6 +53,15 @@ holds-step1 =
 
 -- ── the tick ──
 
+-- refusal 7's escalation pairs
+none-on : bitsOf 4 (λ e. false) ≡ 0
+unfolding bitsOf
+none-on = refl
+
+all-off : bitsOf 4 (λ e. true) ≡ 15
+unfolding bitsOf
+all-off = refl
+
 module _ (h : Handler) (x : Input) where
   -- step 1 leaves N and the receivers, and so the acknowledge pairs
   same-output : outputOf h (after h x) ≡ outputOf (acted h (x .access)) (after h x)
@@ -61,7 +72,13 @@ module _ (h : Handler) (x : Input) where
         lines = lines (after h x);
         acknowledge = pairs (λ i. ltb i n && acknowledges (receiverIn (z .receivers) i .stands));
         ping = pingPairs (after h x);
+        escalation = escalationPairs (after h x);
       }) (sym (acted-n h (x .access))) (sym (acted-links h (x .access)))
+
+  -- the lines of step 5 read no link
+  same-lines : lines (reached h x) ≡ outputOf h (after h x) .lines
+  unfolding outputOf lines after
+  same-lines = refl
 
   runs-tick : Valid h → Runs (accessed h (x .access)) (x .sample) (tick h x)
   unfolding tick hears after acted effects answerTo
@@ -72,7 +89,11 @@ module _ (h : Handler) (x : Input) where
       record {
         state2 = after2 (a .handler) (x .sample) (a .effects);
         step2 = holds-samples (a .handler) (x .sample) (a .effects) u r;
+        state4 = after4 (a .handler) (x .sample) (a .effects);
         steps34 = holds-classes (a .handler) (x .sample) (a .effects) u r;
+        links =
+            subst (λ (lit : ℕ). Linked (a .handler) (x .sample) (a .effects) lit (reached h x) (after h x)) same-lines
+            (holds-links (a .handler) (x .sample) (a .effects) (lines (reached h x)) (reached h x) u);
         step5 = subst (OutputOf (a .handler) (after h x)) (sym same-output) (holds-outputs (a .handler) (after h x));
         answer = refl;
       }
@@ -86,6 +107,8 @@ module _ (h : Handler) (x : Input) where
         lines = ap (λ (t : Ticked). t .output .lines) t;
         acknowledge = subst (λ (t : Ticked). AllLow (t .output .acknowledge)) (sym t) all-low;
         ping = subst (λ (t : Ticked). AllLow (t .output .ping)) (sym t) all-low;
+        escalation-positive = ap (λ (t : Ticked). t .output .escalation .pos) t ∙ none-on;
+        escalation-negative = ap (λ (t : Ticked). t .output .escalation .neg) t ∙ all-off;
         answer = ap (λ (t : Ticked). t .answer) t;
       }
 

@@ -56,6 +56,14 @@ same-new n h k a b = λ i.
           count = (a .turn-count ∙ sym (b .turn-count)) i;
         };
         lines = (a .line-pings ∙ sym (b .line-pings)) i;
+        senders = record {
+          on = (a .sender-on ∙ sym (b .sender-on)) i;
+          first = (a .sender-first ∙ sym (b .sender-first)) i;
+          last = (a .sender-last ∙ sym (b .sender-last)) i;
+          deep = (a .sender-deep ∙ sym (b .sender-deep)) i;
+          answer = (a .sender-answer ∙ sym (b .sender-answer)) i;
+        };
+        right = (a .ping-right ∙ sym (b .ping-right)) i;
       };
       timer = record {
         timeout = (a .ping-timeout ∙ sym (b .ping-timeout)) i;

@@ -1,15 +1,13 @@
 -- No sentence of steps 3 to 5, of the tick and of its answers' numbers is missing: whatever satisfies them gives one result. Nothing here knows
 -- the rules' definitions, but for the test that tells whether refusal 7 meets a state.
 -- Assumes nothing.
-use Prim.Native.Nat.{ℕ, _≤_, _<_}
-use mathlib.Core.Path.{_≡_, refl, sym, _∙_, subst}
+use Prim.Native.Nat.{ℕ, _<_}
+use mathlib.Core.Path.{_≡_, refl, sym, ap, _∙_, subst}
 use mathlib.Core.Logic.{_↔_}
 use mathlib.Core.Bool.{Bool, true, false, false≢true}
-use native.Mathlib.Omega.{arith}
 use lib.IntN.{ℤ}
 use lib.ListN.{getD}
 use Rattle.bits.specs.Bits.{bit}
-use Rattle.bits.proofs.BitLaws.{bit-ext}
 use Rattle.class_rules.specs.declared.Signals.{Signals}
 use Rattle.rules.specs.Valid.{valid}
 use Rattle.rules.specs.declared.Access.{Access}
@@ -25,21 +23,20 @@ use Rattle.rules.specs.declared.Sample.{Sample}
 use Rattle.rules.specs.declared.Ticked.{Ticked}
 use Rattle.sentences.specs.ClassStep.{Stepped}
 use Rattle.sentences.specs.Fits.{Fits}
+use Rattle.sentences.specs.Lines.{DrivesLine}
+use Rattle.sentences.specs.Links.{Linked}
 use Rattle.sentences.specs.Numbers.{Numbers}
 use Rattle.sentences.specs.Outputs.{ClassesStepped, OutputOf, Outputs}
-use Rattle.sentences.specs.Raw.{level, noClass, classOf}
+use Rattle.sentences.specs.Raw.{level, pairLast, noClass, classOf}
 use Rattle.sentences.specs.Receivers.{Acknowledged}
 use Rattle.sentences.specs.Tick.{Runs, Refused7, Tick, Step1}
 use Rattle.sentences.specs.Valid.{Valid}
 use Rattle.sentences.proofs.SentenceCases.{same-test}
 use Rattle.sentences.proofs.HoldsValid.{holds-valid}
 use Rattle.sentences.proofs.OnlyClass.{same-class}
-use Rattle.sentences.proofs.OnlyPairs.{same-pairs-by, same-low}
-use Rattle.sentences.proofs.OnlySamples.{same-list, same-sampled}
-
--- two numbers of four bits
-same-bits : (a b : ℕ) → a ≤ 15 → b ≤ 15 → ((k : ℕ) → k < 4 → bit a k ≡ bit b k) → a ≡ b
-same-bits a b l m e = bit-ext 4 a b (omega arith) (omega arith) e
+use Rattle.sentences.proofs.OnlyLinks.{same-linked}
+use Rattle.sentences.proofs.OnlyPairs.{same-pairs-by, same-low, same-line-pairs}
+use Rattle.sentences.proofs.OnlySamples.{same-bits, same-list, same-sampled}
 
 -- ── step 5 ──
 
@@ -54,6 +51,7 @@ same-output g h o p a b = λ i.
           (λ e l. same-test (bit (o .lines) e) (bit (p .lines) e) (a .line e l) (b .line e l)) i;
       acknowledge = same-pairs-by (g .n) (Acknowledged g) (o .acknowledge) (p .acknowledge) (a .acknowledge) (b .acknowledge) i;
       ping = same-pairs-by (h .n) (λ i. level h i ≡ true) (o .ping) (p .ping) (a .ping) (b .ping) i;
+      escalation = same-line-pairs (λ e. pairLast h e ≡ true) (o .escalation) (p .escalation) (a .escalation) (b .escalation) i;
     }
 
 pub only-outputs : (f k : Handler → Handler → Output) → Outputs f → Outputs k → (g h : Handler) → f g h ≡ k g h
@@ -107,10 +105,24 @@ module _ (a : Accessed) (s : Sample) (t u : Ticked) (v : Valid (a .handler)) (x 
       subst (λ cs. Fits (getD cs j noClass))
       (sym (x .step2 .classes)) (v .classes j l)
 
+  same-state4 : x .state4 ≡ y .state4
+  same-state4 =
+      same-stepped (a .handler) s (a .effects) (x .state2) (x .state4) (y .state4) fit2 (x .steps34)
+      (subst (λ (m : Handler). ClassesStepped (a .handler) s (a .effects) m (y .state4)) (sym same-state2) (y .steps34))
+
+  -- the lines go by the classes, which are those of step 4
+  same-lines : u .output .lines ≡ t .output .lines
+  same-lines =
+      let c : u .handler .classes ≡ t .handler .classes = y .links .classes ∙ sym (ap (λ (m : Handler). m .classes) same-state4) ∙ sym (x .links .classes) in
+      same-bits (u .output .lines) (t .output .lines) (y .step5 .line-bits) (x .step5 .line-bits) (λ e l.
+      same-test (bit (u .output .lines) e) (bit (t .output .lines) e)
+      (subst (λ cs. (bit (u .output .lines) e ≡ true) ↔ ((k : ℕ) × (k < 4) × DrivesLine (getD cs k noClass) e)) c (y .step5 .line e l)) (x .step5 .line e l))
+
   same-handler : t .handler ≡ u .handler
   same-handler =
-      same-stepped (a .handler) s (a .effects) (x .state2) (t .handler) (u .handler) fit2 (x .steps34)
-      (subst (λ (m : Handler). ClassesStepped (a .handler) s (a .effects) m (u .handler)) (sym same-state2) (y .steps34))
+      same-linked (a .handler) s (a .effects) (t .output .lines) (x .state4) (t .handler) (u .handler) (x .links)
+      (subst (λ (m : Handler). Linked (a .handler) s (a .effects) (t .output .lines) m (u .handler)) (sym same-state4)
+      (subst (λ (lit : ℕ). Linked (a .handler) s (a .effects) lit (y .state4) (u .handler)) same-lines (y .links)))
 
   pub same-ticked : t ≡ u
   same-ticked = λ i.
@@ -133,6 +145,10 @@ same-refused h t u x y = λ i.
         lines = (x .lines ∙ sym (y .lines)) i;
         acknowledge = same-low (t .output .acknowledge) (u .output .acknowledge) (x .acknowledge) (y .acknowledge) i;
         ping = same-low (t .output .ping) (u .output .ping) (x .ping) (y .ping) i;
+        escalation = record {
+          pos = (x .escalation-positive ∙ sym (y .escalation-positive)) i;
+          neg = (x .escalation-negative ∙ sym (y .escalation-negative)) i;
+        };
       };
     }
 

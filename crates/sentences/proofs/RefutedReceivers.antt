@@ -21,8 +21,8 @@ use Rattle.link_rules.specs.declared.Given.{Given}
 use Rattle.link_rules.specs.declared.Handshake.{Handshake}
 use Rattle.link_rules.specs.declared.Handshake.the-variants.{Ready, Acknowledged, FirstPause, SecondPause}
 use Rattle.link_rules.specs.declared.Receiver.{Receiver}
-use Rattle.rules.specs.Samples.{givenTo, happened, receiverAfter, before, asksFor, timed, receiverTimed, heard, alertEvent, sampled}
-use Rattle.rules.specs.State.{words, alert, receiver, receiversBy, newHandler, withAlerts, withLinks, withTimer}
+use Rattle.rules.specs.Samples.{atRest, givenTo, happened, receiverAfter, before, asksFor, timed, receiverTimed, heard, alertEvent, sampled}
+use Rattle.rules.specs.State.{words, alert, receiver, newHandler, withAlerts, withTimer}
 use Rattle.rules.specs.Tick.{linksAfter}
 use Rattle.rules.specs.declared.Effects.{Effects}
 use Rattle.rules.specs.declared.Field.{Field}
@@ -32,11 +32,15 @@ use Rattle.rules.specs.declared.Sample.{Sample}
 use Rattle.rules.proofs.Scenes.{rules, settings, zeros, station}
 use Rattle.laws.proofs.Samples.Heard.{receiver-by, heard-receiver, heard-event, heard-above}
 use Rattle.laws.proofs.State.StateLaws.{alert-sampled}
+use Rattle.sentences.specs.Links.{LinkStep}
 use Rattle.sentences.specs.Samples.{SampleStep}
 use Rattle.sentences.specs.Valid.{Valid}
-use Rattle.sentences.proofs.HoldsReceivers.{after2}
-use Rattle.sentences.proofs.HoldsSamples.{holds-samples}
+use Rattle.sentences.proofs.HoldsLinks.{holds-links}
+use Rattle.sentences.proofs.HoldsSamples.{after2, holds-samples}
+use Rattle.sentences.proofs.HoldsSenders.{linked}
 use Rattle.sentences.proofs.HoldsValid.{holds-valid}
+use Rattle.sentences.proofs.LinkParts.{withReceivers, withTurn}
+use Rattle.sentences.proofs.OnlyLinks.{only-links}
 use Rattle.sentences.proofs.OnlySamples.{only-samples}
 
 -- ── a handler of one alert, locked and enabled, whose ping timer is on, in that alert's turn, and a sample; the receivers and wires of all places are
@@ -46,9 +50,9 @@ use Rattle.sentences.proofs.OnlySamples.{only-samples}
 abbrev pub timing : ℕ → Receiver → Handler
 timing c t =
     withTimer (record { timeout = 0; regwen = 1; enable = 1 })
-    (withLinks (record { receivers = receiversBy (λ i. t); turn = record { number = 0; alert = 0; count = c }; lines = 0 })
+    (withReceivers (λ i. t) (withTurn (record { number = 0; alert = 0; count = c })
     (withAlerts (record { regwen = replicate 248 0; en = replicate 248 1; class = replicate 248 0; cause = replicate 248 0 })
-    (station 1 (replicate 248 1) (replicate 248 0) 0 (settings 5 0 0 zeros))))
+    (station 1 (replicate 248 1) (replicate 248 0) 0 (settings 5 0 0 zeros)))))
 
 -- no ping is due
 abbrev pub standing : Receiver → Handler
@@ -56,7 +60,7 @@ standing t = timing 5 t
 
 -- the wires of x; what it asks is the timer's to say
 abbrev sampleOf : Given → Sample
-sampleOf x = record { alerts = record { pos = wordsBy words (λ i. x .pos); neg = wordsBy words (λ i. x .neg) }; word = 0; answers = 0 }
+sampleOf x = record { alerts = record { pos = wordsBy words (λ i. x .pos); neg = wordsBy words (λ i. x .neg) }; word = 0; receive = atRest .receive }
 
 abbrev handsOn : Effects
 handsOn = record { clears = 0; raises = 0; begins = false }
@@ -97,15 +101,17 @@ unfailed c t x =
 
 -- ── receivers that stand, or whose pings are, elsewhere after a tick: r makes one of what it is given ──
 
-abbrev withReceivers : (ℕ → Receiver) → Handler → Handler
-withReceivers f h = withLinks (record { receivers = receiversBy f; turn = h .links .turn; lines = h .links .lines }) h
+abbrev movedBy : (Given → Receiver → Receiver) → Handler → Sample → Effects → ℕ → Handler → Handler
+movedBy r g s f lit m =
+    withReceivers (λ i. cond (ltb i (g .n)) (r (givenTo (asksFor g s f) (s .alerts) i) (receiver g i)) (receiver g i)) (linked g s f lit m)
 
-abbrev movedBy : (Given → Receiver → Receiver) → Handler → Sample → Effects → Handler
-movedBy r g s f = withReceivers (λ i. cond (ltb i (g .n)) (r (givenTo (asksFor g s f) (s .alerts) i) (receiver g i)) (receiver g i)) (after2 g s f)
+-- the links after a tick without a line
+abbrev now : Handler → Sample → Handler
+now g s = linked g s handsOn 0 g
 
 -- what the rules make of it
-ruled : (c : ℕ) (t : Receiver) (x : Given) → Asks c t x 0 → receiver (after2 (timing c t) (sampleOf x) handsOn) 0 ≡ received x t .receiver
-unfolding receiverTimed receiverAfter newHandler
+ruled : (c : ℕ) (t : Receiver) (x : Given) → Asks c t x 0 → receiver (now (timing c t) (sampleOf x)) 0 ≡ received x t .receiver
+unfolding linksAfter receiverTimed receiverAfter newHandler
 ruled c t x a =
     heard-receiver (timing c t) (sampleOf x) handsOn 0 (omega arith)
     ∙ same-receiver _ (receiverAfter (timing c t) (asked c t x) (sampleOf x .alerts) 0) refl refl
@@ -115,13 +121,13 @@ ruled c t x a =
 
 -- if it makes another of some receiver than the rules do
 other-receiver : (r : Given → Receiver → Receiver) (c : ℕ) (x : Given) (t : Receiver) (f : Receiver → Bool) → Asks c t x 0
-    → f (r x t) ≡ false → f (received x t .receiver) ≡ true → ¬ SampleStep (movedBy r)
+    → f (r x t) ≡ false → f (received x t .receiver) ≡ true → ¬ LinkStep (movedBy r)
 unfolding newHandler
 other-receiver r c x t f z p q w =
     let g = timing c t in
     let s = sampleOf x in
-    let e = only-samples (movedBy r) after2 w holds-samples g s handsOn (valid-timing c t) (inl refl) in
-    let a : receiver (movedBy r g s handsOn) 0 ≡ r x t =
+    let e = only-links (movedBy r) linked w holds-links g s handsOn 0 g (valid-timing c t) in
+    let a : receiver (movedBy r g s handsOn 0 g) 0 ≡ r x t =
     receiver-by (λ i. cond (ltb i 1) (r (givenTo (asksFor g s handsOn) (s .alerts) i) (receiver g i)) (receiver g i)) 0 (omega arith)
     ∙ ap₂ r (given c t x 0 (omega arith) z) (stood c t 0 (omega arith)) in
     false≢true (sym p ∙ ap f (sym a ∙ ap (λ (h : Handler). receiver h 0) e ∙ ruled c t x z) ∙ q)
@@ -147,7 +153,7 @@ at t = record { stands = t; level = false; pending = false }
 abbrev hurries : Handshake → Bool → Bool → Handshake
 hurries t p m = cond (isFirst t && not (equal p m)) Ready (standsAfter t p m)
 
-pub no-short-pause : ¬ SampleStep (movedBy (standsBy hurries))
+pub no-short-pause : ¬ LinkStep (movedBy (standsBy hurries))
 unfolding rules received askedFor standsAfter
 no-short-pause = other-receiver (standsBy hurries) 5 (reads false true) (at FirstPause) (λ r. pausingBit (r .stands)) refl refl refl
 
@@ -155,11 +161,11 @@ no-short-pause = other-receiver (standsBy hurries) 5 (reads false true) (at Firs
 abbrev takesIn : (Handshake → Bool) → Handshake → Bool → Bool → Handshake
 takesIn tick t p m = cond (tick t && rises p m) Acknowledged (standsAfter t p m)
 
-pub no-rise-in-first-pause : ¬ SampleStep (movedBy (standsBy (takesIn isFirst)))
+pub no-rise-in-first-pause : ¬ LinkStep (movedBy (standsBy (takesIn isFirst)))
 unfolding rules received askedFor standsAfter
 no-rise-in-first-pause = other-receiver (standsBy (takesIn isFirst)) 5 (reads true false) (at FirstPause) (λ r. pausingBit (r .stands)) refl refl refl
 
-pub no-rise-in-second-pause : ¬ SampleStep (movedBy (standsBy (takesIn isSecond)))
+pub no-rise-in-second-pause : ¬ LinkStep (movedBy (standsBy (takesIn isSecond)))
 unfolding rules received askedFor standsAfter
 no-rise-in-second-pause = other-receiver (standsBy (takesIn isSecond)) 5 (reads true false) (at SecondPause) (λ r. isReady (r .stands)) refl refl refl
 
@@ -167,19 +173,19 @@ no-rise-in-second-pause = other-receiver (standsBy (takesIn isSecond)) 5 (reads 
 abbrev unheldIf : (Handshake → Bool) → Handshake → Bool → Bool → Handshake
 unheldIf there t p m = cond (there t) (onward t p) (standsAfter t p m)
 
-pub no-moved-ready : ¬ SampleStep (movedBy (standsBy (unheldIf isReady)))
+pub no-moved-ready : ¬ LinkStep (movedBy (standsBy (unheldIf isReady)))
 unfolding rules received askedFor standsAfter
 no-moved-ready = other-receiver (standsBy (unheldIf isReady)) 5 (reads true true) (at Ready) (λ r. isReady (r .stands)) refl refl refl
 
-pub no-moved-acknowledged : ¬ SampleStep (movedBy (standsBy (unheldIf acknowledges)))
+pub no-moved-acknowledged : ¬ LinkStep (movedBy (standsBy (unheldIf acknowledges)))
 unfolding rules received askedFor standsAfter
 no-moved-acknowledged = other-receiver (standsBy (unheldIf acknowledges)) 5 (reads false false) (at Acknowledged) (λ r. acknowledges (r .stands)) refl refl refl
 
-pub no-moved-first-pause : ¬ SampleStep (movedBy (standsBy (unheldIf isFirst)))
+pub no-moved-first-pause : ¬ LinkStep (movedBy (standsBy (unheldIf isFirst)))
 unfolding rules received askedFor standsAfter
 no-moved-first-pause = other-receiver (standsBy (unheldIf isFirst)) 5 (reads false false) (at FirstPause) (λ r. busyBit (r .stands)) refl refl refl
 
-pub no-moved-second-pause : ¬ SampleStep (movedBy (standsBy (unheldIf isSecond)))
+pub no-moved-second-pause : ¬ LinkStep (movedBy (standsBy (unheldIf isSecond)))
 unfolding rules received askedFor standsAfter
 no-moved-second-pause = other-receiver (standsBy (unheldIf isSecond)) 5 (reads true true) (at SecondPause) (λ r. pausingBit (r .stands)) refl refl refl
 
@@ -204,7 +210,7 @@ waiting = record { stands = Ready; level = true; pending = true }
 abbrev flips : Given → Receiver → Receiver
 flips = pingedBy (λ x t. cond (x .asks || t .pending) (not (t .level)) (t .level)) itsPending
 
-pub no-asked-twice : ¬ SampleStep (movedBy flips)
+pub no-asked-twice : ¬ LinkStep (movedBy flips)
 unfolding rules received askedFor
 no-asked-twice = other-receiver flips 5 (reads false true) waiting (λ r. r .level) refl refl refl
 
@@ -212,7 +218,7 @@ no-asked-twice = other-receiver flips 5 (reads false true) waiting (λ r. r .lev
 abbrev keepsOpen : Given → Receiver → Receiver
 keepsOpen = pingedBy itsLevel (λ x t. x .asks || t .pending)
 
-pub no-answer-left-open : ¬ SampleStep (movedBy keepsOpen)
+pub no-answer-left-open : ¬ LinkStep (movedBy keepsOpen)
 unfolding rules received askedFor
 no-answer-left-open = other-receiver keepsOpen 5 (reads true false) waiting (λ r. not (r .pending)) refl refl refl
 
@@ -220,7 +226,7 @@ no-answer-left-open = other-receiver keepsOpen 5 (reads true false) waiting (λ 
 abbrev opensLate : Given → Receiver → Receiver
 opensLate = pingedBy itsLevel (λ x t. x .asks || (t .pending && not (takes (t .stands) (x .pos) (x .neg))))
 
-pub no-answer-a-tick-late : ¬ SampleStep (movedBy opensLate)
+pub no-answer-a-tick-late : ¬ LinkStep (movedBy opensLate)
 unfolding rules received askedFor
 no-answer-a-tick-late = other-receiver opensLate 0 asksHigh (at Ready) (λ r. not (r .pending)) refl refl refl
 
@@ -229,14 +235,17 @@ no-answer-a-tick-late = other-receiver opensLate 0 asksHigh (at Ready) (λ r. no
 abbrev hearing : (Given → Receiver → Bool) → Handler → Sample → Effects → Heard
 hearing v g s f =
     record {
-      links = heard g s f .links;
+      receivers = heard g s f .receivers;
       events = wordsBy words (λ i. ltb i (g .n) && v (givenTo (asksFor g s f) (s .alerts) i) (receiver g i));
       answers = heard g s f .answers;
       raises = heard g s f .raises;
+      meets = heard g s f .meets;
+      checked = heard g s f .checked;
+      right = heard g s f .right;
     }
 
 abbrev countedBy : (Given → Receiver → Bool) → Handler → Sample → Effects → Handler
-countedBy v g s f = withLinks (linksAfter (heard g s f)) (sampled g (hearing v g s f))
+countedBy v g s f = sampled g (hearing v g s f)
 
 -- if it hears an event of the enabled alert where the rules hear none
 other-event : (v : Given → Receiver → Bool) (c : ℕ) (x : Given) (t : Receiver) → Asks c t x 0 → v x t ≡ true → received x t .event ≡ false → ¬ SampleStep (countedBy v)
@@ -289,27 +298,27 @@ no-event-in-pause = other-event inPause 5 (reads true false) (at SecondPause) re
 
 -- ── at N and above: r moves a receiver there, where N is 1; place 255 is the last ──
 
-abbrev movedAbove : (Given → Receiver → Receiver) → Handler → Sample → Effects → Handler
-movedAbove r g s f =
-    withReceivers (λ i. cond (ltb i (g .n)) (receiverTimed g s f i) (r (givenTo (asksFor g s f) (s .alerts) i) (receiver g i))) (after2 g s f)
+abbrev movedAbove : (Given → Receiver → Receiver) → Handler → Sample → Effects → ℕ → Handler → Handler
+movedAbove r g s f lit m =
+    withReceivers (λ i. cond (ltb i (g .n)) (receiverTimed g s f i) (r (givenTo (asksFor g s f) (s .alerts) i) (receiver g i))) (linked g s f lit m)
 
 other-above : (r : Given → Receiver → Receiver) (x : Given) (t : Receiver) (f : Receiver → Bool) → Asks 5 t x 255 → f (r x t) ≡ false → f t ≡ true
-    → ¬ SampleStep (movedAbove r)
-unfolding newHandler
+    → ¬ LinkStep (movedAbove r)
+unfolding linksAfter newHandler
 other-above r x t f z p q w =
     let g = standing t in
     let s = sampleOf x in
-    let e = only-samples (movedAbove r) after2 w holds-samples g s handsOn (valid-timing 5 t) (inl refl) in
-    let a : receiver (movedAbove r g s handsOn) 255 ≡ r x t =
+    let e = only-links (movedAbove r) linked w holds-links g s handsOn 0 g (valid-timing 5 t) in
+    let a : receiver (movedAbove r g s handsOn 0 g) 255 ≡ r x t =
     receiver-by (λ i. cond (ltb i 1) (receiverTimed g s handsOn i) (r (givenTo (asksFor g s handsOn) (s .alerts) i) (receiver g i))) 255 (omega arith)
     ∙ ap₂ r (given 5 t x 255 (omega arith) z) (stood 5 t 255 (omega arith)) in
-    let b : receiver (after2 g s handsOn) 255 ≡ t = heard-above g s handsOn 255 (omega arith) (omega arith) ∙ stood 5 t 255 (omega arith) in
+    let b : receiver (now g s) 255 ≡ t = heard-above g s handsOn 255 (omega arith) (omega arith) ∙ stood 5 t 255 (omega arith) in
     false≢true (sym p ∙ ap f (sym a ∙ ap (λ (h : Handler). receiver h 255) e ∙ b) ∙ q)
 
 -- by its wires
 abbrev wiresMove : Given → Receiver → Receiver
 wiresMove x t = record { stands = standsAfter (t .stands) (x .pos) (x .neg); level = t .level; pending = t .pending }
 
-pub no-wires-above : ¬ SampleStep (movedAbove wiresMove)
+pub no-wires-above : ¬ LinkStep (movedAbove wiresMove)
 unfolding rules standsAfter
 no-wires-above = other-above wiresMove (reads true false) (at Ready) (λ r. isReady (r .stands)) refl refl refl

@@ -44,7 +44,15 @@ module _ (m n : Answer → ℤ) (a b : Accessed) (s : Sample) (t u : Ticked) (v 
   runs-other : a .handler ≡ b .handler → a .effects ≡ b .effects → Runs a s other
   runs-other e f =
       subst (λ (d : Accessed). Runs d s other) (λ i. record { handler = sym e i; answer = a .answer; effects = sym f i })
-      (record { state2 = y .state2; step2 = y .step2; steps34 = y .steps34; step5 = y .step5; answer = refl })
+      (record {
+        state2 = y .state2;
+        step2 = y .step2;
+        state4 = y .state4;
+        steps34 = y .steps34;
+        links = y .links;
+        step5 = y .step5;
+        answer = refl;
+      })
 
   same-run : a .handler ≡ b .handler → a .effects ≡ b .effects → m (a .answer) ≡ n (b .answer) → Same m n t u
   same-run e f g =

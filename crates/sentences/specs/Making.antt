@@ -68,6 +68,13 @@ pub record New (n : ℕ) (h : Handler) : Type 0 where
   pub turn-alert : h .links .turn .alert ≡ 0
   pub turn-count : h .links .turn .count ≡ 0
   pub line-pings : h .links .lines ≡ 0
+  -- request (xi): the senders are at rest, and their lines' pairs (0,1)
+  pub sender-on : h .links .senders .on ≡ 0
+  pub sender-first : h .links .senders .first ≡ 0
+  pub sender-last : h .links .senders .last ≡ 0
+  pub sender-deep : h .links .senders .deep ≡ 0
+  pub sender-answer : h .links .senders .answer ≡ 0
+  pub ping-right : h .links .right ≡ 0
   -- request (v): nothing is staged
   pub staged-local-en : Entries 7 0 (h .stages .locals .en)
   pub staged-local-class : Entries 7 0 (h .stages .locals .class)

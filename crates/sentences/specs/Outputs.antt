@@ -13,8 +13,8 @@ use Rattle.rules.specs.declared.Output.{Output}
 use Rattle.rules.specs.declared.Sample.{Sample}
 use Rattle.sentences.specs.ClassStep.{En, Stepped}
 use Rattle.sentences.specs.Lines.{DrivesLine}
-use Rattle.sentences.specs.Pairs.{PairsBy}
-use Rattle.sentences.specs.Raw.{level, classOf}
+use Rattle.sentences.specs.Pairs.{PairsBy, LinePairsBy}
+use Rattle.sentences.specs.Raw.{level, pairLast, classOf}
 use Rattle.sentences.specs.Receivers.{Acknowledged}
 use Rattle.sentences.specs.Samples.{Assigned}
 
@@ -70,6 +70,8 @@ pub record OutputOf (g h : Handler) (o : Output) : Type 0 where
   pub acknowledge : PairsBy (g .n) (Acknowledged g) (o .acknowledge)
   -- request (ix): a ping that opens "changes the ping pair's level .. before that tick's wires are read"
   pub ping : PairsBy (h .n) (λ i. level h i ≡ true) (o .ping)
+  -- request (xi): what the senders sent in the tick that reaches h
+  pub escalation : LinePairsBy (λ e. pairLast h e ≡ true) (o .escalation)
 
 -- step 5, of every two states
 abbrev pub Outputs : (Handler → Handler → Output) → Type 0

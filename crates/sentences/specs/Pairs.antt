@@ -6,6 +6,8 @@ use mathlib.Core.Logic.{_⊎_}
 use mathlib.Core.Bool.{true, false}
 use mathlib.Core.List.{List}
 use lib.ListN.{getD, length}
+use Rattle.bits.specs.Bits.{bit}
+use Rattle.rules.specs.declared.LinePairs.{LinePairs}
 use Rattle.rules.specs.declared.Wires.{Wires}
 use Rattle.sentences.specs.Raw.{positive, negative}
 
@@ -49,3 +51,12 @@ pub record PairsBy (n : ℕ) (On : ℕ → Type 0) (w : Wires) : Type 0 where
   pub low : (i : ℕ) → i < n → i < 256 → ¬ On i → Low w i
   pub above : (i : ℕ) → n ≤ i → i < 256 → Low w i
   pub words : PairWords w
+
+-- ── request (xi): the four lines' pairs, line 0 the lowest bit ──
+
+-- (1,0) where On holds, and (0,1) where it does not; the bits from 4 up are 0
+pub record LinePairsBy (On : ℕ → Type 0) (w : LinePairs) : Type 0 where
+  pub high : (e : ℕ) → e < 4 → On e → (bit (w .pos) e ≡ true) × (bit (w .neg) e ≡ false)
+  pub low : (e : ℕ) → e < 4 → ¬ On e → (bit (w .pos) e ≡ false) × (bit (w .neg) e ≡ true)
+  pub positives : w .pos ≤ 15
+  pub negatives : w .neg ≤ 15

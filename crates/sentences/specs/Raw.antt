@@ -44,6 +44,25 @@ pending g i = bitOfAlert (g .links .receivers .pending) i
 abbrev pub linePending : Handler → ℕ → Bool
 linePending g e = bit (g .links .lines) e
 
+-- ── request (xi): the sender of line e; line 0 is the lowest bit ──
+
+-- the line was on in the last tick; it was, and was off in the tick before that
+abbrev pub lineOn : Handler → ℕ → Bool
+lineOn g e = bit (g .links .senders .on) e
+
+abbrev pub lineFirst : Handler → ℕ → Bool
+lineFirst g e = bit (g .links .senders .first) e
+
+-- a sound receiver of its pair: the pair was on in the last tick, the second bit that says where it stands, and its answer in the coming tick
+abbrev pub pairLast : Handler → ℕ → Bool
+pairLast g e = bit (g .links .senders .last) e
+
+abbrev pub pairDeep : Handler → ℕ → Bool
+pairDeep g e = bit (g .links .senders .deep) e
+
+abbrev pub rightAnswer : Handler → ℕ → Bool
+rightAnswer g e = bit (g .links .senders .answer) e
+
 -- ── entry k of the four classes and of their stages; an array has its four entries, and past them there is none: never read ──
 
 abbrev pub noClass : Class

@@ -1,17 +1,17 @@
--- Request (viii), "The whole handshake": what step 2 makes of the alerts' receivers, in sentences: raw bits, and no definition of the rules.
--- The state is g before step 2 and h after it, s is the tick's sample, and f is what step 1 hands on. The pairs that come out are in Outputs.antt.
+-- Request (viii), "The whole handshake": what a tick makes of the alerts' receivers, in sentences: raw bits, and no definition of the rules.
+-- The state is g after step 1 and h after the tick, s is the tick's sample, and f is what step 1 hands on. The pairs that come out are in Outputs.antt.
 -- Assumes nothing.
 use Prim.Native.Nat.{ℕ, _+_, _≤_, _<_}
 use mathlib.Core.Path.{_≡_}
 use mathlib.Core.Logic.{_⊎_, _≢_}
 use mathlib.Core.Bool.{true, false}
-use Rattle.bits.specs.Bits.{bit}
 use Rattle.rules.specs.declared.Effects.{Effects}
 use Rattle.rules.specs.declared.Handler.{Handler}
 use Rattle.rules.specs.declared.Sample.{Sample}
+use Rattle.sentences.specs.LinePings.{LineAnswered}
 use Rattle.sentences.specs.Pairs.{High, Low, Equal, Differ, FourWords}
 use Rattle.sentences.specs.Raw.{pausing, busy, level, pending}
-use Rattle.sentences.specs.Turns.{AlertsTurn, LinesTurn, turnLine, turnAlert, Runs, TurnOpen, Asked, OpenNow}
+use Rattle.sentences.specs.Turns.{AlertsTurn, LinesTurn, turnAlert, Runs, TurnOpen, Asked}
 
 -- ── where alert i's receiver stands, by its bits `pausing` and `busy` ──
 
@@ -51,10 +51,9 @@ Event g s f i = Taken g s i × ¬ PingOpen g f i
 
 -- ── request (ix): the turn's ping is answered, or fails ──
 
--- an alert's by a rise that is taken; "the sample says which escalation pings are answered", line 0 in the lowest bit
+-- a line's by what comes back, an alert's by a rise that is taken
 abbrev pub TurnAnswered : Handler → Sample → Effects → Type 0
-TurnAnswered g s f =
-    (LinesTurn g × (OpenNow g f × (bit (s .answers) (turnLine g) ≡ true))) ⊎ (AlertsTurn g × Answers g s f (turnAlert g))
+TurnAnswered g s f = (LinesTurn g × LineAnswered g f (s .receive)) ⊎ (AlertsTurn g × Answers g s f (turnAlert g))
 
 -- "unanswered up to and in the first tick at least the timeout after it"; "at timeout 0 it waits for its answer". While the ping is open `count` is the
 -- ticks from its opening to the tick before this one

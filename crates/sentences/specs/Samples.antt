@@ -11,8 +11,8 @@ use Rattle.rules.specs.declared.Effects.{Effects}
 use Rattle.rules.specs.declared.Handler.{Handler}
 use Rattle.rules.specs.declared.Sample.{Sample}
 use Rattle.sentences.specs.Pairs.{Equal}
-use Rattle.sentences.specs.Receivers.{Answers, Event, Fails, Received}
-use Rattle.sentences.specs.Timer.{Timed}
+use Rattle.sentences.specs.Receivers.{Answers, Event, Fails}
+use Rattle.sentences.specs.Senders.{Wrong}
 use Rattle.sentences.specs.Turns.{AlertsTurn, LinesTurn}
 use Rattle.sentences.specs.Valid.{Valid}
 
@@ -29,6 +29,10 @@ LocalEnabled g j = getD (g .locals .en) j 0 ≡ 1
 abbrev pub EqualWires : Handler → Sample → Type 0
 EqualWires g s = (i : ℕ) × (i < g .n) × AlertEnabled g i × Equal (s .alerts) i
 
+-- request (xi): "Equal wires, or a wrong or missing answer", of any of the four receive pairs, timer on or off
+abbrev pub WrongPairs : Handler → Sample → Type 0
+WrongPairs g s = (e : ℕ) × (e < 4) × Wrong g (s .receive) e
+
 -- request (v): "A differing second write .. makes local 5 occur in that tick"; local 0 is the lowest bit of what step 1 raises
 abbrev pub DifferingWrite : Effects → Type 0
 DifferingWrite f = bit (f .raises) 5 ≡ true
@@ -38,12 +42,13 @@ abbrev pub RaisesFiveOrNone : Effects → Type 0
 RaisesFiveOrNone f = (f .raises ≡ 0) ⊎ (f .raises ≡ 32)
 
 -- "If any enabled alert has equal wires and local 2 is enabled, local 2 occurs"; "makes local 5 occur in that tick if enabled";
--- "A disabled local alert never occurs"; request (ix): "it makes local 0 or 1 occur then", 0 for an alert's ping and 1 for a line's; "Only 2 can occur in
--- the base", and with requests (v) and (ix) 0, 1 and 5
+-- "A disabled local alert never occurs"; request (ix): "it makes local 0 or 1 occur then", 0 for an alert's ping and 1 for a line's; request (xi): "make local 3
+-- occur"; "Only 2 can occur in the base", and with requests (v), (ix) and (xi) 0, 1, 3 and 5
 abbrev pub Occurs : Handler → Sample → Effects → ℕ → Type 0
 Occurs g s f j =
     LocalEnabled g j
-    × (((j ≡ 0) × (Fails g s f × AlertsTurn g)) ⊎ (((j ≡ 1) × (Fails g s f × LinesTurn g)) ⊎ (((j ≡ 2) × EqualWires g s) ⊎ ((j ≡ 5) × DifferingWrite f))))
+    × (((j ≡ 0) × (Fails g s f × AlertsTurn g))
+    ⊎ (((j ≡ 1) × (Fails g s f × LinesTurn g)) ⊎ (((j ≡ 2) × EqualWires g s) ⊎ (((j ≡ 3) × WrongPairs g s) ⊎ ((j ≡ 5) × DifferingWrite f)))))
 
 -- "an enabled alert's event or an occurring local alert is assigned to it"
 abbrev pub Assigned : Handler → Sample → Effects → ℕ → Type 0
@@ -54,24 +59,21 @@ Assigned g s f k =
 -- ── the sentences ──
 
 pub record Sampled (g : Handler) (s : Sample) (f : Effects) (h : Handler) : Type 0 where
-  -- request (viii): "Replace the edge receiver by the synchronous one"
-  pub receivers : Received g s f h
-  -- request (ix): the turn and the lines' pings
-  pub timer-turn : Timed g s f h
   -- "An enabled alert's event sets its cause"
   pub cause-sets : (i : ℕ) → Event g s f i → AlertEnabled g i → getD (h .alerts .cause) i 0 ≡ 1
   -- a reading: nothing else in this step changes it, an answer to a ping, which "is no event", neither; nor at N and above
   pub cause-stays : (i : ℕ) → i < 248 → ¬ (Event g s f i × AlertEnabled g i) → getD (h .alerts .cause) i 0 ≡ getD (g .alerts .cause) i 0
   -- request (iii): "A new handler starts with 248 alert entries"
   pub cause-entries : length (h .alerts .cause) ≡ 248
-  -- "local 2 occurs and sets its cause", and 5 likewise
+  -- "local 2 occurs and sets its cause", and the others likewise
   pub local-sets : (j : ℕ) → j < 7 → Occurs g s f j → getD (h .locals .cause) j 0 ≡ 1
   -- a reading: nothing else in this step changes it. "A disabled local alert never occurs"
   pub local-stays : (j : ℕ) → j < 7 → ¬ Occurs g s f j → getD (h .locals .cause) j 0 ≡ getD (g .locals .cause) j 0
   -- "local alert j is 0 to 6"
   pub local-entries : length (h .locals .cause) ≡ 7
-  -- a reading: what a step does not name stays, here N, the stages and every other register
+  -- a reading: what a step does not name stays, here N, the stages and every other register; what the wires make of the links is written last (Links.antt)
   pub n : h .n ≡ g .n
+  pub links : h .links ≡ g .links
   pub alert-regwen : h .alerts .regwen ≡ g .alerts .regwen
   pub alert-en : h .alerts .en ≡ g .alerts .en
   pub alert-class : h .alerts .class ≡ g .alerts .class

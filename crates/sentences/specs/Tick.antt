@@ -10,6 +10,7 @@ use Rattle.rules.specs.declared.Input.{Input}
 use Rattle.rules.specs.declared.Refusal.the-variants.{BadState}
 use Rattle.rules.specs.declared.Sample.{Sample}
 use Rattle.rules.specs.declared.Ticked.{Ticked}
+use Rattle.sentences.specs.Links.{Linked}
 use Rattle.sentences.specs.Outputs.{ClassesStepped, OutputOf}
 use Rattle.sentences.specs.Pairs.{AllLow}
 use Rattle.sentences.specs.Samples.{RaisesFiveOrNone, Sampled}
@@ -21,8 +22,11 @@ pub record Runs (a : Accessed) (s : Sample) (t : Ticked) : Type 0 where
   -- "2. Samples": on the state after step 1
   pub state2 : Handler
   pub step2 : Sampled (a .handler) s (a .effects) state2
-  -- "3. Class k has an event ..", "4. The class is in one of seven states ..": on the state after step 2, to the state after the tick
-  pub steps34 : ClassesStepped (a .handler) s (a .effects) state2 (t .handler)
+  -- "3. Class k has an event ..", "4. The class is in one of seven states ..": on the state after step 2
+  pub state4 : Handler
+  pub steps34 : ClassesStepped (a .handler) s (a .effects) state2 state4
+  -- requests (viii), (ix) and (xi): the links last, by the lines of step 5, to the state after the tick
+  pub links : Linked (a .handler) s (a .effects) (t .output .lines) state4 (t .handler)
   -- "5. Outputs from the state now reached"; request (viii): the acknowledge pairs by the receivers before step 2
   pub step5 : OutputOf (a .handler) (t .handler) (t .output)
   -- "1. The access, on the state before any event of this tick": its answer is the tick's
@@ -39,6 +43,9 @@ pub record Refused7 (h : Handler) (t : Ticked) : Type 0 where
   -- request (viii): "Acknowledge and ping pairs become outputs, (0,1) .. on 7"
   pub acknowledge : AllLow (t .output .acknowledge)
   pub ping : AllLow (t .output .ping)
+  -- request (xi): "7 sends it", (0,1), on the four lines' pairs
+  pub escalation-positive : t .output .escalation .pos ≡ 0
+  pub escalation-negative : t .output .escalation .neg ≡ 15
   -- refusal 7 is the answer; Numbers.antt says that it is -7
   pub answer : t .answer ≡ Answer.Refused BadState
 

@@ -2,6 +2,7 @@
 use crate::stages::none;
 use answers::signed;
 use class_rules::Class;
+use link_rules::Senders;
 use link_rules::Turn;
 use rules::Alerts;
 use rules::Answer;
@@ -35,7 +36,7 @@ fn reset_class() -> Class
     }
 }
 
-// All REGWEN and CLR_REGWEN start at 1, all CTRL at 0x393C, every other register at 0, classes Idle, receivers ready.
+// All REGWEN and CLR_REGWEN start at 1, all CTRL at 0x393C, every other register at 0, classes Idle, receivers ready, senders at rest.
 fn reset(n: usize) -> Handler
     ensures { λ r. ⌜ r ≡ newHandler n ⌝ }
 {
@@ -55,6 +56,14 @@ fn reset(n: usize) -> Handler
                 count: 0,
             },
             lines: 0,
+            senders: Senders {
+                on: 0,
+                first: 0,
+                last: 0,
+                deep: 0,
+                answer: 0,
+            },
+            right: 0,
         },
         classes: [class; 4],
         alerts: Alerts {

@@ -1,26 +1,34 @@
 // What the boundary promises, part by part. It is no product surface and nobody links it: each function calls one of the boundary's and promises each part of
 // what comes back by itself, so that a part which the boundary's contract leaves out no longer proves here.
 use batch::Batched;
+use boundary::Wired;
 use boundary::tarravane_batch_24;
 use boundary::tarravane_batch_70;
 use boundary::tarravane_batch_pings;
+use boundary::tarravane_batch_wires;
 use boundary::tarravane_hear;
 use boundary::tarravane_install;
 use boundary::tarravane_new;
+use boundary::tarravane_receive;
 use boundary::tarravane_record;
 use boundary::tarravane_tick;
 use handler::account::Account;
 use handler::tick::Answered;
+use link_rules::LineReceivers;
+use link_rules::Listened;
 use policy::Installed;
 use rules::Handler;
 use rules::Made;
-use rules::Sample;
 use trace_rules::Edition;
 ghost use mathlib.Core.Path.{_≡_};
 ghost use mathlib.Core.Bool.{true};
+ghost use Rattle.bits.specs.Bits.{bit, bitsOf};
 ghost use Rattle.boundary.specs.Input.{inputBy};
 ghost use Rattle.escalation.specs.Escalation.{Demand3};
 ghost use Rattle.handler.specs.Account.{account};
+ghost use Rattle.link_rules.specs.EscalationReceiver.{respondsPositive, respondsNegative, escalates, listened};
+ghost use Rattle.link_rules.specs.LineReceivers.{escalationReceiverIn, lineReceiversBy};
+ghost use Rattle.link_rules.specs.Senders.{lineCount};
 ghost use Rattle.policy.specs.Plan.{boot, lifecycleOf};
 ghost use Rattle.rules.specs.Answer.{number};
 ghost use Rattle.rules.specs.Run.{run};
@@ -38,21 +46,21 @@ pub fn make(n: usize) -> Made
     tarravane_new(n)
 }
 
-pub fn tick(h: Handler, kind: u8, register: u16, value: u32, sample: Sample) -> Answered
-    ensures { λ r. ⌜ r .handler ≡ ticked h (inputBy kind register value sample) .handler ⌝ }
-    ensures answer { λ r. ⌜ r .answer ≡ number (ticked h (inputBy kind register value sample) .answer) ⌝ }
-    ensures outputs { λ r. ⌜ r .output ≡ ticked h (inputBy kind register value sample) .output ⌝ }
+pub fn tick(h: Handler, kind: u8, register: u16, value: u32, wires: Wired) -> Answered
+    ensures { λ r. ⌜ r .handler ≡ ticked h (inputBy kind register value wires) .handler ⌝ }
+    ensures answer { λ r. ⌜ r .answer ≡ number (ticked h (inputBy kind register value wires) .answer) ⌝ }
+    ensures outputs { λ r. ⌜ r .output ≡ ticked h (inputBy kind register value wires) .output ⌝ }
 {
-    tarravane_tick(h, kind, register, value, sample)
+    tarravane_tick(h, kind, register, value, wires)
 }
 
-pub fn hear(h: Handler, kind: u8, register: u16, value: u32, sample: Sample) -> Account
-    ensures { λ r. ⌜ r .events ≡ account h (inputBy kind register value sample) .events ⌝ }
-    ensures answers { λ r. ⌜ r .answers ≡ account h (inputBy kind register value sample) .answers ⌝ }
-    ensures locals { λ r. ⌜ r .locals ≡ account h (inputBy kind register value sample) .locals ⌝ }
-    ensures answer { λ r. ⌜ r .answer ≡ number (ticked h (inputBy kind register value sample) .answer) ⌝ }
+pub fn hear(h: Handler, kind: u8, register: u16, value: u32, wires: Wired) -> Account
+    ensures { λ r. ⌜ r .events ≡ account h (inputBy kind register value wires) .events ⌝ }
+    ensures answers { λ r. ⌜ r .answers ≡ account h (inputBy kind register value wires) .answers ⌝ }
+    ensures locals { λ r. ⌜ r .locals ≡ account h (inputBy kind register value wires) .locals ⌝ }
+    ensures answer { λ r. ⌜ r .answer ≡ number (ticked h (inputBy kind register value wires) .answer) ⌝ }
 {
-    tarravane_hear(h, kind, register, value, sample)
+    tarravane_hear(h, kind, register, value, wires)
 }
 
 pub fn batch_24(h: Handler, bytes: &[u8], out: &mut [u64]) -> Batched
@@ -85,6 +93,16 @@ pub fn batch_pings(h: Handler, bytes: &[u8], out: &mut [u64]) -> Batched
     tarravane_batch_pings(h, bytes, out)
 }
 
+pub fn batch_wires(h: Handler, bytes: &[u8], out: &mut [u64]) -> Batched
+    ensures { λ r. ⌜ r .handler ≡ run h (ranBy Edition.Wires h (now (bytes .entry)) (now (out .entry))) ⌝ }
+    ensures answer { λ r. ⌜ r .answer ≡ batchAnswer (batchVerdict Edition.Wires h (now (bytes .entry)) (now (out .entry))) ⌝ }
+    ensures words { λ r. ⌜ Words Edition.Wires h (now (bytes .entry)) (now (out .entry)) (now (out .exit)) ⌝ }
+    ensures later { λ r. ⌜ LaterWords Edition.Wires h (now (bytes .entry)) (now (out .entry)) (now (out .exit)) ⌝ }
+    ensures demand3 { λ r. ⌜ (valid h ≡ true → Demand3 h (ranBy Edition.Wires h (now (bytes .entry)) (now (out .entry)))) ⌝ }
+{
+    tarravane_batch_wires(h, bytes, out)
+}
+
 pub fn write(
     kinds: &[u8],
     registers: &[u16],
@@ -92,14 +110,15 @@ pub fn write(
     positive: &[u64],
     negative: &[u64],
     entropy: &[u32],
-    answers: &[u8],
+    receive_positive: &[u8],
+    receive_negative: &[u8],
     out: &mut [u8],
 ) -> i64
-    ensures { λ r. ⌜ r ≡ writeLent (lent (now (kinds .entry)) (now (registers .entry)) (now (values .entry)) (now (positive .entry)) (now (negative .entry)) (now (entropy .entry)) (now (answers .entry))) (now (out .entry)) .answer ⌝ }
-    ensures bytes { λ r. ⌜ now (out .exit) ≡ writeLent (lent (now (kinds .entry)) (now (registers .entry)) (now (values .entry)) (now (positive .entry)) (now (negative .entry)) (now (entropy .entry)) (now (answers .entry))) (now (out .entry)) .buffer ⌝ }
-    ensures inputs { λ r. ⌜ SameInputs (lent (now (kinds .entry)) (now (registers .entry)) (now (values .entry)) (now (positive .entry)) (now (negative .entry)) (now (entropy .entry)) (now (answers .entry))) (now (out .entry)) (now (out .exit)) ⌝ }
-    ensures numbers { λ r. ⌜ SameNumbers (lent (now (kinds .entry)) (now (registers .entry)) (now (values .entry)) (now (positive .entry)) (now (negative .entry)) (now (entropy .entry)) (now (answers .entry))) (now (out .entry)) ⌝ }
-    ensures writtenback { λ r. ⌜ SameBytes (lent (now (kinds .entry)) (now (registers .entry)) (now (values .entry)) (now (positive .entry)) (now (negative .entry)) (now (entropy .entry)) (now (answers .entry))) (now (out .entry)) (now (out .exit)) ⌝ }
+    ensures { λ r. ⌜ r ≡ writeLent (lent (now (kinds .entry)) (now (registers .entry)) (now (values .entry)) (now (positive .entry)) (now (negative .entry)) (now (entropy .entry)) (now («receive_positive» .entry)) (now («receive_negative» .entry))) (now (out .entry)) .answer ⌝ }
+    ensures bytes { λ r. ⌜ now (out .exit) ≡ writeLent (lent (now (kinds .entry)) (now (registers .entry)) (now (values .entry)) (now (positive .entry)) (now (negative .entry)) (now (entropy .entry)) (now («receive_positive» .entry)) (now («receive_negative» .entry))) (now (out .entry)) .buffer ⌝ }
+    ensures inputs { λ r. ⌜ SameInputs (lent (now (kinds .entry)) (now (registers .entry)) (now (values .entry)) (now (positive .entry)) (now (negative .entry)) (now (entropy .entry)) (now («receive_positive» .entry)) (now («receive_negative» .entry))) (now (out .entry)) (now (out .exit)) ⌝ }
+    ensures numbers { λ r. ⌜ SameNumbers (lent (now (kinds .entry)) (now (registers .entry)) (now (values .entry)) (now (positive .entry)) (now (negative .entry)) (now (entropy .entry)) (now («receive_positive» .entry)) (now («receive_negative» .entry))) (now (out .entry)) ⌝ }
+    ensures writtenback { λ r. ⌜ SameBytes (lent (now (kinds .entry)) (now (registers .entry)) (now (values .entry)) (now (positive .entry)) (now (negative .entry)) (now (entropy .entry)) (now («receive_positive» .entry)) (now («receive_negative» .entry))) (now (out .entry)) (now (out .exit)) ⌝ }
 {
     tarravane_record(
         kinds,
@@ -108,7 +127,8 @@ pub fn write(
         positive,
         negative,
         entropy,
-        answers,
+        receive_positive,
+        receive_negative,
         out,
     )
 }
@@ -119,4 +139,13 @@ pub fn install(h: Handler, lifecycle: u8) -> Installed
     ensures register { λ r. ⌜ r .register ≡ boot (lifecycleOf lifecycle) h .register ⌝ }
 {
     tarravane_install(h, lifecycle)
+}
+
+pub fn receive(r: LineReceivers, positive: u32, negative: u32) -> Listened
+    ensures { λ x. ⌜ x .receivers ≡ lineReceiversBy (λ e. listened (escalationReceiverIn r e) (bit positive e) (bit negative e)) ⌝ }
+    ensures positive { λ x. ⌜ x .positive ≡ bitsOf lineCount (λ e. respondsPositive (escalationReceiverIn r e)) ⌝ }
+    ensures negative { λ x. ⌜ x .negative ≡ bitsOf lineCount (λ e. respondsNegative (escalationReceiverIn r e)) ⌝ }
+    ensures seen { λ x. ⌜ x .seen ≡ bitsOf lineCount (λ e. escalates (escalationReceiverIn r e) (bit positive e) (bit negative e)) ⌝ }
+{
+    tarravane_receive(r, positive, negative)
 }

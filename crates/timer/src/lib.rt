@@ -1,2 +1,3 @@
-// The ping timer, request (ix): one tick of its turn. It reads no state; the handler hands in what it meets.
+// The ping timer, requests (ix) and (xi): one tick of its turn. It reads no state; the handler hands in what it meets.
+pub mod line; // line.rt: a line's ping on its wires
 pub mod turn; // turn.rt: when a ping is due, opens, fails, and the turn after the tick

@@ -60,7 +60,7 @@ pub fn does_end(m: Meets, t: Turn) -> bool
 {
     let due = is_due(m, t);
     let opening = does_open(m, t);
-    (due & !opening) | (is_open(m, t) & (m.answered | does_fail(m, t)))
+    (due & !opening) | (is_open(m, t) & (m.answered | (does_fail(m, t) | m.closed)))
 }
 
 // The turn that a word sets.

@@ -15,11 +15,12 @@ use Rattle.bits.proofs.IndexLaws.{is-each}
 use Rattle.bits.proofs.FieldLaws.{pack-unpack, unpack-fits}
 use Rattle.bits.proofs.PackLaws.{unpack-append, bytes-append}
 use Rattle.trace_rules.specs.Edition.{recordBytes, alerts, tail}
-use Rattle.trace_rules.specs.Record.{head, wires, layout, accessIn, wireWords, otherWay, inputOfParts, inputOfFields, heldIn, carried, inputOf}
+use Rattle.trace_rules.specs.Record.{head, wires, layout, accessIn, wireWords, receiveOf, inputOfParts, inputOfFields, heldIn, carried, inputOf}
 use Rattle.rules.specs.declared.Access.{Access}
 use Rattle.trace_rules.specs.declared.Edition.{Edition}
-use Rattle.trace_rules.specs.declared.Edition.the-variants.{Alerts64, Alerts248, Pings}
+use Rattle.trace_rules.specs.declared.Edition.the-variants.{Alerts64, Alerts248, Pings, Wires}
 use Rattle.rules.specs.declared.Input.{Input}
+use Rattle.rules.specs.declared.Receive.{Receive}
 use Rattle.trace.specs.RecordParts.{wireBytes, tailBytes, headOf, fieldsOf, tailOf, behindOf}
 use Rattle.trace.specs.declared.record.Head.{Head}
 use Rattle.trace.specs.declared.record.Tail.{Tail}
@@ -56,21 +57,25 @@ pub record-parts : (e : Edition) → recordBytes e ≡ 8 + (wireBytes e + (wireB
 record-parts Alerts64 = refl
 record-parts Alerts248 = refl
 record-parts Pings = refl
+record-parts Wires = refl
 
 wire-bits : (e : Edition) → alerts e ≡ 8 * wireBytes e
 wire-bits Alerts64 = refl
 wire-bits Alerts248 = refl
 wire-bits Pings = refl
+wire-bits Wires = refl
 
 tail-bits : (e : Edition) → total (tail e) ≡ 8 * tailBytes e
 tail-bits Alerts64 = refl
 tail-bits Alerts248 = refl
 tail-bits Pings = refl
+tail-bits Wires = refl
 
 first-bits : (e : Edition) → total (head e) ≡ 64
 first-bits Alerts64 = refl
 first-bits Alerts248 = refl
 first-bits Pings = refl
+first-bits Wires = refl
 
 -- the first n of some bytes are bytes
 byte-taken : (n : ℕ) (xs : List ℕ) → ((i : ℕ) → getD xs i 0 < 2 ^ 8) → (i : ℕ) → getD (take n xs) i 0 < 2 ^ 8
@@ -87,7 +92,7 @@ part-lt n at xs h b =
 
 -- request (ix): behind the wires are a word of four bytes and a byte of two fields
 pub pings-tail : (at : ℕ) (xs : List ℕ) → at + 5 ≤ length xs → ((i : ℕ) → getD xs i 0 < 2 ^ 8) → (w : ℕ) → w ≡ ofBytes (take 4 (drop at xs))
-    → record { word = w; zeros = getD xs (at + 4) 0 / 16; answers = getD xs (at + 4) 0 % 16 } ≡ tailOf Pings (ofBytes (take 5 (drop at xs)))
+    → record { word = w; zeros = getD xs (at + 4) 0 / 16; lines = getD xs (at + 4) 0 % 16 } ≡ tailOf Pings (ofBytes (take 5 (drop at xs)))
 unfolding unpack
 pings-tail at xs h b w e =
     let n : ℕ = ofBytes (take 5 (drop at xs)) in
@@ -96,8 +101,22 @@ pings-tail at xs h b w e =
     let s : n ≡ ofBytes (take 4 (drop at xs)) * 2 ^ 8 + y =
     part-bytes 4 1 at xs h ∙ ap (λ (m : ℕ). ofBytes (take 4 (drop at xs)) * 2 ^ 8 + m) (getD-byte (at + 4) xs (omega arith)) in
     let f : y < 2 ^ 8 = b (at + 4) in
-    ap₂ {C = Tail} (λ (p q : ℕ). record { word = p; zeros = q; answers = y % 16 }) (let z : w ≡ n / 2 ^ 8 % 2 ^ 32 = omega arith in z) (let z : y / 16 ≡ n / 2 ^ 4 % 2 ^ 4 = omega arith in z)
-    ∙ ap (λ (p : ℕ). record { word = n / 2 ^ 8 % 2 ^ 32; zeros = n / 2 ^ 4 % 2 ^ 4; answers = p }) (omega arith)
+    ap₂ {C = Tail} (λ (p q : ℕ). record { word = p; zeros = q; lines = y % 16 }) (let z : w ≡ n / 2 ^ 8 % 2 ^ 32 = omega arith in z) (let z : y / 16 ≡ n / 2 ^ 4 % 2 ^ 4 = omega arith in z)
+    ∙ ap (λ (p : ℕ). record { word = n / 2 ^ 8 % 2 ^ 32; zeros = n / 2 ^ 4 % 2 ^ 4; lines = p }) (omega arith)
+
+-- request (xi): a word of four bytes and a byte of one field
+pub pairs-tail : (at : ℕ) (xs : List ℕ) → at + 5 ≤ length xs → ((i : ℕ) → getD xs i 0 < 2 ^ 8) → (w : ℕ) → w ≡ ofBytes (take 4 (drop at xs))
+    → record { word = w; zeros = 0; lines = getD xs (at + 4) 0 } ≡ tailOf Wires (ofBytes (take 5 (drop at xs)))
+unfolding unpack
+pairs-tail at xs h b w e =
+    let n : ℕ = ofBytes (take 5 (drop at xs)) in
+    let y : ℕ = getD xs (at + 4) 0 in
+    let l : ofBytes (take 4 (drop at xs)) < 2 ^ 32 = part-lt 4 at xs (omega arith) b in
+    let s : n ≡ ofBytes (take 4 (drop at xs)) * 2 ^ 8 + y =
+    part-bytes 4 1 at xs h ∙ ap (λ (m : ℕ). ofBytes (take 4 (drop at xs)) * 2 ^ 8 + m) (getD-byte (at + 4) xs (omega arith)) in
+    let f : y < 2 ^ 8 = b (at + 4) in
+    ap₂ {C = Tail} (λ (p q : ℕ). record { word = p; zeros = q; lines = y }) (let z : w ≡ n / 2 ^ 8 % 2 ^ 32 = omega arith in z) (let z : 0 ≡ n / 2 ^ 8 % 2 ^ 0 = omega arith in z)
+    ∙ ap (λ (p : ℕ). record { word = n / 2 ^ 8 % 2 ^ 32; zeros = n / 2 ^ 8 % 2 ^ 0; lines = p }) (omega arith)
 
 module _ (e : Edition) (at : ℕ) (xs : List ℕ) (b : (i : ℕ) → getD xs i 0 < 2 ^ 8) (h : at + recordBytes e ≤ length xs) where
   abbrev first : ℕ
@@ -144,10 +163,10 @@ module _ (e : Edition) (at : ℕ) (xs : List ℕ) (b : (i : ℕ) → getD xs i 0
       ∙ ap (inputOfFields e) (unpack-append (head e) (wires e ++ tail e) first behind f (one p (one q (unpack-fits (tail e) rest))))
 
   -- and its access and sample, as the code reads them one after another
-  pub record-input : (f n : ℕ) (h : Head) (t : Tail) (a r : Access) (p q : List ℕ) (m : ℕ) → f ≡ first → h ≡ headOf e f → n ≡ alerts e
+  pub record-input : (f n : ℕ) (h : Head) (t : Tail) (a r : Access) (p q : List ℕ) (m : Receive) → f ≡ first → h ≡ headOf e f → n ≡ alerts e
       → t ≡ tailOf e (ofBytes (take (tailBytes e) (drop (at + 8 + n / 8 + n / 8) xs))) → a ≡ accessIn (fieldsOf h) (behindOf t) → r ≡ carried e a
-      → p ≡ wireWords (alerts e) pos → q ≡ wireWords (alerts e) (ofBytes (take (wireBytes e) (drop (at + 8 + n / 8) xs))) → m ≡ otherWay (t .answers)
-      → record { access = r; sample = record { alerts = record { pos = p; neg = q }; word = t .word; answers = m } } ≡ inputOf e (take (recordBytes e) (drop at xs))
+      → p ≡ wireWords (alerts e) pos → q ≡ wireWords (alerts e) (ofBytes (take (wireBytes e) (drop (at + 8 + n / 8) xs))) → m ≡ receiveOf e (t .lines)
+      → record { access = r; sample = record { alerts = record { pos = p; neg = q }; word = t .word; receive = m } } ≡ inputOf e (take (recordBytes e) (drop at xs))
   unfolding inputOf unpack
   record-input f n h t a r p q m ef eh en et ea er ep eq em =
       let k : t ≡ tailOf e rest = et ∙ ap (λ (i : ℕ). tailOf e (ofBytes (take (tailBytes e) (drop (at + 8 + i / 8 + i / 8) xs)))) en in
@@ -155,5 +174,5 @@ module _ (e : Edition) (at : ℕ) (xs : List ℕ) (b : (i : ℕ) → getD xs i 0
       er ∙ ap (carried e) (ea ∙ ap₂ (λ (g : Head) (s : Tail). accessIn (fieldsOf g) (behindOf s)) (eh ∙ ap (headOf e) ef) k) in
       let y : q ≡ wireWords (alerts e) neg = eq ∙ ap (λ (i : ℕ). wireWords (alerts e) (ofBytes (take (wireBytes e) (drop (at + 8 + i / 8) xs)))) en in
       let w : t .word ≡ tailOf e rest .word = ap (λ (s : Tail). s .word) k in
-      let o : m ≡ otherWay (tailOf e rest .answers) = em ∙ ap (λ (s : Tail). otherWay (s .answers)) k in
+      let o : m ≡ receiveOf e (tailOf e rest .lines) = em ∙ ap (λ (s : Tail). receiveOf e (s .lines)) k in
       rw (z, ep, y, w, o) (sym (ap (λ (i : Input). record { access = carried e (i .access); sample = i .sample }) record-held))

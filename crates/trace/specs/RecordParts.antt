@@ -27,11 +27,11 @@ headOf e first =
 abbrev pub fieldsOf : Head → List ℕ
 fieldsOf h = h .kind ∷ h .register ∷ h .zeros ∷ h .value ∷ []
 
--- the fields behind the wires, by the number that they make: word, zero bits, answer bits; all 0 where there are none
+-- the fields behind the wires, by the number that they make: word, zero bits, and what comes back from the lines; all 0 where there are none
 abbrev pub tailOf : Edition → ℕ → Tail
 tailOf e rest =
     let ts = unpack (tail e) rest in
-    record { word = getD ts 0 0; zeros = getD ts 1 0; answers = getD ts 2 0 }
+    record { word = getD ts 0 0; zeros = getD ts 1 0; lines = getD ts 2 0 }
 
 abbrev pub behindOf : Tail → List ℕ
-behindOf t = t .word ∷ t .zeros ∷ t .answers ∷ []
+behindOf t = t .word ∷ t .zeros ∷ t .lines ∷ []

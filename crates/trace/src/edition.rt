@@ -11,15 +11,17 @@ pub const ALERTS_64_REGISTERS: u16 = 1024;
 
 pub const ALERTS_64_REGISTER_AT: u32 = 52;
 
-// The same of the edition of 248 alerts, whose first 64 bits are those of the edition of pings too.
+// The same of the edition of 248 alerts, whose first 64 bits are those of the later editions too.
 pub const ALERTS_248_BYTES: usize = 70;
 
 pub const ALERTS_248_REGISTERS: u16 = 2048;
 
 pub const ALERTS_248_REGISTER_AT: u32 = 51;
 
-// The record of the edition of pings.
+// The record of the edition of pings, and of the edition of receive wires.
 pub const PINGS_BYTES: usize = 75;
+
+pub const WIRES_BYTES: usize = 75;
 
 // The bytes of a record.
 pub fn record_bytes(edition: Edition) -> usize
@@ -29,6 +31,7 @@ pub fn record_bytes(edition: Edition) -> usize
         Edition::Alerts64 => ALERTS_64_BYTES,
         Edition::Alerts248 => ALERTS_248_BYTES,
         Edition::Pings => PINGS_BYTES,
+        Edition::Wires => WIRES_BYTES,
     }
 }
 
@@ -40,6 +43,7 @@ pub fn alerts(edition: Edition) -> usize
         Edition::Alerts64 => 64,
         Edition::Alerts248 => 248,
         Edition::Pings => 248,
+        Edition::Wires => 248,
     }
 }
 
@@ -69,7 +73,7 @@ fn carry_64(register: u16) -> u16
     }
 }
 
-// The map's number of the register that the edition numbers so; the newest edition has the map's own.
+// The map's number of the register that the edition numbers so; from request (ix) on an edition has the map's own.
 pub fn carry(edition: Edition, register: u16) -> u16
     ensures { λ r. ⌜ r ≡ rules.carry edition register ⌝ }
 {
@@ -77,5 +81,6 @@ pub fn carry(edition: Edition, register: u16) -> u16
         Edition::Alerts64 => carry_64(register),
         Edition::Alerts248 => without_timer(register),
         Edition::Pings => register,
+        Edition::Wires => register,
     }
 }

@@ -5,7 +5,7 @@ use crate::edition::ALERTS_64_REGISTERS;
 use crate::edition::ALERTS_248_REGISTER_AT;
 use crate::edition::ALERTS_248_REGISTERS;
 use crate::edition::carry;
-use crate::word::four;
+use crate::lines::receive_of;
 use rules::Access;
 use rules::Input;
 use rules::Sample;
@@ -75,11 +75,11 @@ struct Head {
     value: u32,
 }
 
-// The fields behind a record's wires, request (ix): the entropy word, four zero bits, four answer bits with line 0 first.
+// The fields behind a record's wires: the entropy word, zero bits, and what comes back from the lines.
 struct Tail {
     word: u32,
     zeros: u8,
-    answers: u8,
+    lines: u8,
 }
 
 // Whether all zero bits of a record are zero: those of its head and of its tail.
@@ -140,6 +140,7 @@ fn head_of(edition: Edition, first: u64) -> Head
         Edition::Alerts64 => head_64(first),
         Edition::Alerts248 => head_248(first),
         Edition::Pings => head_248(first),
+        Edition::Wires => head_248(first),
     }
 }
 
@@ -197,10 +198,11 @@ fn wires_at(edition: Edition, bytes: &[u8], at: usize) -> [u64; WORDS]
         Edition::Alerts64 => wires_64(bytes, at),
         Edition::Alerts248 => wires_248(bytes, at),
         Edition::Pings => wires_248(bytes, at),
+        Edition::Wires => wires_248(bytes, at),
     }
 }
 
-// The word, the zero bits and the answer bits of a record of pings.
+// Request (ix): the word, four zero bits and four answer bits.
 fn pings_at(bytes: &[u8], at: usize) -> Tail
     requires { ⌜ at + 5 ≤ length (now bytes) ⌝ }
     ensures { λ r. ⌜ r ≡ tailOf Edition.Pings (ofBytes (take 5 (drop at (now (bytes .entry))))) ⌝ }
@@ -210,11 +212,25 @@ fn pings_at(bytes: &[u8], at: usize) -> Tail
     Tail {
         word,
         zeros: last / 16,
-        answers: last % 16,
+        lines: last % 16,
     }
 }
 
-// The tail of a record that begins at a place; older editions have none, which is word 0 and no answer.
+// Request (xi): the word and the four receive pairs, with no zero bit.
+fn pairs_at(bytes: &[u8], at: usize) -> Tail
+    requires { ⌜ at + 5 ≤ length (now bytes) ⌝ }
+    ensures { λ r. ⌜ r ≡ tailOf Edition.Wires (ofBytes (take 5 (drop at (now (bytes .entry))))) ⌝ }
+{
+    let word = half_at(bytes, at);
+    let lines = bytes[at + 4];
+    Tail {
+        word,
+        zeros: 0,
+        lines,
+    }
+}
+
+// The tail of a record that begins at a place; the oldest editions have none, which is word 0 and no answer.
 fn tail_at(edition: Edition, bytes: &[u8], at: usize) -> Tail
     requires { ⌜ at + tailBytes edition ≤ length (now bytes) ⌝ }
     ensures { λ r. ⌜ r ≡ tailOf edition (ofBytes (take (tailBytes edition) (drop at (now (bytes .entry))))) ⌝ }
@@ -223,18 +239,20 @@ fn tail_at(edition: Edition, bytes: &[u8], at: usize) -> Tail
         Edition::Alerts64 => Tail {
             word: 0,
             zeros: 0,
-            answers: 0,
+            lines: 0,
         },
         Edition::Alerts248 => Tail {
             word: 0,
             zeros: 0,
-            answers: 0,
+            lines: 0,
         },
         Edition::Pings => pings_at(bytes, at),
+        Edition::Wires => pairs_at(bytes, at),
     }
 }
 
-// The record whose first byte is at a place: the access, the positive wires with alert 0 first, the negative wires, the word and the answers.
+// The record whose first byte is at a place: the access, the positive wires with alert 0 first, the negative wires, the word and
+// what comes back from the lines.
 pub fn input_at(edition: Edition, bytes: &[u8], at: usize) -> Input
     requires { ⌜ at + recordBytes edition ≤ length (now bytes) ⌝ }
     ensures { λ r. ⌜ r ≡ inputOf edition (take (recordBytes edition) (drop at (now (bytes .entry)))) ⌝ }
@@ -245,13 +263,13 @@ pub fn input_at(edition: Edition, bytes: &[u8], at: usize) -> Input
     let access = carried(edition, access_in(head, tail));
     let pos = wires_at(edition, bytes, at + 8);
     let neg = wires_at(edition, bytes, at + 8 + wires);
-    let answers = four(tail.answers) as u32;
+    let receive = receive_of(edition, tail.lines);
     Input {
         access,
         sample: Sample {
             alerts: Wires { pos, neg },
             word: tail.word,
-            answers,
+            receive,
         },
     }
 }

@@ -9,7 +9,7 @@ ghost use Rattle.bits.specs.Fields.{pack};
 ghost use Rattle.trace_rules.specs.Word.{refusalOf, readOf, wordBy};
 
 // Bit k as a number.
-fn digit(x: u8, k: u32) -> u64
+pub fn digit(x: u8, k: u32) -> u64
     requires { ⌜ k < 8 ⌝ }
     ensures { λ r. ⌜ (r ≡ num (bit x k)) × (r < 2) ⌝ }
 {

@@ -62,6 +62,11 @@ pub admits-all : (h : Handler) → valid h ≡ true → admits newest h ≡ true
 unfolding admits
 admits-all h v = true-and v (true-and (le-leb (h .n) most (facts h v .n)) refl)
 
+-- request (xi): the records of request (ix) do too, so that their batch runs wherever one of the newest does
+pub admits-pings : (h : Handler) → admits Edition.Pings h ≡ admits newest h
+unfolding admits
+admits-pings h = refl
+
 -- ── refused or not ──
 
 -- request (iii): a batch of old records answers 7 to a state of more than 64 alerts all the same, by what its edition admits

@@ -13,7 +13,7 @@ use Rattle.trace_rules.specs.Edition.{hasTimer, withoutTimer, carried64, carrie
 use Rattle.rules.specs.Map.{within, decode, numberOf, isRegister, singleNumber, offset, stride, classBase}
 use Rattle.rules.specs.State.{localCount, classCount, fieldIndex}
 use Rattle.trace_rules.specs.declared.Edition.{Edition}
-use Rattle.trace_rules.specs.declared.Edition.the-variants.{Alerts64, Alerts248, Pings}
+use Rattle.trace_rules.specs.declared.Edition.the-variants.{Alerts64, Alerts248, Pings, Wires}
 use Rattle.rules.specs.declared.Register.{Register}
 use Rattle.rules.specs.declared.Register.the-variants.{Only, Local, Alert, Block, Unassigned}
 use Rattle.rules.specs.declared.Single.{Single}
@@ -190,3 +190,4 @@ module _ (r : ℕ) where
   older-apart Alerts64 o = apart64
   older-apart Alerts248 o = without
   older-apart Pings o = absurd (true≢false o)
+  older-apart Wires o = absurd (true≢false o)

@@ -1,10 +1,11 @@
 pub mod CarryLaws
 pub mod PartLaws
 pub mod OlderEditions
+pub mod Unchecked
 pub mod BatchLaws
 pub mod BatchAboveExamples
 pub mod WireLaws
-pub mod OtherWay
+pub mod LineBits
 pub mod RecordLaws
 pub mod WellFormedLaws
 pub mod Recordable

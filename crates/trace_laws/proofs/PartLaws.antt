@@ -6,13 +6,14 @@ use native.Mathlib.Nat.{div-add-mod', div-self, mod-self, suc-mul, add-mul, le-d
 use native.Mathlib.Omega.{arith}
 use Rattle.trace_rules.specs.Edition.{recordBytes}
 use Rattle.trace_rules.specs.declared.Edition.{Edition}
-use Rattle.trace_rules.specs.declared.Edition.the-variants.{Alerts64, Alerts248, Pings}
+use Rattle.trace_rules.specs.declared.Edition.the-variants.{Alerts64, Alerts248, Pings, Wires}
 
 -- a record has bytes
 pub some-bytes : (e : Edition) → 0 < recordBytes e
 some-bytes Alerts64 = omega arith
 some-bytes Alerts248 = omega arith
 some-bytes Pings = omega arith
+some-bytes Wires = omega arith
 
 module _ (d : ℕ) (p : 0 < d) where
   -- nothing is left over

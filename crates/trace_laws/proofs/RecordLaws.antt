@@ -1,11 +1,11 @@
 -- One record: reading what was written gives the same access and sample, and writing what was read the same bytes.
 -- Assumes nothing.
-use Prim.Native.Nat.{ℕ, zero, suc, _*_, _%_, _^_, _≤_, _<_}
+use Prim.Native.Nat.{ℕ, zero, suc, _*_, _^_, _≤_, _<_}
 use mathlib.Core.Path.{_≡_, refl, sym, ap, ap₂, _∙_, subst}
 use mathlib.Core.Bool.{Bool, true, false, false≢true, cond, _&&_}
 use mathlib.Core.List.{List, [], _∷_}
 use native.Mathlib.Omega.{arith}
-use native.Mathlib.Nat.{mod-lt, mod-eq-of-lt}
+use native.Mathlib.Nat.{mod-lt}
 use borrow.Author.Tests.{ltb-true, ne-eqb}
 use lib.Dec.{eqb, eqb·suc-zero}
 use lib.ListN.{getD, length}
@@ -17,17 +17,19 @@ use Rattle.bits.proofs.FieldLaws.{pack-lt, unpack-pack, pack-unpack, unpack-fit
 use Rattle.bits.proofs.IndexLaws.{and-true}
 use Rattle.rules.specs.Access.{malformed}
 use Rattle.trace_rules.specs.Edition.{recordBytes, registerBits, zeroBits, alerts, tail, hasTimer}
-use Rattle.trace_rules.specs.Record.{layout, valueBits, accessOf, accessIn, wordIn, answersIn, inputOfFields, heldIn, kindOf, registerOf, valueOf, tailFields, fieldsOfInput, recordOf, recordable}
-use Rattle.trace_rules.specs.Writer.{Wired}
+use Rattle.trace_rules.specs.Record.{layout, valueBits, accessOf, accessIn, wordIn, receiveOf, inputOfFields, heldIn, kindOf, registerOf, valueOf, tailFields, fieldsOfInput, recordOf, recordable}
+use Rattle.trace_rules.specs.Writer.{Wired, keeps}
 use Rattle.rules.specs.declared.Access.{Access}
 use Rattle.rules.specs.declared.Access.the-variants.{Nothing, Read, Write, Malformed}
 use Rattle.trace_rules.specs.declared.Edition.{Edition}
-use Rattle.trace_rules.specs.declared.Edition.the-variants.{Alerts64, Alerts248, Pings}
+use Rattle.trace_rules.specs.declared.Edition.the-variants.{Alerts64, Alerts248, Pings, Wires}
 use Rattle.rules.specs.declared.Input.{Input}
 use Rattle.rules.specs.declared.Sample.{Sample}
-use Rattle.rules.specs.declared.Wires.{Wires}
+use Rattle.rules.specs.declared.Receive.{Receive}
+use Rattle.rules.specs.declared.Receive.the-variants.{Pairs, Answers}
+use Rattle.rules.specs.declared.Wires as wires
 use Rattle.trace_laws.specs.Wires.{shown}
-use Rattle.trace_laws.proofs.OtherWay.{other-lt, other-none, other-twice}
+use Rattle.trace_laws.proofs.LineBits.{answer-bits-lt, answers-back, answer-bits-back, pair-bits-lt, positives-back, negatives-back, pair-bits-back}
 use Rattle.trace_laws.proofs.WireLaws.{wires-lt, wires-back}
 
 pub record-length : (e : Edition) (x : Input) → length (recordOf e x) ≡ recordBytes e
@@ -43,6 +45,7 @@ layout-bytes : (e : Edition) → total (layout e) ≡ 8 * recordBytes e
 layout-bytes Alerts64 = refl
 layout-bytes Alerts248 = refl
 layout-bytes Pings = refl
+layout-bytes Wires = refl
 
 -- ── from an access and sample to bytes and back ──
 
@@ -71,23 +74,27 @@ value-lt e Malformed t = pow-pos valueBits
 tail-fits : (e : Edition) (s : Sample) → s .word < 2 ^ 32 → Fit (tail e) (tailFields e s)
 tail-fits Alerts64 s l = none
 tail-fits Alerts248 s l = none
-tail-fits Pings s l = one l (one (pow-pos 4) (one (other-lt (s .answers)) none))
+tail-fits Pings s l = one l (one (pow-pos 4) (one (answer-bits-lt (s .receive)) none))
+tail-fits Wires s l = one l (one (pow-pos 0) (one (pair-bits-lt (s .receive)) none))
 
--- they have no bit among the zero bits, and give the word and the answers
+-- they have no bit among the zero bits, and give the word and what is kept of the lines
 tail-zeros : (e : Edition) (s : Sample) → getD (tailFields e s) 1 0 ≡ 0
 tail-zeros Alerts64 s = refl
 tail-zeros Alerts248 s = refl
 tail-zeros Pings s = refl
+tail-zeros Wires s = refl
 
 word-back : (e : Edition) (s : Sample) → wordIn (tailFields e s) ≡ cond (hasTimer e) (s .word) 0
 word-back Alerts64 s = refl
 word-back Alerts248 s = refl
 word-back Pings s = refl
+word-back Wires s = refl
 
-answers-back : (e : Edition) (s : Sample) → answersIn (tailFields e s) ≡ cond (hasTimer e) (s .answers % 2 ^ 4) 0
-answers-back Alerts64 s = other-none
-answers-back Alerts248 s = other-none
-answers-back Pings s = other-twice (s .answers)
+receive-back : (e : Edition) (s : Sample) → receiveOf e (getD (tailFields e s) 2 0) ≡ keeps e (s .receive)
+receive-back Alerts64 s = refl
+receive-back Alerts248 s = refl
+receive-back Pings s = ap Answers (answers-back (s .receive))
+receive-back Wires s = ap₂ Pairs (positives-back (s .receive)) (negatives-back (s .receive))
 
 -- and give the access
 access-back : (e : Edition) (a : Access) → recordable e a ≡ true → accessOf (kindOf a) (registerOf a) (valueOf a) ≡ a
@@ -108,7 +115,7 @@ module _ (e : Edition) (x : Input) (w : Wired x) (t : recordable e (x .access) �
       ap (λ (n : ℕ). cond (eqb n 0) (accessOf (kindOf (x .access)) (registerOf (x .access)) (valueOf (x .access))) Malformed) (tail-zeros e (x .sample))
       ∙ access-back e (x .access) t
 
-  -- reading the record gives the same access, and the wires, word and answers that the edition has a place for
+  -- reading the record gives the same access, and the wires, the word and what comes back from the lines as the edition has a place for them
   pub input-record : heldIn e (recordOf e x) ≡ shown e x
   unfolding heldIn recordOf
   input-record =
@@ -116,8 +123,8 @@ module _ (e : Edition) (x : Input) (w : Wired x) (t : recordable e (x .access) �
       ap (λ (n : ℕ). inputOfFields e (unpack (layout e) n)) (of-to-bytes (recordBytes e) (pack (layout e) (fieldsOfInput e x)) small)
       ∙ ap (inputOfFields e) (unpack-pack fields-fit)
       ∙ ap (λ (a : Access). record { access = a; sample = inputOfFields e (fieldsOfInput e x) .sample }) same-access
-      ∙ ap₂ (λ (n m : ℕ). record { access = x .access; sample = record { alerts = shown e x .sample .alerts; word = n; answers = m } })
-      (word-back e (x .sample)) (answers-back e (x .sample))
+      ∙ ap₂ (λ (n : ℕ) (r : Receive). record { access = x .access; sample = record { alerts = shown e x .sample .alerts; word = n; receive = r } })
+      (word-back e (x .sample)) (receive-back e (x .sample))
 
 -- ── from bytes to an access and sample and back ──
 
@@ -131,6 +138,7 @@ word-lt : (e : Edition) {ts : List ℕ} → Fit (tail e) ts → wordIn ts < 2 ^ 
 word-lt Alerts64 none = pow-pos 32
 word-lt Alerts248 none = pow-pos 32
 word-lt Pings (one l f) = l
+word-lt Wires (one l f) = l
 
 pub held-wired : (e : Edition) (bytes : List ℕ) → Wired (heldIn e bytes)
 unfolding heldIn unpack
@@ -168,13 +176,15 @@ pub access-fields : (k r z v : ℕ) (ts : List ℕ) → malformed (accessIn (k �
     → FieldsOf (accessIn (k ∷ r ∷ z ∷ v ∷ []) ts) k r z v (getD ts 1 0)
 access-fields k r z v ts f = held-fields k r z v (getD ts 1 0) f
 
--- the fields of its tail, of the word and the answers that were read, are its fields
-tail-back : (e : Edition) (w : Wires) {ts : List ℕ} → Fit (tail e) ts → 0 ≡ getD ts 1 0
-    → tailFields e (record { alerts = w; word = wordIn ts; answers = answersIn ts }) ≡ ts
+-- the fields of its tail, of the word and what was read of the lines, are its fields
+tail-back : (e : Edition) (w : wires.Wires) {ts : List ℕ} → Fit (tail e) ts → 0 ≡ getD ts 1 0
+    → tailFields e (record { alerts = w; word = wordIn ts; receive = receiveOf e (getD ts 2 0) }) ≡ ts
 tail-back Alerts64 w none z = refl
 tail-back Alerts248 w none z = refl
 tail-back Pings w (one {x = n} l (one {x = m} k (one {x = a} j none))) z =
-    ap₂ (λ (p q : ℕ). n ∷ p ∷ q ∷ []) z (other-twice a ∙ mod-eq-of-lt j)
+    ap₂ (λ (p q : ℕ). n ∷ p ∷ q ∷ []) z (answer-bits-back a j)
+tail-back Wires w (one {x = n} l (one {x = m} k (one {x = a} j none))) z =
+    ap₂ (λ (p q : ℕ). n ∷ p ∷ q ∷ []) z (pair-bits-back a j)
 
 -- the fields of its access, wires and tail are its fields
 fields-of-read : (e : Edition) (k r z v p m : ℕ) (ts : List ℕ) → p < 2 ^ alerts e → m < 2 ^ alerts e → Fit (tail e) ts → malformed (accessIn (k ∷ r ∷ z ∷ v ∷ []) ts) ≡ false

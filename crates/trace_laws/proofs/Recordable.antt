@@ -21,6 +21,7 @@ use Rattle.rules.specs.declared.Access.{Access}
 use Rattle.rules.specs.declared.Access.the-variants.{Nothing, Read, Write, Malformed}
 use Rattle.trace_rules.specs.declared.Edition.{Edition}
 use Rattle.rules.specs.declared.Input.{Input}
+use Rattle.rules.specs.declared.Receive.the-variants.{Pairs}
 use Rattle.trace_laws.proofs.RecordLaws.{record-length, record-byte, input-record, access-fields}
 use Rattle.trace_laws.proofs.WellFormedLaws.{formed-one, one-formed}
 
@@ -59,9 +60,9 @@ record-formed e x w t =
     one-formed e (recordOf e x) (record-length e x) (record-byte e x)
     (ap (λ (y : Input). malformed (y .access)) (input-record e x w t) ∙ formed e (x .access) t)
 
--- with all wires at 0, word 0 and no answer
+-- with all wires at 0 and word 0
 abbrev quiet : Edition → Access → Input
-quiet e a = record { access = a; sample = record { alerts = record { pos = wireWords (alerts e) 0; neg = wireWords (alerts e) 0 }; word = 0; answers = 0 } }
+quiet e a = record { access = a; sample = record { alerts = record { pos = wireWords (alerts e) 0; neg = wireWords (alerts e) 0 }; word = 0; receive = Pairs 0 0 } }
 
 held : (e : Edition) (a : Access) → recordable e a ≡ true → HeldBy e a
 held e a t =

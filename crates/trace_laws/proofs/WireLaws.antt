@@ -18,7 +18,7 @@ use Rattle.rules.specs.State.{words}
 use Rattle.trace_rules.specs.Writer.{Wired, SameRead}
 use Rattle.trace_rules.specs.declared.Edition.{Edition}
 use Rattle.rules.specs.declared.Input.{Input}
-use Rattle.trace_rules.specs.declared.Edition.the-variants.{Alerts64, Alerts248, Pings}
+use Rattle.trace_rules.specs.declared.Edition.the-variants.{Alerts64, Alerts248, Pings, Wires}
 use Rattle.trace_laws.specs.Wires.{shown}
 
 -- the words have room for an edition's wires
@@ -26,6 +26,7 @@ room : (e : Edition) → alerts e ≤ 64 * words
 room Alerts64 = omega arith
 room Alerts248 = omega arith
 room Pings = omega arith
+room Wires = omega arith
 
 total-words : (n : ℕ) → total (replicate n 64) ≡ 64 * n
 total-words zero = refl
@@ -94,7 +95,7 @@ place-kept e ws i f h =
     place-unpack words (n / 2 ^ b * 2 ^ b) i (omega arith) ∙ bit-up (n / 2 ^ b) b k (omega arith) ∙ bit-shr n b (k - b) ∙ ap (bit n) s
     ∙ sym (place-unpack words n i (omega arith)) ∙ ap (λ (vs : List ℕ). placeIn vs i) (unpack-pack f)
 
--- reading what was written gives the same access, the same pair of each alert, and with the timer the same word and answers
+-- reading what was written gives the same access, the same pair of each alert, with the timer the same word, and what is kept of the lines
 pub same-shown : (e : Edition) (x : Input) → Wired x → SameRead e x (shown e x)
 same-shown e x w =
     record {
@@ -102,5 +103,5 @@ same-shown e x w =
       positive = λ i l. place-kept e (x .sample .alerts .pos) i (w .positive) l;
       negative = λ i l. place-kept e (x .sample .alerts .neg) i (w .negative) l;
       word = refl;
-      answers = refl;
+      receive = refl;
     }

@@ -1,4 +1,5 @@
 pub mod TraceScenes
 pub mod TraceExamples
 pub mod PingExamples
+pub mod WireExamples
 pub mod WriterExamples

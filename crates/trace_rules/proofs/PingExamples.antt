@@ -8,22 +8,18 @@ use lib.ListN.{replicate}
 use Rattle.bits.specs.Fields.{toBytes}
 use Rattle.link_rules.specs.declared.Turn.{Turn}
 use Rattle.trace_rules.specs.Batch.{Batched, batch}
-use Rattle.trace_rules.specs.Edition.{editionBy, carry}
+use Rattle.trace_rules.specs.Edition.{carry}
 use Rattle.trace_rules.specs.Record.{inputOf}
 use Rattle.rules.specs.State.{newHandler, withTimer}
 use Rattle.rules.specs.declared.Access.{Access}
 use Rattle.trace_rules.specs.declared.Edition.{Edition}
 use Rattle.trace_rules.specs.declared.Edition.the-variants.{Alerts64, Alerts248, Pings}
 use Rattle.rules.specs.declared.Handler.{Handler}
+use Rattle.rules.specs.declared.Receive.the-variants.{Answers}
 use Rattle.rules.specs.declared.Sample.{Sample}
 use Rattle.rules.specs.Scenes.{refused}
 use Rattle.rules.proofs.Scenes.{rules}
 use Rattle.trace_rules.proofs.TraceScenes.{traces}
-
--- "first byte 254"; request (iii): "first byte is 255"; "other inputs are read as before"
-first-bytes : map editionBy (0 ∷ 1 ∷ 64 ∷ 65 ∷ 253 ∷ 254 ∷ 255 ∷ []) ≡ Alerts64 ∷ Alerts64 ∷ Alerts64 ∷ Alerts64 ∷ Alerts64 ∷ Pings ∷ Alerts248 ∷ []
-unfolding rules traces
-first-bytes = refl
 
 -- ── the record of 75 bytes ──
 
@@ -64,12 +60,12 @@ wires = (refl, refl, refl, refl)
 words : (map (λ (u : ℕ). sampleIn 0 0 u 0 .word) (0 ∷ 1 ∷ 0x12345678 ∷ 0x80000000 ∷ 0xFFFFFFFF ∷ []) ≡ 0 ∷ 1 ∷ 0x12345678 ∷ 0x80000000 ∷ 0xFFFFFFFF ∷ [])
     × (sampleIn (2 ^ 248 - 1) (2 ^ 248 - 1) 0 255 .word ≡ 0)
     × (sampleIn 0 0 (2 ^ 32 - 1) 0 .alerts .neg ≡ replicate 4 0)
-    × (sampleIn 0 0 (2 ^ 32 - 1) 0 .answers ≡ 0)
+    × (sampleIn 0 0 (2 ^ 32 - 1) 0 .receive ≡ Answers 0)
 unfolding rules traces
 words = (refl, refl, refl, refl)
 
 -- "four answer bits, line 0 first": line 0 is bit 3 of the last byte, and lowest in the sample
-answers : map (λ (l : ℕ). sampleIn 0 0 0 l .answers) (0 ∷ 8 ∷ 4 ∷ 2 ∷ 1 ∷ 12 ∷ 14 ∷ 13 ∷ 15 ∷ []) ≡ 0 ∷ 1 ∷ 2 ∷ 4 ∷ 8 ∷ 3 ∷ 7 ∷ 11 ∷ 15 ∷ []
+answers : map (λ (l : ℕ). sampleIn 0 0 0 l .receive) (0 ∷ 8 ∷ 4 ∷ 2 ∷ 1 ∷ 12 ∷ 14 ∷ 13 ∷ 15 ∷ []) ≡ map Answers (0 ∷ 1 ∷ 2 ∷ 4 ∷ 8 ∷ 3 ∷ 7 ∷ 11 ∷ 15 ∷ [])
 unfolding rules traces
 answers = refl
 
@@ -84,7 +80,7 @@ zero-bits = (refl, refl, refl, refl)
 -- and leaves the sample as it is
 zero-bits-sample : (sampleIn 5 9 0xFFFFFFFF 0xF8 ≡ sampleIn 5 9 0xFFFFFFFF 8)
     × (sampleIn 5 9 0xFFFFFFFF 0x18 .word ≡ 0xFFFFFFFF)
-    × (sampleIn 5 9 0xFFFFFFFF 0x18 .answers ≡ 1)
+    × (sampleIn 5 9 0xFFFFFFFF 0x18 .receive ≡ Answers 1)
 unfolding rules traces
 zero-bits-sample = (refl, refl, refl)
 
@@ -155,9 +151,9 @@ answer-acts = (refl, refl, refl, refl, refl)
 
 -- "older editions keep their words": word 0 and no answer, whatever bits a record has
 older-samples : (inputOf Alerts64 (replicate 24 255) .sample .word ≡ 0)
-    × (inputOf Alerts64 (replicate 24 255) .sample .answers ≡ 0)
+    × (inputOf Alerts64 (replicate 24 255) .sample .receive ≡ Answers 0)
     × (inputOf Alerts248 (replicate 70 255) .sample .word ≡ 0)
-    × (inputOf Alerts248 (replicate 70 255) .sample .answers ≡ 0)
+    × (inputOf Alerts248 (replicate 70 255) .sample .receive ≡ Answers 0)
 unfolding rules traces
 older-samples = (refl, refl, refl, refl)
 
@@ -187,12 +183,16 @@ tried248 =
     (old248 0x40200000 0 ++ old248 0x40280000 0 ++ old248 0x40300000 0 ++ old248 0x80200000 0
     ++ old248 0x80280000 9 ++ old248 0x80280000 9 ++ old248 0x80300000 1) (replicate 7 0)
 
-not-reached : (tried64 ≡ record { handler = newHandler 1; answer = pos 0; out = replicate 7 0x0010000000000000 })
-    × (tried248 ≡ record { handler = newHandler 1; answer = pos 0; out = replicate 7 0x0010000000000000 })
+refused-in-them : (tried64 .out ≡ replicate 7 0x0010000000000000) × (tried248 .out ≡ replicate 7 0x0010000000000000)
 unfolding rules traces
-not-reached = (refl, refl)
+refused-in-them = (refl, refl)
 
--- "an older batch answers 7 where the timer is on": before 8 and 9, with no bytes too, state and list unchanged; a batch of the newest runs
+not-reached : (tried64 .handler .timer ≡ newHandler 1 .timer) × (tried64 .handler .stages ≡ newHandler 1 .stages)
+    × (tried248 .handler .timer ≡ newHandler 1 .timer) × (tried248 .handler .stages ≡ newHandler 1 .stages)
+unfolding rules traces
+not-reached = (refl, refl, refl, refl)
+
+-- "an older batch answers 7 where the timer is on": before 8 and 9, with no bytes too, state and list unchanged; a batch of pings runs
 abbrev timed : Handler
 timed = withTimer (record { timeout = 0; regwen = 1; enable = 1 }) (newHandler 1)
 
@@ -211,7 +211,7 @@ older-batches : refuses Alerts64 [] (7 ∷ [])
 unfolding rules traces
 older-batches = (refl, refl, refl, refl, refl, refl, refl, refl, refl)
 
--- also where a batch of the newest has turned it on
+-- also where a batch of pings has turned it on
 turned-on : map (λ (e : Edition). given (batch e (runs (newHandler 1) on .handler) [] [])) (Alerts64 ∷ Alerts248 ∷ Pings ∷ []) ≡ refused 7 ∷ refused 7 ∷ pos 0 ∷ []
 unfolding rules traces
 turned-on = refl

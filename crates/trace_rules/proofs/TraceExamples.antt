@@ -1,4 +1,4 @@
--- Worked examples that pin "Traces" and the batch, by computation; PingExamples has the edition of pings.
+-- Worked examples that pin "Traces" and the batch, by computation; PingExamples has the edition of pings, WireExamples that of receive wires.
 -- Assumes nothing.
 use Prim.Native.Nat.{ℕ, _+_, _*_, _^_}
 use mathlib.Core.Path.{_≡_, refl}
@@ -17,6 +17,7 @@ use Rattle.trace_rules.specs.declared.Edition.{Edition}
 use Rattle.trace_rules.specs.declared.Edition.the-variants.{Alerts64, Alerts248}
 use Rattle.rules.specs.declared.Refusal.{Refusal}
 use Rattle.rules.specs.declared.Refusal.the-variants.{NoRegister, WrongWay, Locked, TooWide, BadRecord, BadState, Differs, SillyThreshold}
+use Rattle.rules.specs.declared.LinePairs.{LinePairs}
 use Rattle.rules.specs.declared.Wires.{Wires}
 use Rattle.rules.specs.Scenes.{refused}
 use Rattle.trace_rules.specs.Word.{wordOf}
@@ -102,11 +103,12 @@ wires248 = (refl, refl, refl, refl)
 
 -- ── words ──
 
-abbrev wordWith : Wires → Wires → ℕ → ℕ → Answer → ℕ
-wordWith acknowledge ping i l a = wordOf (record { handler = newHandler 1; answer = a; output = record { interrupts = i; lines = l; acknowledge = acknowledge; ping = ping } })
+abbrev wordWith : Wires → Wires → LinePairs → ℕ → ℕ → Answer → ℕ
+wordWith acknowledge ping escalation i l a =
+    wordOf (record { handler = newHandler 1; answer = a; output = record { interrupts = i; lines = l; acknowledge = acknowledge; ping = ping; escalation = escalation } })
 
 abbrev wordOfParts : ℕ → ℕ → Answer → ℕ
-wordOfParts = wordWith (noOutput .acknowledge) (noOutput .ping)
+wordOfParts = wordWith (noOutput .acknowledge) (noOutput .ping) (noOutput .escalation)
 
 -- "interrupts (4 bits, class 0 first), lines (4, line 0 first), refusal number (4), 20 zeros, read value or 0"
 words : (wordOfParts 1 0 Answer.Done ≡ 0x8000000000000000)
@@ -121,10 +123,10 @@ words : (wordOfParts 1 0 Answer.Done ≡ 0x8000000000000000)
 unfolding rules traces
 words = (refl, refl, refl, refl, refl, refl, refl, refl, refl)
 
--- request (viii) leaves the word as it was: the acknowledge and ping pairs are not in it, whatever they are
-pairs-unseen : (a b c d : Wires) (i l : ℕ) (x : Answer) → wordWith a b i l x ≡ wordWith c d i l x
+-- requests (viii) and (xi) leave the word as it was: the acknowledge, ping and escalation pairs are not in it, whatever they are
+pairs-unseen : (a b c d : Wires) (p q : LinePairs) (i l : ℕ) (x : Answer) → wordWith a b p i l x ≡ wordWith c d q i l x
 unfolding wordOf
-pairs-unseen a b c d i l x = refl
+pairs-unseen a b c d p q i l x = refl
 
 -- "refusal number (4)", of each refusal that a tick can give: 1 to 5, 7, and 12 and 14 of the requests
 refusal-words : map (λ (m : Refusal). wordOfParts 0 0 (Answer.Refused m)) (NoRegister ∷ WrongWay ∷ Locked ∷ TooWide ∷ BadRecord ∷ BadState ∷ Differs ∷ SillyThreshold ∷ [])

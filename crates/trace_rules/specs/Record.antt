@@ -1,20 +1,23 @@
 -- "Traces": a record's access and sample, and the record of an access and sample.
 -- Assumes nothing.
-use Prim.Native.Nat.{ℕ, _-_, _*_, _/_, _^_}
+use Prim.Native.Nat.{ℕ, _+_, _-_, _*_, _/_, _%_, _^_}
 use mathlib.Core.Bool.{Bool, true, false, cond, _&&_}
 use mathlib.Core.List.{List, [], _∷_, _++_}
 use lib.Dec.{eqb}
 use lib.ListN.{getD, length, take, drop, replicate}
-use Rattle.bits.specs.Bits.{bit, bitsOf, fits}
+use Rattle.bits.specs.Bits.{bit, bitsOf, fits, wordOf}
 use Rattle.bits.specs.Fields.{pack, unpack, ofBytes, toBytes}
 use Rattle.bits.specs.Index.{each}
 use Rattle.trace_rules.specs.Edition.{recordBytes, registerBits, zeroBits, alerts, tail, carry}
+use Rattle.rules.specs.Samples.{receivePositive, receiveNegative, saysAnswered}
 use Rattle.rules.specs.State.{words}
 use Rattle.rules.specs.declared.Access.{Access}
 use Rattle.rules.specs.declared.Access.the-variants.{Nothing, Read, Write, Malformed}
 use Rattle.trace_rules.specs.declared.Edition.{Edition}
-use Rattle.trace_rules.specs.declared.Edition.the-variants.{Alerts64, Alerts248, Pings}
+use Rattle.trace_rules.specs.declared.Edition.the-variants.{Alerts64, Alerts248, Pings, Wires}
 use Rattle.rules.specs.declared.Input.{Input}
+use Rattle.rules.specs.declared.Receive.{Receive}
+use Rattle.rules.specs.declared.Receive.the-variants.{Pairs, Answers}
 use Rattle.rules.specs.declared.Sample.{Sample}
 
 -- ── a record, most significant bit first ──
@@ -40,7 +43,7 @@ accessOf kind register value =
     (cond (eqb kind 1) (cond (eqb value 0) (Access.Read register) Access.Malformed)
     (cond (eqb kind 2) (Access.Write register value) Access.Malformed))
 
--- whether all zero bits of a record are zero, by the fields hs of its head and ts of its tail: where it has a tail, the four behind the word too
+-- whether all zero bits of a record are zero, by the fields hs of its head and ts of its tail: where it has zero bits behind the word, those too
 abbrev pub clear : List ℕ → List ℕ → Bool
 clear hs ts = eqb (getD hs 2 0) 0 && eqb (getD ts 1 0) 0
 
@@ -55,17 +58,27 @@ wireWords n wires = unpack (replicate words 64) (wires * 2 ^ (64 * words - n))
 abbrev pub wiresOf : ℕ → List ℕ → ℕ
 wiresOf n ws = pack (replicate words 64) ws / 2 ^ (64 * words - n)
 
--- request (ix): "four answer bits, line 0 first": in a sample line 0 is lowest, so that the four are the other way round, from a record and into
--- one; bits from 4 up are no line's, and left out
-unfoldable pub otherWay : ℕ → ℕ
-otherWay x = bitsOf 4 (λ l. bit x (3 - l))
-
--- the entropy word, and the lines whose ping is answered, by the fields ts of the tail: without them word 0 and no answer
+-- the entropy word, by the fields ts of the tail: without it word 0
 abbrev pub wordIn : List ℕ → ℕ
 wordIn ts = getD ts 0 0
 
-abbrev pub answersIn : List ℕ → ℕ
-answersIn ts = otherWay (getD ts 2 0)
+-- request (ix): "four answer bits, line 0 first"; in a sample line 0 is lowest
+unfoldable pub answersOf : ℕ → ℕ
+answersOf x = bitsOf 4 (λ l. bit x (3 - l))
+
+-- request (xi): "four receive pairs, line 0 and positive wire first"; in a sample line 0 is lowest, in the positive wires and in the negative ones
+unfoldable pub positivesOf : ℕ → ℕ
+positivesOf x = bitsOf 4 (λ l. bit x (7 - 2 * l))
+
+unfoldable pub negativesOf : ℕ → ℕ
+negativesOf x = bitsOf 4 (λ l. bit x (7 - (2 * l + 1)))
+
+-- what comes back from the lines, by the last field of the tail; "older editions run as in (ix), senders unchecked", and the oldest have no answer
+abbrev pub receiveOf : Edition → ℕ → Receive
+receiveOf Alerts64 x = Answers 0
+receiveOf Alerts248 x = Answers 0
+receiveOf Pings x = Answers (answersOf x)
+receiveOf Wires x = Pairs (positivesOf x) (negativesOf x)
 
 -- by the fields of the head, the wires and the tail
 abbrev pub inputOfParts : Edition → List ℕ → List ℕ → List ℕ → Input
@@ -76,7 +89,7 @@ inputOfParts e hs ws ts =
           record {
             alerts = record { pos = wireWords (alerts e) (getD ws 0 0); neg = wireWords (alerts e) (getD ws 1 0) };
             word = wordIn ts;
-            answers = answersIn ts;
+            receive = receiveOf e (getD ts 2 0);
           };
     }
 
@@ -124,10 +137,19 @@ headFields a = kindOf a ∷ registerOf a ∷ 0 ∷ valueOf a ∷ []
 abbrev pub wireFields : Edition → Sample → List ℕ
 wireFields e s = wiresOf (alerts e) (s .alerts .pos) ∷ wiresOf (alerts e) (s .alerts .neg) ∷ []
 
+-- four answer bits, line 0 first
+unfoldable pub answerBits : Receive → ℕ
+answerBits r = wordOf 4 (saysAnswered r)
+
+-- four receive pairs, line 0 and positive wire first
+unfoldable pub pairBits : Receive → ℕ
+pairBits r = wordOf 8 (λ i. cond (eqb (i % 2) 0) (receivePositive r (i / 2)) (receiveNegative r (i / 2)))
+
 abbrev pub tailFields : Edition → Sample → List ℕ
 tailFields Alerts64 s = []
 tailFields Alerts248 s = []
-tailFields Pings s = s .word ∷ 0 ∷ otherWay (s .answers) ∷ []
+tailFields Pings s = s .word ∷ 0 ∷ answerBits (s .receive) ∷ []
+tailFields Wires s = s .word ∷ 0 ∷ pairBits (s .receive) ∷ []
 
 abbrev pub fieldsOfInput : Edition → Input → List ℕ
 fieldsOfInput e x = headFields (x .access) ++ (wireFields e (x .sample) ++ tailFields e (x .sample))

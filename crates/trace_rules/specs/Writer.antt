@@ -7,17 +7,22 @@ use mathlib.Core.List.{List, [], _∷_, _++_}
 use lib.Dec.{ltb}
 use lib.IntN.{ℤ, pos}
 use lib.ListN.{getD, length, drop, replicate}
+use Rattle.bits.specs.Bits.{bitsOf}
 use Rattle.bits.specs.Fields.{Fit}
 use Rattle.bits.specs.Index.{placeIn}
 use Rattle.rules.specs.Answer.{Case, firstOf, number}
 use Rattle.rules.specs.Access.{malformed}
 use Rattle.trace_rules.specs.Edition.{recordBytes, alerts, hasTimer}
 use Rattle.trace_rules.specs.Record.{heldIn, recordOf, recordable, recordCount, recordAt}
+use Rattle.rules.specs.Samples.{receivePositive, receiveNegative, saysAnswered}
 use Rattle.rules.specs.State.{words}
 use Rattle.rules.specs.declared.Access.{Access}
 use Rattle.rules.specs.declared.Answer.{Answer}
 use Rattle.trace_rules.specs.declared.Edition.{Edition}
+use Rattle.trace_rules.specs.declared.Edition.the-variants.{Alerts64, Alerts248, Pings, Wires}
 use Rattle.rules.specs.declared.Input.{Input}
+use Rattle.rules.specs.declared.Receive.{Receive}
+use Rattle.rules.specs.declared.Receive.the-variants.{Pairs, Answers}
 use Rattle.rules.specs.declared.Refusal.the-variants.{NoRecord, ShortBuffer}
 use Rattle.rules.specs.declared.Verdict.{Verdict}
 
@@ -76,14 +81,21 @@ pub record Wired (x : Input) : Type 0 where
   pub negative : Fit (replicate words 64) (x .sample .alerts .neg)
   pub word : x .sample .word < 2 ^ 32
 
--- y is x as an edition's record gives it back: the same access, the same pair of wires of each alert that the edition speaks of, and where it has
--- the timer the same word and the same answers of the four lines, else word 0 and no answer
+-- what an edition's record keeps of what comes back from the four lines: the receive pairs, or which lines' ping is answered, or nothing
+abbrev pub keeps : Edition → Receive → Receive
+keeps Alerts64 r = Answers 0
+keeps Alerts248 r = Answers 0
+keeps Pings r = Answers (bitsOf 4 (saysAnswered r))
+keeps Wires r = Pairs (bitsOf 4 (receivePositive r)) (bitsOf 4 (receiveNegative r))
+
+-- y is x as an edition's record gives it back: the same access, the same pair of wires of each alert that the edition speaks of, where it has the
+-- timer the same word, else word 0, and what it keeps of the lines
 pub record SameRead (e : Edition) (x y : Input) : Type 0 where
   pub access : y .access ≡ x .access
   pub positive : (i : ℕ) → i < alerts e → placeIn (y .sample .alerts .pos) i ≡ placeIn (x .sample .alerts .pos) i
   pub negative : (i : ℕ) → i < alerts e → placeIn (y .sample .alerts .neg) i ≡ placeIn (x .sample .alerts .neg) i
   pub word : y .sample .word ≡ cond (hasTimer e) (x .sample .word) 0
-  pub answers : y .sample .answers ≡ cond (hasTimer e) (x .sample .answers % 2 ^ 4) 0
+  pub receive : y .sample .receive ≡ keeps e (x .sample .receive)
 
 -- the same of each of a list
 pub data AllSame (e : Edition) : List Input → List Input → Type 0 where

@@ -25,7 +25,7 @@ use Rattle.rules.specs.Valid.{valid}
 use Rattle.trace_rules.specs.Word.{wordOf}
 use Rattle.rules.specs.declared.Answer.{Answer}
 use Rattle.trace_rules.specs.declared.Edition.{Edition}
-use Rattle.trace_rules.specs.declared.Edition.the-variants.{Alerts64, Alerts248, Pings}
+use Rattle.trace_rules.specs.declared.Edition.the-variants.{Alerts64, Alerts248, Pings, Wires}
 use Rattle.rules.specs.declared.Handler.{Handler}
 use Rattle.rules.specs.declared.Input.{Input}
 use Rattle.rules.specs.declared.Refusal.{Refusal}
@@ -179,4 +179,11 @@ holds-batches Pings h bytes out =
       refused-8 = λ f s. refuses Pings h bytes out BadLength 8 refl (eight Pings h bytes out f s);
       refused-9 = λ f g s. refuses Pings h bytes out ShortList 9 refl (nine Pings h bytes out f g s);
       runs = λ f g k. runs Pings h bytes out f g k;
+    }
+holds-batches Wires h bytes out =
+    record {
+      refused-7 = λ s. refuses Wires h bytes out BadState 7 refl (seven Wires h bytes out s);
+      refused-8 = λ f s. refuses Wires h bytes out BadLength 8 refl (eight Wires h bytes out f s);
+      refused-9 = λ f g s. refuses Wires h bytes out ShortList 9 refl (nine Wires h bytes out f g s);
+      runs = λ f g k. runs Wires h bytes out f g k;
     }

@@ -1,9 +1,9 @@
 -- The rules' reader of records satisfies the sentences.
 -- Assumes nothing.
-use Prim.Native.Nat.{ℕ, suc, _-_, _*_, _/_, _%_, _^_, _≤_, _<_}
-use mathlib.Core.Path.{_≡_, refl, sym, ap, _∙_, subst}
+use Prim.Native.Nat.{ℕ, suc, _+_, _-_, _*_, _/_, _%_, _^_, _≤_, _<_}
+use mathlib.Core.Path.{_≡_, refl, sym, ap, _∙_}
 use mathlib.Core.Logic.{inl, inr, ⊎-elim}
-use mathlib.Core.Bool.{Bool, true, false, cond, and-false, _&&_}
+use mathlib.Core.Bool.{Bool, true, false, false≢true, cond, and-false, _&&_}
 use mathlib.Core.List.{List, [], _∷_}
 use native.Mathlib.Omega.{arith}
 use native.Mathlib.Nat.{mod-lt}
@@ -13,16 +13,18 @@ use lib.ListN.{getD, length, drop, replicate}
 use lib.Pow.{pow-pos}
 use Rattle.bits.specs.Bits.{bit}
 use Rattle.bits.specs.Fields.{unpack, ofBytes}
+use Rattle.bits.proofs.BitLaws.{bitsOf-lt}
 use Rattle.trace_rules.specs.Edition.{alerts, withoutTimer, carried64, carried248, carry}
 use Rattle.rules.specs.Map.{numberOf}
-use Rattle.trace_rules.specs.Record.{layout, accessOf, accessIn, wireWords, otherWay, wordIn, answersIn, heldIn, carried, inputOf}
+use Rattle.trace_rules.specs.Record.{layout, accessOf, accessIn, wireWords, answersOf, positivesOf, negativesOf, wordIn, receiveOf, heldIn, carried, inputOf}
 use Rattle.rules.specs.declared.Access.{Access}
+use Rattle.rules.specs.declared.Receive.{Receive}
 use Rattle.trace_rules.specs.declared.Edition.{Edition}
-use Rattle.trace_rules.specs.declared.Edition.the-variants.{Alerts64, Alerts248, Pings}
-use Rattle.trace_laws.proofs.OtherWay.{other-lt, other-bit, other-none}
+use Rattle.trace_rules.specs.declared.Edition.the-variants.{Alerts64, Alerts248, Pings, Wires}
+use Rattle.trace_laws.proofs.LineBits.{answers-bit, positives-bit, negatives-bit}
 use Rattle.trace_laws.proofs.WireLaws.{place-unpack, bit-up, bit-below}
 use Rattle.sentences.proofs.SentenceCases.{by-phase}
-use Rattle.trace_sentences.specs.RecordBits.{form, Stands, Some, Kind, Bad, Kept, Carried, Means, WiresAre, AnswersAre, Holds, Reader}
+use Rattle.trace_sentences.specs.RecordBits.{form, Stands, Some, Kind, Bad, Kept, Carried, Means, WiresAre, AnswersAre, ReceiveIs, Form, Holds, Reader}
 use Rattle.trace_sentences.proofs.BytePlaces.{field-stands, one-stands, some-not-zero, none-zero}
 
 -- ── register numbers ──
@@ -56,6 +58,7 @@ unfolding carried248
 holds-means Alerts64 r = holds-carried r
 holds-means Alerts248 r = holds-kept r
 holds-means Pings r = refl
+holds-means Wires r = refl
 
 -- ── the access, by its numbers ──
 
@@ -131,15 +134,38 @@ holds-wires bytes s n p h t =
       word = words-lt (p * 2 ^ (256 - n));
     }
 
--- ── the answers ──
+-- ── what comes back from the lines ──
 
--- the bits of a field are a record's, most significant first, and the sample has them the other way round
-holds-answers : (bytes : List ℕ) (n a : ℕ) → Stands bytes n 4 a → AnswersAre bytes n 4 (otherWay a)
-holds-answers bytes n a t = record { line = λ l h. other-bit a l h ∙ t .bits l h; size = other-lt a }
+-- the bits of a field are a record's, most significant first, and the sample has line 0 lowest
+holds-answers : (bytes : List ℕ) (n a : ℕ) → Stands bytes n 4 a → AnswersAre bytes n 4 (answersOf a)
+unfolding answersOf
+holds-answers bytes n a t = record { line = λ l h. answers-bit a l h ∙ t .bits l h; size = bitsOf-lt 4 (λ l. bit a (3 - l)) }
 
 -- no bits are no answer
-no-answers : (bytes : List ℕ) (n : ℕ) → AnswersAre bytes n 0 (otherWay 0)
-no-answers bytes n = record { line = λ l h. absurd (omega arith); size = subst (λ (a : ℕ). a < 1) (sym other-none) (omega arith) }
+no-answers : (f : Form) (bytes : List ℕ) → f .answer-bits ≡ 0 → f .checked ≡ false → ReceiveIs f bytes (Receive.Answers 0)
+no-answers f bytes z c =
+    record {
+      answers = λ _. (0, record { line = λ l h. absurd (omega arith); size = pow-pos (f .answer-bits) }, refl);
+      pairs = λ d. absurd (false≢true (sym c ∙ d));
+    }
+
+holds-pairs : (bytes : List ℕ) (x : ℕ) → Stands bytes 592 8 x → ReceiveIs (form Wires) bytes (receiveOf Wires x)
+unfolding positivesOf negativesOf
+holds-pairs bytes x t =
+    record {
+      answers = λ d. absurd (false≢true (sym d));
+      pairs = λ _. (
+        positivesOf x,
+        negativesOf x,
+        record {
+          positive = λ l h. positives-bit x l (omega arith) ∙ t .bits (2 * l) (omega arith);
+          negative = λ l h. negatives-bit x l (omega arith) ∙ t .bits (2 * l + 1) (omega arith);
+        },
+        bitsOf-lt 4 (λ l. bit x (7 - 2 * l)),
+        bitsOf-lt 4 (λ l. bit x (7 - (2 * l + 1))),
+        refl,
+      );
+    }
 
 no-word : (bytes : List ℕ) (n : ℕ) → Stands bytes n 0 0
 no-word bytes n = record { size = omega arith; bits = λ i h. absurd (omega arith) }
@@ -161,7 +187,7 @@ record Parts (e : Edition) (bytes : List ℕ) : Type 0 where
   negative : WiresAre bytes (form e .negative-at) (form e .alerts) (wireWords (alerts e) (part e bytes 5))
   word : Stands bytes (form e .word-at) (form e .word-bits) (wordIn (behind e bytes))
   more-zeros : Stands bytes (form e .more-zeros-at) (form e .more-zero-bits) (getD (behind e bytes) 1 0)
-  answers : AnswersAre bytes (form e .answers-at) (form e .answer-bits) (answersIn (behind e bytes))
+  receive : ReceiveIs (form e) bytes (receiveOf e (getD (behind e bytes) 2 0))
 
 parts : (e : Edition) (bytes : List ℕ) → length bytes ≡ form e .bytes → ((i : ℕ) → getD bytes i 0 ≤ 255) → Parts e bytes
 unfolding unpack
@@ -175,7 +201,7 @@ parts Alerts64 bytes l b =
       negative = holds-wires bytes 128 64 _ (omega arith) (field-stands bytes b 128 64 0 (omega arith));
       word = no-word bytes 192;
       more-zeros = no-word bytes 192;
-      answers = no-answers bytes 192;
+      receive = no-answers (form Alerts64) bytes refl refl;
     }
 parts Alerts248 bytes l b =
     record {
@@ -187,7 +213,7 @@ parts Alerts248 bytes l b =
       negative = holds-wires bytes 312 248 _ (omega arith) (field-stands bytes b 312 248 0 (omega arith));
       word = no-word bytes 560;
       more-zeros = no-word bytes 560;
-      answers = no-answers bytes 560;
+      receive = no-answers (form Alerts248) bytes refl refl;
     }
 parts Pings bytes l b =
     record {
@@ -199,7 +225,19 @@ parts Pings bytes l b =
       negative = holds-wires bytes 312 248 _ (omega arith) (field-stands bytes b 312 248 40 (omega arith));
       word = field-stands bytes b 560 32 8 (omega arith);
       more-zeros = field-stands bytes b 592 4 4 (omega arith);
-      answers = holds-answers bytes 596 _ (field-stands bytes b 596 4 0 (omega arith));
+      receive = record { answers = λ _. (_, holds-answers bytes 596 _ (field-stands bytes b 596 4 0 (omega arith)), refl); pairs = λ d. absurd (false≢true d) };
+    }
+parts Wires bytes l b =
+    record {
+      kind = field-stands bytes b 0 2 598 (omega arith);
+      register = field-stands bytes b 2 11 587 (omega arith);
+      zeros = field-stands bytes b 13 19 568 (omega arith);
+      value = field-stands bytes b 32 32 536 (omega arith);
+      positive = holds-wires bytes 64 248 _ (omega arith) (field-stands bytes b 64 248 288 (omega arith));
+      negative = holds-wires bytes 312 248 _ (omega arith) (field-stands bytes b 312 248 40 (omega arith));
+      word = field-stands bytes b 560 32 8 (omega arith);
+      more-zeros = field-stands bytes b 592 0 8 (omega arith);
+      receive = holds-pairs bytes _ (field-stands bytes b 592 8 0 (omega arith));
     }
 
 module _ (e : Edition) (bytes : List ℕ) (p : Parts e bytes) where
@@ -270,7 +308,7 @@ module _ (e : Edition) (bytes : List ℕ) (p : Parts e bytes) where
         positive = p .positive;
         negative = p .negative;
         word = p .word;
-        answers = p .answers;
+        receive = p .receive;
       }
 
 pub holds-reader : Reader inputOf

@@ -12,21 +12,23 @@ use lib.IntN.{ℤ, pos, negℤ}
 use lib.ListN.{getD, length, take, drop, replicate, length-append, length-drop}
 use lib.Seq.{take-at, drop-append-add, getD-append-add, getD-drop}
 use lib.Pow.{pow-pos}
-use Rattle.bits.specs.Bits.{bit}
+use Rattle.bits.specs.Bits.{bit, bitsOf}
 use Rattle.bits.specs.Fields.{Fit, none, one}
 use Rattle.bits.specs.Index.{placeIn}
-use Rattle.bits.proofs.BitLaws.{bit-mod}
+use Rattle.bits.proofs.BitLaws.{bit-bitsOf}
 use Rattle.bits.proofs.FieldLaws.{unpack-fits}
 use Rattle.rules.specs.Access.{malformed}
 use Rattle.rules.specs.Answer.{firstOf, number}
+use Rattle.rules.specs.Samples.{receivePositive, receiveNegative}
 use Rattle.trace_rules.specs.Edition.{newest}
 use Rattle.trace_rules.specs.Record.{inputOf, heldIn, recordOf, recordable, wireWords}
-use Rattle.trace_rules.specs.Writer.{Wired, recordsOf, anyUnrecordable, writeVerdict, write, Written}
+use Rattle.trace_rules.specs.Writer.{Wired, keeps, recordsOf, anyUnrecordable, writeVerdict, write, Written}
 use Rattle.rules.specs.declared.Access.{Access}
 use Rattle.rules.specs.declared.Access.the-variants.{Malformed}
 use Rattle.rules.specs.declared.Answer.{Answer}
-use Rattle.trace_rules.specs.declared.Edition.the-variants.{Pings}
+use Rattle.trace_rules.specs.declared.Edition.the-variants.{Wires}
 use Rattle.rules.specs.declared.Input.{Input}
+use Rattle.rules.specs.declared.Receive.{Receive}
 use Rattle.rules.specs.declared.Refusal.{Refusal}
 use Rattle.rules.specs.declared.Refusal.the-variants.{NoRecord, ShortBuffer}
 use Rattle.rules.specs.declared.Verdict.{Verdict}
@@ -36,7 +38,7 @@ use Rattle.trace_laws.proofs.Recordable.{read-recordable}
 use Rattle.trace_laws.proofs.WireLaws.{same-shown}
 use Rattle.trace_laws.proofs.WriterLaws.{records-length, write-refused, write-accepted, write-answer, own-numbers}
 use Rattle.sentences.proofs.SentenceCases.{by-phase}
-use Rattle.trace_sentences.specs.RecordBits.{form, Kind, Bad, Holds}
+use Rattle.trace_sentences.specs.RecordBits.{form, Kind, Bad, PairsAre, Holds}
 use Rattle.trace_sentences.specs.Writers.{HeldIn, RecordOf, entry, Case10, Case11, Refuses, Wrote, Arrays, Writer}
 use Rattle.trace_sentences.proofs.HoldsRecords.{holds-reader}
 use Rattle.trace_sentences.proofs.OnlyRecords.{same-access, some-kind}
@@ -76,8 +78,8 @@ module _ (x : Input) (w : Wired x) (t : recordable newest (x .access) ≡ true) 
   read-back : inputOf newest bytes ≡ shown newest x
   read-back = own-numbers bytes ∙ input-record newest x w t
 
-  holds-read : Holds Pings bytes (inputOf newest bytes)
-  holds-read = holds-reader Pings bytes (record-length newest x) (up-to-255 bytes (record-byte newest x))
+  holds-read : Holds Wires bytes (inputOf newest bytes)
+  holds-read = holds-reader Wires bytes (record-length newest x) (up-to-255 bytes (record-byte newest x))
 
   held-in : HeldIn bytes (x .access)
   held-in =
@@ -89,8 +91,20 @@ module _ (x : Input) (w : Wired x) (t : recordable newest (x .access) ≡ true) 
         held = (inputOf newest bytes, holds-read, e);
       }
 
-  record-of : RecordOf x bytes
-  record-of =
+  -- what is read of the lines, against what was handed in
+  pairs-of : (p m : ℕ) → x .sample .receive ≡ Receive.Pairs p m → PairsAre bytes 592 p m
+  pairs-of p m e =
+      let (q, o, a, b, c, d) = holds-read .receive .pairs refl in
+      let k : Receive.Pairs q o ≡ Receive.Pairs (bitsOf 4 (bit p)) (bitsOf 4 (bit m)) =
+      sym d ∙ ap (λ (y : Input). y .sample .receive) read-back ∙ ap (keeps newest) e in
+      record {
+        positive = λ l h. sym (bit-bitsOf 4 (bit p) l (omega arith)) ∙ ap (λ (r : Receive). receivePositive r l) (sym k) ∙ a .positive l h;
+        negative = λ l h. sym (bit-bitsOf 4 (bit m) l (omega arith)) ∙ ap (λ (r : Receive). receiveNegative r l) (sym k) ∙ a .negative l h;
+      }
+
+  -- of receive pairs p and m
+  record-of : (p m : ℕ) → x .sample .receive ≡ Receive.Pairs p m → RecordOf x bytes
+  record-of p m e =
       let s = same-shown newest x w in
       record {
         access = held-in;
@@ -101,26 +115,23 @@ module _ (x : Input) (w : Wired x) (t : recordable newest (x .access) ≡ true) 
         word = λ i l.
             let m : i < 32 = omega arith in
             sym (holds-read .word .bits i m) ∙ ap (λ (n : ℕ). bit n (31 - i)) (ap (λ (y : Input). y .sample .word) read-back ∙ s .word);
-        answers = λ i l.
-            let m : i < 4 = omega arith in
-            sym (holds-read .answers .line i m) ∙ ap (λ (n : ℕ). bit n i) (ap (λ (y : Input). y .sample .answers) read-back ∙ s .answers)
-            ∙ bit-mod 4 (x .sample .answers) i m;
+        pairs = (p, m, e, pairs-of p m e);
       }
 
 abbrev quiet : Access → Input
-quiet a = record { access = a; sample = record { alerts = record { pos = wireWords 248 0; neg = wireWords 248 0 }; word = 0; answers = 0 } }
+quiet a = record { access = a; sample = record { alerts = record { pos = wireWords 248 0; neg = wireWords 248 0 }; word = 0; receive = Receive.Pairs 0 0 } }
 
 -- a well-formed record holds no malformed access
-pub formed : (bytes : List ℕ) (x : Input) → ¬ Bad (form Pings) bytes → Holds Pings bytes x → (k : ℕ) → k < 4 → Kind bytes k → malformed (x .access) ≡ false
+pub formed : (bytes : List ℕ) (x : Input) → ¬ Bad (form Wires) bytes → Holds Wires bytes x → (k : ℕ) → k < 4 → Kind bytes k → malformed (x .access) ≡ false
 formed bytes x f h =
     by-phase (λ k. Kind bytes k → malformed (x .access) ≡ false) (λ s. ap malformed (h .nothing f s)) (λ s. ap malformed (h .read f s .2))
     (λ s. ap malformed (h .write f s .4)) (λ s. absurd (f (inl s)))
 
 held-recordable : (bytes : List ℕ) (a : Access) → HeldIn bytes a → recordable newest a ≡ true
 held-recordable bytes a p =
-    let h = holds-reader Pings bytes (p .size) (p .byte) in
-    let k = some-kind Pings bytes (p .size) (p .byte) in
-    let e : inputOf newest bytes .access ≡ a = same-access Pings bytes (k .0) (k .1) (inputOf newest bytes) (p .held .0) h (p .held .1) ∙ p .held .2 in
+    let h = holds-reader Wires bytes (p .size) (p .byte) in
+    let k = some-kind Wires bytes (p .size) (p .byte) in
+    let e : inputOf newest bytes .access ≡ a = same-access Wires bytes (k .0) (k .1) (inputOf newest bytes) (p .held .0) h (p .held .1) ∙ p .held .2 in
     let o : inputOf newest bytes .access ≡ heldIn newest bytes .access = ap (λ (y : Input). y .access) (own-numbers bytes) in
     ap (recordable newest) (sym e ∙ o)
     ∙ read-recordable newest bytes (ap malformed (sym o) ∙ formed bytes (inputOf newest bytes) (p .well-formed) h (k .0) (k .1 .size) (k .1))
@@ -214,7 +225,7 @@ module _ (xs : List Input) (buffer : List ℕ) where
         answer = refl;
         records = λ i l.
             subst (RecordOf (entry xs i)) (sym (at-record xs (drop (length xs * 75) buffer) i l))
-            (record-of (entry xs i) (wired (entry xs i) (a i l)) (each-recordable xs f i l));
+            (let v = a i l .pairs in record-of (entry xs i) (wired (entry xs i) (a i l)) (each-recordable xs f i l) (v .0) (v .1) (v .2));
         later = λ j l.
             let e : length (recordsOf newest xs) + (j - length xs * 75) ≡ j = omega (arith, records-length newest xs) in
             let d : length xs * 75 + (j - length xs * 75) ≡ j = omega arith in

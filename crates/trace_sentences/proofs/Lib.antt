@@ -13,4 +13,6 @@ pub mod RoundTrips
 pub mod Library
 pub mod FirstBytes
 pub mod RefutedRecords
+pub mod RefutedSamples
 pub mod RefutedBatches
+pub mod RefutedWriters

@@ -1,8 +1,9 @@
 -- No sentence of a record is missing: whatever satisfies them is one access and sample. Nothing here knows the rules' definitions.
 -- Assumes nothing.
 use Prim.Native.Nat.{ℕ, _+_, _-_, _≤_, _<_}
-use mathlib.Core.Path.{_≡_, sym, ap, ap₂, _∙_, subst}
+use mathlib.Core.Path.{_≡_, refl, sym, ap, ap₂, _∙_, subst}
 use mathlib.Core.Logic.{inl}
+use mathlib.Core.Bool.{Bool, true, false}
 use mathlib.Core.List.{List}
 use native.Mathlib.Omega.{arith}
 use native.Mathlib.Decide.{decLt}
@@ -13,11 +14,12 @@ use Rattle.bits.specs.Index.{placeIn}
 use Rattle.bits.proofs.BitLaws.{bit-ext}
 use Rattle.rules.specs.declared.Access.{Access}
 use Rattle.trace_rules.specs.declared.Edition.{Edition}
-use Rattle.trace_rules.specs.declared.Edition.the-variants.{Alerts64, Alerts248, Pings}
+use Rattle.trace_rules.specs.declared.Edition.the-variants.{Alerts64, Alerts248, Pings, Wires}
 use Rattle.rules.specs.declared.Input.{Input}
+use Rattle.rules.specs.declared.Receive.{Receive}
 use Rattle.sentences.proofs.SentenceCases.{by-phase}
 use Rattle.sentences.proofs.OnlySamples.{same-words}
-use Rattle.trace_sentences.specs.RecordBits.{form, Kind, Bad, Kept, Carried, Means, Names, WiresAre, AnswersAre, Holds, Reader}
+use Rattle.trace_sentences.specs.RecordBits.{form, Kind, Bad, Kept, Carried, Means, Names, WiresAre, AnswersAre, PairsAre, ReceiveIs, Form, Holds, Reader}
 use Rattle.trace_sentences.proofs.BytePlaces.{field-stands, one-stands, dec-some, dec-stands, dec-or, dec-and}
 
 -- ── register numbers ──
@@ -51,6 +53,7 @@ same-means : (e : Edition) (r p q : ℕ) → Means e r p → Means e r q → p �
 same-means Alerts64 r p q x y = same-carried r p q x y
 same-means Alerts248 r p q x y = same-kept r p q x y
 same-means Pings r p q x y = x ∙ sym y
+same-means Wires r p q x y = x ∙ sym y
 
 same-names : (e : Edition) (bytes : List ℕ) (p q : ℕ) → Names e bytes p → Names e bytes q → p ≡ q
 same-names e bytes p q (r, s, m) (u, t, n) =
@@ -66,10 +69,26 @@ same-wires bytes s n ws vs x y = same-words ws vs (x .words) (y .words) (x .word
     go i l (yes a) = x .wire i a ∙ sym (y .wire i a)
     go i l (no a) = let b : n ≤ i = omega arith in x .past i b l ∙ sym (y .past i b l)
 
--- ── answers ──
+-- ── what comes back from the lines ──
 
-pub same-answers : (bytes : List ℕ) (n w a b : ℕ) → AnswersAre bytes n w a → AnswersAre bytes n w b → a ≡ b
+same-answers : (bytes : List ℕ) (n w a b : ℕ) → AnswersAre bytes n w a → AnswersAre bytes n w b → a ≡ b
 same-answers bytes n w a b x y = bit-ext w a b (x .size) (y .size) (λ l h. x .line l h ∙ sym (y .line l h))
+
+-- two pairs of numbers that have the bits of some pairs
+pub same-pairs : (bytes : List ℕ) (n p m q o : ℕ) → PairsAre bytes n p m → PairsAre bytes n q o → p < 16 → m < 16 → q < 16 → o < 16 → Receive.Pairs p m ≡ Receive.Pairs q o
+same-pairs bytes n p m q o x y a b c d =
+    ap₂ Receive.Pairs (bit-ext 4 p q a c (λ l h. x .positive l h ∙ sym (y .positive l h))) (bit-ext 4 m o b d (λ l h. x .negative l h ∙ sym (y .negative l h)))
+
+pub same-receive : (f : Form) (bytes : List ℕ) (r s : Receive) → ReceiveIs f bytes r → ReceiveIs f bytes s → r ≡ s
+same-receive f bytes r s x y = go (f .checked) refl
+  where
+    go : (b : Bool) → f .checked ≡ b → r ≡ s
+    go false c =
+        let (a, u, e) = x .answers c in let (b, v, d) = y .answers c in
+        e ∙ ap Receive.Answers (same-answers bytes (f .answers-at) (f .answer-bits) a b u v) ∙ sym d
+    go true c =
+        let (p, m, u, i, j, e) = x .pairs c in let (q, o, v, k, l, d) = y .pairs c in
+        e ∙ same-pairs bytes (f .pairs-at) p m q o u v i j k l ∙ sym d
 
 -- ── the access ──
 
@@ -113,7 +132,7 @@ module _ (e : Edition) (bytes : List ℕ) (k : ℕ) (s : Kind bytes k) (x y : In
             neg = same-wires bytes (form e .negative-at) (form e .alerts) (x .sample .alerts .neg) (y .sample .alerts .neg) (a .negative) (b .negative) i;
           };
           word = one-stands bytes (form e .word-at) (form e .word-bits) (x .sample .word) (y .sample .word) (a .word) (b .word) i;
-          answers = same-answers bytes (form e .answers-at) (form e .answer-bits) (x .sample .answers) (y .sample .answers) (a .answers) (b .answers) i;
+          receive = same-receive (form e) bytes (x .sample .receive) (y .sample .receive) (a .receive) (b .receive) i;
         };
       }
 
@@ -122,6 +141,7 @@ pub some-kind : (e : Edition) (bytes : List ℕ) → length bytes ≡ form e .by
 some-kind Alerts64 bytes l b = (field 190 2 (ofBytes bytes), field-stands bytes b 0 2 190 (omega arith))
 some-kind Alerts248 bytes l b = (field 558 2 (ofBytes bytes), field-stands bytes b 0 2 558 (omega arith))
 some-kind Pings bytes l b = (field 598 2 (ofBytes bytes), field-stands bytes b 0 2 598 (omega arith))
+some-kind Wires bytes l b = (field 598 2 (ofBytes bytes), field-stands bytes b 0 2 598 (omega arith))
 
 -- two readers that satisfy the sentences are one
 pub only-reader : (f g : Edition → List ℕ → Input) → Reader f → Reader g → (e : Edition) (bytes : List ℕ) → length bytes ≡ form e .bytes

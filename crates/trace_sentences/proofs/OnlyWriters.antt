@@ -12,35 +12,37 @@ use lib.ListN.{getD, length, take, drop}
 use lib.Seq.{ext-getD, getD-take, getD-drop}
 use Rattle.bits.specs.Index.{placeIn}
 use Rattle.rules.specs.Access.{malformed}
+use Rattle.rules.specs.Samples.{receivePositive, receiveNegative}
 use Rattle.trace_rules.specs.Edition.{newest}
 use Rattle.trace_rules.specs.Record.{inputOf, recordOf}
 use Rattle.trace_rules.specs.Writer.{anyUnrecordable}
 use Rattle.rules.specs.declared.Access.{Access}
-use Rattle.trace_rules.specs.declared.Edition.the-variants.{Pings}
+use Rattle.trace_rules.specs.declared.Edition.the-variants.{Wires}
 use Rattle.rules.specs.declared.Input.{Input}
+use Rattle.rules.specs.declared.Receive.{Receive}
 use Rattle.trace_laws.proofs.RecordLaws.{record-input}
 use Rattle.trace_laws.proofs.WriterLaws.{own-numbers}
 use Rattle.sentences.proofs.OnlySamples.{same-words}
-use Rattle.trace_sentences.specs.RecordBits.{bitAt, Stands, WiresAre, AnswersAre, Holds}
+use Rattle.trace_sentences.specs.RecordBits.{form, bitAt, Stands, WiresAre, PairsAre, ReceiveIs, Holds}
 use Rattle.trace_sentences.specs.Writers.{HeldIn, RecordOf, entry, Case10, Case11, Refuses, Wrote, WriteIs, Arrays, Writer}
 use Rattle.trace_sentences.proofs.BytePlaces.{one-stands}
 use Rattle.trace_sentences.proofs.HoldsRecords.{holds-reader}
 use Rattle.trace_sentences.proofs.HoldsWriters.{formed, ten, is-ten}
-use Rattle.trace_sentences.proofs.OnlyRecords.{same-answers, same-access, some-kind}
+use Rattle.trace_sentences.proofs.OnlyRecords.{same-pairs, same-access, some-kind}
 
 -- ── one record of an access and sample ──
 
 module _ (bytes : List ℕ) (a : Access) (p : HeldIn bytes a) where
-  holds-read : Holds Pings bytes (inputOf newest bytes)
-  holds-read = holds-reader Pings bytes (p .size) (p .byte)
+  holds-read : Holds Wires bytes (inputOf newest bytes)
+  holds-read = holds-reader Wires bytes (p .size) (p .byte)
 
   read-access : inputOf newest bytes .access ≡ a
-  read-access = let k = some-kind Pings bytes (p .size) (p .byte) in same-access Pings bytes (k .0) (k .1) (inputOf newest bytes) (p .held .0) holds-read (p .held .1) ∙ p .held .2
+  read-access = let k = some-kind Wires bytes (p .size) (p .byte) in same-access Wires bytes (k .0) (k .1) (inputOf newest bytes) (p .held .0) holds-read (p .held .1) ∙ p .held .2
 
   -- writing what was read gives the same bytes
   written-back : recordOf newest (inputOf newest bytes) ≡ bytes
   written-back =
-      let k = some-kind Pings bytes (p .size) (p .byte) in
+      let k = some-kind Wires bytes (p .size) (p .byte) in
       let o = own-numbers bytes in
       ap (recordOf newest) o
       ∙ record-input newest bytes (p .size) (λ i. let l : getD bytes i 0 ≤ 255 = p .byte i in omega arith)
@@ -53,12 +55,31 @@ same-bits b c s ws vs x y e = same-words ws vs (x .words) (y .words) (x .word) (
     go i l (yes m) = x .wire i m ∙ e i m ∙ sym (y .wire i m)
     go i l (no f) = let m : 248 ≤ i = omega arith in x .past i m l ∙ sym (y .past i m l)
 
--- the word, and the answers
+-- the word, and the receive pairs of what was handed in
 same-word : (b c : List ℕ) (v u : ℕ) → Stands b 560 32 v → Stands c 560 32 u → ((i : ℕ) → i < 32 → bitAt b (560 + i) ≡ bitAt c (560 + i)) → v ≡ u
 same-word b c v u x y e = one-stands c 560 32 v u (record { size = x .size; bits = λ i l. x .bits i l ∙ e i l }) y
 
-same-lines : (b c : List ℕ) (v u : ℕ) → AnswersAre b 596 4 v → AnswersAre c 596 4 u → ((l : ℕ) → l < 4 → bitAt b (596 + l) ≡ bitAt c (596 + l)) → v ≡ u
-same-lines b c v u x y e = same-answers c 596 4 v u (record { line = λ l h. x .line l h ∙ e l h; size = x .size }) y
+same-lines : (b c : List ℕ) (p m : ℕ) → PairsAre b 592 p m → PairsAre c 592 p m → (v u : Receive) → ReceiveIs (form Wires) b v → ReceiveIs (form Wires) c u → v ≡ u
+same-lines b c p m x y v u f g =
+    let (p1, m1, s, i, j, d) = f .pairs refl in
+    let (p2, m2, t, k, l, e) = g .pairs refl in
+    let z : PairsAre c 592 p1 m1 = record {
+      positive = λ n h. s .positive n h ∙ sym (x .positive n h) ∙ y .positive n h;
+      negative = λ n h. s .negative n h ∙ sym (x .negative n h) ∙ y .negative n h;
+    } in
+    d ∙ same-pairs c 592 p1 m1 p2 m2 z t i j k l ∙ sym e
+
+-- one sample's pairs in two records
+handed : (x : Input) (b c : List ℕ) → RecordOf x b → RecordOf x c → (v u : Receive) → ReceiveIs (form Wires) b v → ReceiveIs (form Wires) c u → v ≡ u
+handed x b c r s v u f g =
+    let (p, m, d, y) = r .pairs in
+    let (q, o, e, z) = s .pairs in
+    let k : Receive.Pairs q o ≡ Receive.Pairs p m = sym e ∙ d in
+    let w : PairsAre c 592 p m = record {
+      positive = λ n h. sym (ap (λ (i : Receive). receivePositive i n) k) ∙ z .positive n h;
+      negative = λ n h. sym (ap (λ (i : Receive). receiveNegative i n) k) ∙ z .negative n h;
+    } in
+    same-lines b c p m y w v u f g
 
 pub same-record : (x : Input) (b c : List ℕ) → RecordOf x b → RecordOf x c → b ≡ c
 same-record x b c r s =
@@ -73,7 +94,7 @@ same-record x b c r s =
           neg = same-bits b c 312 (inputOf newest b .sample .alerts .neg) (inputOf newest c .sample .alerts .neg) (h .negative) (k .negative) (λ j l. r .negative j l ∙ sym (s .negative j l)) i;
         };
         word = same-word b c (inputOf newest b .sample .word) (inputOf newest c .sample .word) (h .word) (k .word) (λ j l. r .word j l ∙ sym (s .word j l)) i;
-        answers = same-lines b c (inputOf newest b .sample .answers) (inputOf newest c .sample .answers) (h .answers) (k .answers) (λ j l. r .answers j l ∙ sym (s .answers j l)) i;
+        receive = handed x b c r s (inputOf newest b .sample .receive) (inputOf newest c .sample .receive) (h .receive) (k .receive) i;
       };
     } in
     sym (written-back b (x .access) (r .access)) ∙ ap (recordOf newest) y ∙ written-back c (x .access) (s .access)

@@ -1,15 +1,15 @@
 -- Wrong words and wrong readers of records that the sentences refuse, as theorems: what satisfies the sentences is the rules' definition (`only`,
 -- `holds`), and these differ from it somewhere.
 -- Assumes nothing.
-use Prim.Native.Nat.{ℕ, zero, suc, _+_, _-_, _*_, _/_, _%_, _≤_}
+use Prim.Native.Nat.{ℕ, zero, suc, _-_, _≤_}
 use mathlib.Core.Path.{_≡_, refl, sym, ap, _∙_}
 use mathlib.Core.Bool.{Bool, true, false, false≢true, cond, _&&_, _||_}
 use mathlib.Core.List.{List, [], _∷_, _++_}
 use native.Mathlib.Omega.{arith}
-use borrow.Author.Tests.{leb-true, eq-eqb}
+use borrow.Author.Tests.{leb-true}
 use lib.Dec.{eqb, leb, ltb}
-use lib.ListN.{getD, length, take, drop, replicate}
-use Rattle.bits.specs.Bits.{bit, bitsOf, field}
+use lib.ListN.{getD, length, take, replicate}
+use Rattle.bits.specs.Bits.{bit, bitsOf}
 use Rattle.bits.specs.Fields.{pack, unpack, ofBytes}
 use Rattle.bits.proofs.IndexLaws.{and-true}
 use Rattle.rules.specs.Access.{malformed}
@@ -24,10 +24,10 @@ use Rattle.rules.specs.declared.Input.{Input}
 use Rattle.rules.specs.declared.Refusal.the-variants.{Differs}
 use Rattle.rules.specs.declared.Ticked.{Ticked}
 use Rattle.trace_rules.specs.Edition.{carried64, carried248}
-use Rattle.trace_rules.specs.Record.{layout, accessIn, accessOf, otherWay, carried, heldIn, inputOf, registerOf}
+use Rattle.trace_rules.specs.Record.{layout, accessIn, accessOf, carried, heldIn, inputOf, registerOf}
 use Rattle.trace_rules.specs.Word.{wordBy, wordOf}
 use Rattle.trace_rules.specs.declared.Edition.{Edition}
-use Rattle.trace_rules.specs.declared.Edition.the-variants.{Alerts64, Alerts248, Pings}
+use Rattle.trace_rules.specs.declared.Edition.the-variants.{Alerts64, Alerts248, Pings, Wires}
 use Rattle.trace_sentences.specs.RecordBits.{form, Reader}
 use Rattle.trace_sentences.specs.Words.{Words}
 use Rattle.trace_sentences.proofs.HoldsRecords.{holds-reader}
@@ -48,7 +48,7 @@ hides t = wordOf (record { handler = t .handler; answer = hidden (t .answer); ou
 
 -- a tick with these lines on
 abbrev gives : Answer → ℕ → Ticked
-gives a lines = record { handler = newHandler 1; answer = a; output = record { interrupts = 0; lines = lines; acknowledge = noOutput .acknowledge; ping = noOutput .ping } }
+gives a lines = record { handler = newHandler 1; answer = a; output = record { interrupts = 0; lines = lines; acknowledge = noOutput .acknowledge; ping = noOutput .ping; escalation = noOutput .escalation } }
 
 pub no-hidden-refusal : ¬ Words number hides
 unfolding wordOf wordBy pack
@@ -58,7 +58,7 @@ no-hidden-refusal w = let e = only-words number hides wordOf w holds-words (give
 abbrev reversed : Ticked → ℕ
 reversed t =
     let lines = bitsOf 4 (λ k. bit (t .output .lines) (3 - k)) in
-    wordOf (record { handler = t .handler; answer = t .answer; output = record { interrupts = t .output .interrupts; lines = lines; acknowledge = t .output .acknowledge; ping = t .output .ping } })
+    wordOf (record { handler = t .handler; answer = t .answer; output = record { interrupts = t .output .interrupts; lines = lines; acknowledge = t .output .acknowledge; ping = t .output .ping; escalation = t .output .escalation } })
 
 pub no-reversed-lines : ¬ Words number reversed
 unfolding wordOf wordBy pack bit bitsOf
@@ -68,18 +68,18 @@ no-reversed-lines w =
 -- ── records ──
 
 -- bytes that are bytes, by computation
-unfoldable are-bytes : List ℕ → Bool
+unfoldable pub are-bytes : List ℕ → Bool
 are-bytes [] = true
 are-bytes (x ∷ xs) = leb x 255 && are-bytes xs
 
-up-to-255 : (xs : List ℕ) → are-bytes xs ≡ true → (i : ℕ) → getD xs i 0 ≤ 255
+pub up-to-255 : (xs : List ℕ) → are-bytes xs ≡ true → (i : ℕ) → getD xs i 0 ≤ 255
 unfolding are-bytes
 up-to-255 [] e i = omega arith
 up-to-255 (x ∷ xs) e zero = leb-true x 255 (and-true (leb x 255) (are-bytes xs) e .0)
 up-to-255 (x ∷ xs) e (suc i) = up-to-255 xs (and-true (leb x 255) (are-bytes xs) e .1) i
 
 -- a reader that finds another access in some bytes than the rules do
-other-access : (read : Edition → List ℕ → Input) (e : Edition) (bytes : List ℕ) → length bytes ≡ form e .bytes → are-bytes bytes ≡ true
+pub other-access : (read : Edition → List ℕ → Input) (e : Edition) (bytes : List ℕ) → length bytes ≡ form e .bytes → are-bytes bytes ≡ true
     → (f : Access → Bool) → f (read e bytes .access) ≡ false → f (inputOf e bytes .access) ≡ true → ¬ Reader read
 other-access read e bytes l b f p q r =
     false≢true (sym p ∙ ap (λ (x : Input). f (x .access)) (only-reader read inputOf r holds-reader e bytes l (up-to-255 bytes b)) ∙ q)
@@ -112,6 +112,7 @@ no-read-with-value = other-access _ Alerts248 (0x40 ∷ 0 ∷ 0 ∷ 0 ∷ 0 ∷ 
 abbrev shifted : Edition → List ℕ → Input
 shifted Alerts64 bytes = inputOf Alerts64 bytes
 shifted Pings bytes = inputOf Pings bytes
+shifted Wires bytes = inputOf Wires bytes
 shifted Alerts248 bytes =
     let fs = unpack (2 ∷ 10 ∷ 20 ∷ 32 ∷ 248 ∷ 248 ∷ []) (ofBytes bytes) in
     record { access = accessIn (take 4 fs) []; sample = inputOf Alerts248 bytes .sample }
@@ -133,7 +134,7 @@ no-number-as-it-is = other-access heldIn Alerts64 (0x44 ∷ replicate 23 0) refl
 abbrev swapped : Edition → List ℕ → Input
 swapped e bytes =
     let s = inputOf e bytes .sample .alerts in
-    record { access = inputOf e bytes .access; sample = record { alerts = record { pos = s .neg; neg = s .pos }; word = inputOf e bytes .sample .word; answers = inputOf e bytes .sample .answers } }
+    record { access = inputOf e bytes .access; sample = record { alerts = record { pos = s .neg; neg = s .pos }; word = inputOf e bytes .sample .word; receive = inputOf e bytes .sample .receive } }
 
 -- alert 0's positive wire is 1
 pub no-negative-wires-first : ¬ Reader swapped
@@ -159,6 +160,7 @@ abbrev reaching24 : Edition → ℕ → ℕ
 reaching24 Alerts64 r = cond (ltb r 64) r (carried64 r)
 reaching24 Alerts248 r = carried248 r
 reaching24 Pings r = r
+reaching24 Wires r = r
 
 pub no-timeout-in-24 : ¬ Reader (readAs reaching24)
 unfolding inputOf heldIn unpack pack accessOf carried64 numberOf are-bytes
@@ -168,6 +170,7 @@ abbrev reaching70 : Edition → ℕ → ℕ
 reaching70 Alerts64 r = carried64 r
 reaching70 Alerts248 r = r
 reaching70 Pings r = r
+reaching70 Wires r = r
 
 pub no-timeout-in-70 : ¬ Reader (readAs reaching70)
 unfolding inputOf heldIn unpack pack accessOf carried248 numberOf are-bytes
@@ -180,54 +183,3 @@ unchecked e bytes = record { access = carried e (accessIn (take 4 (unpack (layou
 pub no-four-zero-bits-ignored : ¬ Reader unchecked
 unfolding inputOf heldIn unpack pack accessOf are-bytes
 no-four-zero-bits-ignored = other-access unchecked Pings (replicate 74 0 ++ (0x10 ∷ [])) refl refl malformed refl refl
-
--- a reader that finds another word, or other answers, in the last five bytes of a record than the rules do
-abbrev last-5 : ℕ → ℕ → ℕ → ℕ → ℕ → List ℕ
-last-5 a b c d f = replicate 70 0 ++ (a ∷ b ∷ c ∷ d ∷ f ∷ [])
-
-other-number : (read : Edition → List ℕ → Input) (e : Edition) (bytes : List ℕ) → length bytes ≡ form e .bytes → are-bytes bytes ≡ true
-    → (f : Input → ℕ) → eqb (f (read e bytes)) (f (inputOf e bytes)) ≡ false → ¬ Reader read
-other-number read e bytes l b f d r =
-    let s : f (read e bytes) ≡ f (inputOf e bytes) = ap f (only-reader read inputOf r holds-reader e bytes l (up-to-255 bytes b)) in
-    false≢true (sym d ∙ eq-eqb (f (read e bytes)) (f (inputOf e bytes)) s)
-
-abbrev sampleBy : (ℕ → ℕ → ℕ → ℕ) → (ℕ → ℕ → ℕ → ℕ) → Edition → List ℕ → Input
-sampleBy word answers e bytes =
-    let ts = drop 6 (unpack (layout e) (ofBytes bytes)) in
-    record {
-      access = inputOf e bytes .access;
-      sample =
-          record {
-            alerts = inputOf e bytes .sample .alerts;
-            word = word (getD ts 0 0) (getD ts 1 0) (getD ts 2 0);
-            answers = answers (getD ts 0 0) (getD ts 1 0) (getD ts 2 0);
-          };
-    }
-
--- line 3 first
-pub no-line-3-first : ¬ Reader (sampleBy (λ w z a. w) (λ w z a. a))
-unfolding inputOf heldIn otherWay unpack pack bit bitsOf are-bytes
-no-line-3-first = other-number _ Pings (last-5 0 0 0 0 8) refl refl (λ x. x .sample .answers) refl
-
--- the word's low half first
-pub no-low-half-first : ¬ Reader (sampleBy (λ w z a. w % 65536 * 65536 + w / 65536) (λ w z a. otherWay a))
-unfolding inputOf heldIn unpack pack are-bytes
-no-low-half-first = other-number _ Pings (last-5 0 1 0 0 0) refl refl (λ x. x .sample .word) refl
-
--- zero bits that are not zero silence the word, or the answers
-pub no-silenced-word : ¬ Reader (sampleBy (λ w z a. cond (eqb z 0) w 0) (λ w z a. otherWay a))
-unfolding inputOf heldIn unpack pack are-bytes
-no-silenced-word = other-number _ Pings (last-5 0 0 0 1 0x10) refl refl (λ x. x .sample .word) refl
-
-pub no-silenced-answers : ¬ Reader (sampleBy (λ w z a. w) (λ w z a. cond (eqb z 0) (otherWay a) 0))
-unfolding inputOf heldIn otherWay unpack pack bit bitsOf are-bytes
-no-silenced-answers = other-number _ Pings (last-5 0 0 0 0 0x18) refl refl (λ x. x .sample .answers) refl
-
--- an older record that has a word
-abbrev worded : Edition → List ℕ → Input
-worded e bytes =
-    record { access = inputOf e bytes .access; sample = record { alerts = inputOf e bytes .sample .alerts; word = field 8 32 (ofBytes bytes); answers = inputOf e bytes .sample .answers } }
-
-pub no-older-word : ¬ Reader worded
-unfolding inputOf heldIn unpack pack are-bytes
-no-older-word = other-number worded Alerts248 (replicate 68 0 ++ (1 ∷ 0 ∷ [])) refl refl (λ x. x .sample .word) refl

@@ -16,7 +16,7 @@ use Rattle.trace_rules.specs.Word.{wordOf}
 use Rattle.rules.specs.declared.Alerts.{Alerts}
 use Rattle.rules.specs.declared.Answer.{Answer}
 use Rattle.trace_rules.specs.declared.Edition.{Edition}
-use Rattle.trace_rules.specs.declared.Edition.the-variants.{Alerts64, Alerts248, Pings}
+use Rattle.trace_rules.specs.declared.Edition.the-variants.{Alerts64, Alerts248, Pings, Wires}
 use Rattle.rules.specs.declared.Field.{Field}
 use Rattle.rules.specs.declared.Handler.{Handler}
 use Rattle.rules.specs.declared.Input.{Input}
@@ -70,27 +70,29 @@ module _ (tick : Handler → Input → Ticked) (m : Answer → ℤ) (p : Whole t
       let r = p .ticks h x .runs v in
       let two = r .step2 in
       let four = r .steps34 in
+      let end = r .links in
       record {
-        alerts = by-field (λ f. length (alertList t f) ≡ 248) (ap (λ (a : Alerts). length (a .regwen)) (four .alerts) ∙ ap length (two .alert-regwen) ∙ first .alerts Field.Regwen)
-            (ap (λ (a : Alerts). length (a .en)) (four .alerts) ∙ ap length (two .alert-en) ∙ first .alerts Field.En)
-            (ap (λ (a : Alerts). length (a .class)) (four .alerts) ∙ ap length (two .alert-class) ∙ first .alerts Field.Class)
-            (ap (λ (a : Alerts). length (a .cause)) (four .alerts) ∙ two .cause-entries);
-        locals = by-field (λ f. length (localList t f) ≡ 7) (ap (λ (a : Locals). length (a .regwen)) (four .locals) ∙ ap length (two .local-regwen) ∙ first .locals Field.Regwen)
-            (ap (λ (a : Locals). length (a .en)) (four .locals) ∙ ap length (two .local-en) ∙ first .locals Field.En)
-            (ap (λ (a : Locals). length (a .class)) (four .locals) ∙ ap length (two .local-class) ∙ first .locals Field.Class)
-            (ap (λ (a : Locals). length (a .cause)) (four .locals) ∙ two .local-entries);
-        classes = four .entries;
+        alerts = by-field (λ f. length (alertList t f) ≡ 248) (ap (λ (a : Alerts). length (a .regwen)) (end .alerts ∙ four .alerts) ∙ ap length (two .alert-regwen) ∙ first .alerts Field.Regwen)
+            (ap (λ (a : Alerts). length (a .en)) (end .alerts ∙ four .alerts) ∙ ap length (two .alert-en) ∙ first .alerts Field.En)
+            (ap (λ (a : Alerts). length (a .class)) (end .alerts ∙ four .alerts) ∙ ap length (two .alert-class) ∙ first .alerts Field.Class)
+            (ap (λ (a : Alerts). length (a .cause)) (end .alerts ∙ four .alerts) ∙ two .cause-entries);
+        locals = by-field (λ f. length (localList t f) ≡ 7) (ap (λ (a : Locals). length (a .regwen)) (end .locals ∙ four .locals) ∙ ap length (two .local-regwen) ∙ first .locals Field.Regwen)
+            (ap (λ (a : Locals). length (a .en)) (end .locals ∙ four .locals) ∙ ap length (two .local-en) ∙ first .locals Field.En)
+            (ap (λ (a : Locals). length (a .class)) (end .locals ∙ four .locals) ∙ ap length (two .local-class) ∙ first .locals Field.Class)
+            (ap (λ (a : Locals). length (a .cause)) (end .locals ∙ four .locals) ∙ two .local-entries);
+        classes = ap length (end .classes) ∙ four .entries;
         lengths = λ k l.
-            ap length (four .steps k l .lengths)
+            ap (λ (cs : List Class). length (getD cs k (noClass) .lengths)) (end .classes)
+            ∙ ap length (four .steps k l .lengths)
             ∙ ap (λ (cs : List Class). length (getD cs k (noClass) .lengths)) (two .classes)
             ∙ first .lengths k l;
-        alert-en = ap (λ (a : Stages). length (a .alerts .en)) (four .stages ∙ two .stages) ∙ first .alert-en;
-        alert-class = ap (λ (a : Stages). length (a .alerts .class)) (four .stages ∙ two .stages) ∙ first .alert-class;
-        local-en = ap (λ (a : Stages). length (a .locals .en)) (four .stages ∙ two .stages) ∙ first .local-en;
-        local-class = ap (λ (a : Stages). length (a .locals .class)) (four .stages ∙ two .stages) ∙ first .local-class;
-        stages = ap (λ (a : Stages). length (a .classes)) (four .stages ∙ two .stages) ∙ first .stages;
+        alert-en = ap (λ (a : Stages). length (a .alerts .en)) (end .stages ∙ four .stages ∙ two .stages) ∙ first .alert-en;
+        alert-class = ap (λ (a : Stages). length (a .alerts .class)) (end .stages ∙ four .stages ∙ two .stages) ∙ first .alert-class;
+        local-en = ap (λ (a : Stages). length (a .locals .en)) (end .stages ∙ four .stages ∙ two .stages) ∙ first .local-en;
+        local-class = ap (λ (a : Stages). length (a .locals .class)) (end .stages ∙ four .stages ∙ two .stages) ∙ first .local-class;
+        stages = ap (λ (a : Stages). length (a .classes)) (end .stages ∙ four .stages ∙ two .stages) ∙ first .stages;
         stage-lengths = λ k l.
-            ap (λ (a : Stages). length (getD (a .classes) k (noStages) .lengths)) (four .stages ∙ two .stages)
+            ap (λ (a : Stages). length (getD (a .classes) k (noStages) .lengths)) (end .stages ∙ four .stages ∙ two .stages)
             ∙ first .stage-lengths k l;
       }
 
@@ -109,6 +111,7 @@ some : (e : Edition) → 0 < form e .bytes
 some Alerts64 = omega arith
 some Alerts248 = omega arith
 some Pings = omega arith
+some Wires = omega arith
 
 module _ (state other : Edition → Handler → List ℕ → List ℕ → Handler) (answer reply : Edition → Handler → List ℕ → List ℕ → ℤ)
     (list words : Edition → Handler → List ℕ → List ℕ → List ℕ) (p : Replays state answer list) (q : Replays other reply words) where

@@ -17,11 +17,13 @@ use Rattle.trace_sentences.specs.RecordBits.{form}
 -- ── the cases ──
 
 -- "7 state that breaks the rule below"; request (iii): "old inputs and batches keep 64 .., so an old batch answers 7 to a handler of more than 64 alerts";
--- request (ix): "as in (iii) an older batch answers 7 where the timer is on", which it is where register 6 is 1
+-- request (ix): "as in (iii) an older batch answers 7 where the timer is on", which it is where register 6 is 1; older than (ix): request (xi)'s "older
+-- editions run as in (ix)"
 abbrev pub Case7 : Edition → Handler → Type 0
 Case7 e h = (¬ Valid h) ⊎ ((form e .alerts < h .n) ⊎ ((form e .timer ≡ false) × (h .timer .enable ≡ 1)))
 
--- "8 batch length not a multiple of 24"; request (iii): "8 reads 70; old .. batches keep .. 24"; request (ix): "Records grow to 75 bytes"
+-- "8 batch length not a multiple of 24"; request (iii): "8 reads 70; old .. batches keep .. 24"; request (ix): "Records grow to 75 bytes", which
+-- they keep in request (xi)
 abbrev pub Case8 : Edition → List ℕ → Type 0
 Case8 e bytes = length bytes % form e .bytes ≢ 0
 

@@ -72,7 +72,7 @@ low =
     }
 
 abbrev pub off : Output
-off = record { interrupts = 0; lines = 0; acknowledge = low; ping = low }
+off = record { interrupts = 0; lines = 0; acknowledge = low; ping = low; escalation = record { pos = 0; neg = 15 } }
 
 abbrev pub got : Library → Handler → Call → Got
 got l h (make n) = record { number = l .new n .answer; output = off; lent = [] }

@@ -1,6 +1,6 @@
 -- "Traces": what the bytes of a record hold, bit by bit, in sentences: bytes, bit positions and literal numbers, and no definition of the rules.
 -- Assumes nothing.
-use Prim.Native.Nat.{ℕ, _+_, _-_, _/_, _%_, _^_, _≤_, _<_}
+use Prim.Native.Nat.{ℕ, _+_, _-_, _*_, _/_, _%_, _^_, _≤_, _<_}
 use mathlib.Core.Path.{_≡_}
 use mathlib.Core.Logic.{_⊎_}
 use mathlib.Core.Bool.{Bool, true, false}
@@ -9,8 +9,9 @@ use lib.ListN.{getD, length}
 use Rattle.bits.specs.Bits.{bit}
 use Rattle.rules.specs.declared.Access.{Access}
 use Rattle.trace_rules.specs.declared.Edition.{Edition}
-use Rattle.trace_rules.specs.declared.Edition.the-variants.{Alerts64, Alerts248, Pings}
+use Rattle.trace_rules.specs.declared.Edition.the-variants.{Alerts64, Alerts248, Pings, Wires}
 use Rattle.rules.specs.declared.Input.{Input}
+use Rattle.rules.specs.declared.Receive.{Receive}
 
 -- ── the forms, one row an edition: where each part begins, counted in bits from the record's first ──
 
@@ -32,6 +33,10 @@ pub record Form : Type 0 where
   pub answers-at : ℕ
   pub answer-bits : ℕ
   pub timer : Bool
+  -- request (xi): the receive pairs, and whether the senders are checked by them
+  pub pairs-at : ℕ
+  pub pair-bits : ℕ
+  pub checked : Bool
 
 -- "A record is 24 bytes: 2 bits kind .., 10 bits register, 20 zero bits, 32 bits value, 64 positive wires with alert 0 first, 64 negative wires"
 abbrev formOf64 : Form
@@ -53,6 +58,9 @@ formOf64 =
       answers-at = 192;
       answer-bits = 0;
       timer = false;
+      pairs-at = 192;
+      pair-bits = 0;
+      checked = false;
     }
 
 -- request (iii): "The new record has an 11-bit register, 19 zero bits, 31 bytes for each wire set: 70 bytes in all"
@@ -75,6 +83,9 @@ formOf248 =
       answers-at = 560;
       answer-bits = 0;
       timer = false;
+      pairs-at = 560;
+      pair-bits = 0;
+      checked = false;
     }
 
 -- request (ix): "Records grow to 75 bytes by the word, four zero bits and four answer bits, line 0 first"
@@ -97,12 +108,41 @@ formOfPings =
       answers-at = 596;
       answer-bits = 4;
       timer = true;
+      pairs-at = 600;
+      pair-bits = 0;
+      checked = false;
+    }
+
+-- request (xi): "In records four receive pairs .. replace the answer byte", the four zero bits too
+abbrev formOfWires : Form
+formOfWires =
+    record {
+      bytes = 75;
+      register-at = 2;
+      register-bits = 11;
+      zeros-at = 13;
+      zero-bits = 19;
+      value-at = 32;
+      positive-at = 64;
+      negative-at = 312;
+      alerts = 248;
+      word-at = 560;
+      word-bits = 32;
+      more-zeros-at = 592;
+      more-zero-bits = 0;
+      answers-at = 592;
+      answer-bits = 0;
+      timer = true;
+      pairs-at = 592;
+      pair-bits = 8;
+      checked = true;
     }
 
 abbrev pub form : Edition → Form
 form Alerts64 = formOf64
 form Alerts248 = formOf248
 form Pings = formOfPings
+form Wires = formOfWires
 
 -- ── the words of the sentences ──
 
@@ -158,6 +198,7 @@ abbrev pub Means : Edition → ℕ → ℕ → Type 0
 Means Alerts64 r q = Carried r q
 Means Alerts248 r q = Kept r q
 Means Pings r q = q ≡ r
+Means Wires r q = q ≡ r
 
 -- the register that the record names
 abbrev pub Names : Edition → List ℕ → ℕ → Type 0
@@ -178,6 +219,19 @@ pub record AnswersAre (bytes : List ℕ) (n w a : ℕ) : Type 0 where
   -- and no bit above them
   pub size : a < 2 ^ w
 
+-- the four receive pairs from bit n on: in a sample line l has bit l of the positive wires p and of the negative wires m
+pub record PairsAre (bytes : List ℕ) (n p m : ℕ) : Type 0 where
+  -- "line 0 and positive wire first"
+  pub positive : (l : ℕ) → l < 4 → bit p l ≡ bitAt bytes (n + 2 * l)
+  pub negative : (l : ℕ) → l < 4 → bit m l ≡ bitAt bytes (n + (2 * l + 1))
+
+-- what comes back from the lines
+pub record ReceiveIs (f : Form) (bytes : List ℕ) (r : Receive) : Type 0 where
+  -- request (xi): "older editions run as in (ix), senders unchecked"; in a form without answer bits no number but 0 has its bits
+  pub answers : f .checked ≡ false → (a : ℕ) × AnswersAre bytes (f .answers-at) (f .answer-bits) a × (r ≡ Receive.Answers a)
+  -- "four receive pairs", and no bit above them
+  pub pairs : f .checked ≡ true → (p m : ℕ) × PairsAre bytes (f .pairs-at) p m × (p < 16) × (m < 16) × (r ≡ Receive.Pairs p m)
+
 -- ── the sentences: x is the access and sample of the record's bytes ──
 
 pub record Holds (e : Edition) (bytes : List ℕ) (x : Input) : Type 0 where
@@ -193,9 +247,10 @@ pub record Holds (e : Edition) (bytes : List ℕ) (x : Input) : Type 0 where
   -- "64 positive wires with alert 0 first, 64 negative wires"
   pub positive : WiresAre bytes (form e .positive-at) (form e .alerts) (x .sample .alerts .pos)
   pub negative : WiresAre bytes (form e .negative-at) (form e .alerts) (x .sample .alerts .neg)
-  -- request (ix): "by the word, four zero bits and four answer bits", of a malformed record too; in a form without them no number but 0 has its bits
+  -- request (ix): "by the word", of a malformed record too; in a form without it no number but 0 has its bits
   pub word : Stands bytes (form e .word-at) (form e .word-bits) (x .sample .word)
-  pub answers : AnswersAre bytes (form e .answers-at) (form e .answer-bits) (x .sample .answers)
+  -- requests (ix) and (xi), of a malformed record too
+  pub receive : ReceiveIs (form e) bytes (x .sample .receive)
 
 -- a reader of records: of as many bytes as the form says, each a byte
 abbrev pub Reader : (Edition → List ℕ → Input) → Type 0

@@ -15,12 +15,13 @@ use Rattle.bits.proofs.FieldLaws.{pack-lt}
 use Rattle.bits.proofs.IndexLaws.{length-each}
 use Rattle.bits.proofs.PackLaws.{pack-append, fit-append, pack-two, unpack-parts, total-bytes}
 use Rattle.trace_rules.specs.Edition.{newest, alerts, tail}
-use Rattle.trace_rules.specs.Record.{head, wires, wiresOf, otherWay, accessOf, headFields, recordOf}
+use Rattle.trace_rules.specs.Record.{head, wires, wiresOf, pairBits, accessOf, headFields, recordOf}
 use Rattle.rules.specs.State.{words}
 use Rattle.rules.specs.declared.Input.{Input}
-use Rattle.trace_laws.proofs.OtherWay.{other-lt}
+use Rattle.rules.specs.declared.Receive.{Receive}
+use Rattle.trace_laws.proofs.LineBits.{pair-bits-lt}
 use Rattle.trace_laws.proofs.WireLaws.{wires-lt}
-use Rattle.writer.specs.EntryParts.{inputIn, accessWord, wordBytes, setBytes, pingBytes}
+use Rattle.writer.specs.EntryParts.{inputIn, accessWord, wordBytes, setBytes, lastBytes}
 
 -- one run of stores behind another
 pub sets-append : (l : List ℕ) (i : ℕ) (xs ys : List ℕ) → sets (sets l i xs) (i + length xs) ys ≡ sets l i (xs ++ ys)
@@ -164,37 +165,40 @@ put-set l m n at f h p q =
     let t : List ℕ = toBytes 7 (f 3 / 2 ^ 8) in
     q ∙ ap₂ (λ (o : List ℕ) (k : ℕ). sets o (at + k) t) p (sym (length-words f h 3)) ∙ sets-append l at (wordBytes 3 f) t
 
--- ── the word and the answers ──
+-- ── the word and the receive pairs, of which a and b are the positive and the negative wires ──
 
-module _ (w a : ℕ) (h : w < 2 ^ 32) where
-  abbrev pingFields : List ℕ
-  pingFields = w ∷ 0 ∷ otherWay a ∷ []
+module _ (w a b : ℕ) (h : w < 2 ^ 32) where
+  abbrev pairs : ℕ
+  pairs = pairBits (Receive.Pairs a b)
 
-  pings-fit : Fit (tail newest) pingFields
-  pings-fit = one h (one (pow-pos 4) (one (other-lt a) none))
+  abbrev lastFields : List ℕ
+  lastFields = w ∷ 0 ∷ pairs ∷ []
 
-  ping-bytes : toBytes 5 (pack (tail newest) pingFields) ≡ pingBytes w a
+  last-fit : Fit (tail newest) lastFields
+  last-fit = one h (one (pow-pos 0) (one (pair-bits-lt (Receive.Pairs a b)) none))
+
+  last-bytes : toBytes 5 (pack (tail newest) lastFields) ≡ lastBytes w a b
   unfolding pack unpack
-  ping-bytes =
-      let l : otherWay a < 2 ^ 4 = other-lt a in
-      let n : w * 2 ^ 8 + (0 * 2 ^ 4 + (otherWay a * 2 ^ 0 + 0)) ≡ w * 2 ^ 8 + otherWay a = omega arith in
-      let b : otherWay a / 2 ^ 0 % 2 ^ 8 ≡ otherWay a = omega arith in
-      ap (toBytes 5) n ∙ unpack-parts (replicate 4 8) (replicate 1 8) w (otherWay a) h (omega arith) ∙ ap (λ (x : ℕ). toBytes 4 w ++ (x ∷ [])) b
+  last-bytes =
+      let l : pairs < 2 ^ 8 = pair-bits-lt (Receive.Pairs a b) in
+      let n : w * 2 ^ 8 + (0 * 2 ^ 8 + (pairs * 2 ^ 0 + 0)) ≡ w * 2 ^ 8 + pairs = omega arith in
+      let d : pairs / 2 ^ 0 % 2 ^ 8 ≡ pairs = omega arith in
+      ap (toBytes 5) n ∙ unpack-parts (replicate 4 8) (replicate 1 8) w pairs h (omega arith) ∙ ap (λ (x : ℕ). toBytes 4 w ++ (x ∷ [])) d
 
 -- four bytes, and the byte behind them
-pub put-pings : (l m : List ℕ) (i w a x : ℕ) → m ≡ sets l i (toBytes 4 w) → x ≡ otherWay a → set m (i + 4) x ≡ sets l i (pingBytes w a)
+pub put-last : (l m : List ℕ) (i w a b x : ℕ) → m ≡ sets l i (toBytes 4 w) → x ≡ pairBits (Receive.Pairs a b) → set m (i + 4) x ≡ sets l i (lastBytes w a b)
 unfolding unpack
-put-pings l m i w a x e f =
-    ap₂ (λ (k : List ℕ) (y : ℕ). sets k (i + 4) (y ∷ [])) e f ∙ sets-append l i (toBytes 4 w) (otherWay a ∷ [])
+put-last l m i w a b x e f =
+    ap₂ (λ (k : List ℕ) (y : ℕ). sets k (i + 4) (y ∷ [])) e f ∙ sets-append l i (toBytes 4 w) (pairBits (Receive.Pairs a b) ∷ [])
 
--- ── a record: the access, two wire sets, the word and the answers ──
+-- ── a record: the access, two wire sets, the word and the receive pairs ──
 
-module _ (k r v : ℕ) (f g : ℕ → ℕ) (w a : ℕ) (p : (i : ℕ) → f i < 2 ^ 64) (q : (i : ℕ) → g i < 2 ^ 64) (u : w < 2 ^ 32) where
+module _ (k r v : ℕ) (f g : ℕ → ℕ) (w a b : ℕ) (p : (i : ℕ) → f i < 2 ^ 64) (q : (i : ℕ) → g i < 2 ^ 64) (u : w < 2 ^ 32) where
   abbrev word : ℕ
   word = accessWord (accessOf k r v)
 
   abbrev entry : Input
-  entry = inputIn k r v (each words f) (each words g) w a
+  entry = inputIn k r v (each words f) (each words g) w a b
 
   abbrev both : List ℕ
   both = set-wires f p ∷ set-wires g q ∷ []
@@ -209,24 +213,24 @@ module _ (k r v : ℕ) (f g : ℕ → ℕ) (w a : ℕ) (p : (i : ℕ) → f i < 
       ap (toBytes 62) (pack-two 248 248 b c) ∙ unpack-parts (replicate 31 8) (replicate 31 8) b c (set-lt f p) (set-lt g q)
       ∙ ap₂ (λ (l m : List ℕ). l ++ m) (set-bytes f p) (set-bytes g q)
 
-  record-parts : word < 2 ^ 64 → recordOf newest entry ≡ toBytes 8 word ++ ((setBytes f ++ setBytes g) ++ pingBytes w a)
+  record-parts : word < 2 ^ 64 → recordOf newest entry ≡ toBytes 8 word ++ ((setBytes f ++ setBytes g) ++ lastBytes w a b)
   unfolding recordOf accessWord
   record-parts h =
-      let rest : ℕ = pack (wires newest ++ tail newest) (both ++ pingFields w a u) in
-      ap (toBytes 75) (pack-append (head newest) (wires newest ++ tail newest) (headFields (accessOf k r v)) (both ++ pingFields w a u) refl)
-      ∙ unpack-parts (replicate 8 8) (replicate 67 8) word rest h (pack-lt (fit-append both-fit (pings-fit w a u)))
+      let rest : ℕ = pack (wires newest ++ tail newest) (both ++ lastFields w a b u) in
+      ap (toBytes 75) (pack-append (head newest) (wires newest ++ tail newest) (headFields (accessOf k r v)) (both ++ lastFields w a b u) refl)
+      ∙ unpack-parts (replicate 8 8) (replicate 67 8) word rest h (pack-lt (fit-append both-fit (last-fit w a b u)))
       ∙ ap (λ (l : List ℕ). toBytes 8 word ++ l)
-      (ap (toBytes 67) (pack-append (wires newest) (tail newest) both (pingFields w a u) refl)
-      ∙ unpack-parts (replicate 62 8) (replicate 5 8) (pack (wires newest) both) (pack (tail newest) (pingFields w a u)) (pack-lt both-fit) (pack-lt (pings-fit w a u))
-      ∙ ap₂ (λ (l m : List ℕ). l ++ m) both-bytes (ping-bytes w a u))
+      (ap (toBytes 67) (pack-append (wires newest) (tail newest) both (lastFields w a b u) refl)
+      ∙ unpack-parts (replicate 62 8) (replicate 5 8) (pack (wires newest) both) (pack (tail newest) (lastFields w a b u)) (pack-lt both-fit) (pack-lt (last-fit w a b u))
+      ∙ ap₂ (λ (l m : List ℕ). l ++ m) both-bytes (last-bytes w a b u))
 
   length-both : length (setBytes f ++ setBytes g) ≡ 62
   length-both = ap length (sym both-bytes) ∙ length-bytes 62 (pack (wires newest) both)
 
-  pub put-parts : (l m n o s : List ℕ) (i b : ℕ) → b < 2 ^ 64 → b ≡ word → m ≡ sets l i (toBytes 8 b) → n ≡ sets m (i + 8) (setBytes f)
-      → o ≡ sets n (i + 39) (setBytes g) → s ≡ sets o (i + 70) (pingBytes w a) → s ≡ sets l i (recordOf newest entry)
+  pub put-parts : (l m n o s : List ℕ) (i held : ℕ) → held < 2 ^ 64 → held ≡ word → m ≡ sets l i (toBytes 8 held) → n ≡ sets m (i + 8) (setBytes f)
+      → o ≡ sets n (i + 39) (setBytes g) → s ≡ sets o (i + 70) (lastBytes w a b) → s ≡ sets l i (recordOf newest entry)
   unfolding unpack
-  put-parts l m n o s i b h e x y z t =
+  put-parts l m n o s i held h e x y z t =
       let c : word < 2 ^ 64 = omega arith in
       let first : List ℕ = toBytes 8 word in
       let sets-both : List ℕ = setBytes f ++ setBytes g in
@@ -236,7 +240,7 @@ module _ (k r v : ℕ) (f g : ℕ → ℕ) (w a : ℕ) (p : (i : ℕ) → f i < 
       z ∙ ap (λ (k : List ℕ). sets k (i + 39) (setBytes g)) (y ∙ ap (λ (k : List ℕ). sets k (i + 8) (setBytes f)) (x ∙ ap (λ (k : ℕ). sets l i (toBytes 8 k)) e))
       ∙ ap (λ (k : ℕ). sets (sets (sets l i first) (i + 8) (setBytes f)) k (setBytes g)) j
       ∙ sets-append (sets l i first) (i + 8) (setBytes f) (setBytes g) in
-      t ∙ ap₂ (λ (k : List ℕ) (n : ℕ). sets k n (pingBytes w a)) wired d
-      ∙ sets-append (sets l i first) (i + 8) sets-both (pingBytes w a)
-      ∙ sets-append l i first (sets-both ++ pingBytes w a)
+      t ∙ ap₂ (λ (k : List ℕ) (n : ℕ). sets k n (lastBytes w a b)) wired d
+      ∙ sets-append (sets l i first) (i + 8) sets-both (lastBytes w a b)
+      ∙ sets-append l i first (sets-both ++ lastBytes w a b)
       ∙ ap (sets l i) (sym (record-parts c))

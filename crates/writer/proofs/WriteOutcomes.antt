@@ -27,7 +27,7 @@ use Rattle.writer.proofs.EntryLists.{any-in-list, length-list}
 -- every list has the entries of each kind
 pub lengths : (l : Lent) → not (even l) ≡ false
     → (length (l .kinds) ≤ length (l .registers)) × (length (l .kinds) ≤ length (l .values)) × (length (l .kinds) * words ≤ length (l .positive)) × (length (l .kinds) * words ≤ length (l .negative))
-    × (length (l .kinds) ≤ length (l .entropy)) × (length (l .kinds) ≤ length (l .answers))
+    × (length (l .kinds) ≤ length (l .entropy)) × (length (l .kinds) ≤ length (l .receive-positive)) × (length (l .kinds) ≤ length (l .receive-negative))
 lengths l e =
     let k = length (l .kinds) in
     let a = and-true (eqb (length (l .registers)) k) _ (not-false (even l) e) in
@@ -35,13 +35,15 @@ lengths l e =
     let c = and-true (eqb (length (l .positive)) (k * words)) _ (b .1) in
     let d = and-true (eqb (length (l .negative)) (k * words)) _ (c .1) in
     let f = and-true (eqb (length (l .entropy)) k) _ (d .1) in
+    let g = and-true (eqb (length (l .receive-positive)) k) _ (f .1) in
     let r : length (l .registers) ≡ k = eqb-true _ _ (a .0) in
     let v : length (l .values) ≡ k = eqb-true _ _ (b .0) in
     let p : length (l .positive) ≡ k * words = eqb-true _ _ (c .0) in
     let n : length (l .negative) ≡ k * words = eqb-true _ _ (d .0) in
     let w : length (l .entropy) ≡ k = eqb-true _ _ (f .0) in
-    let a : length (l .answers) ≡ k = eqb-true _ _ (f .1) in
-    (omega arith, omega arith, omega arith, omega arith, omega arith, omega arith)
+    let s : length (l .receive-positive) ≡ k = eqb-true _ _ (g .0) in
+    let t : length (l .receive-negative) ≡ k = eqb-true _ _ (g .1) in
+    (omega arith, omega arith, omega arith, omega arith, omega arith, omega arith, omega arith)
 
 -- whole records that fit, as a test without a product
 room-test : (b k : ℕ) → ltb (b / recordBytes newest) k ≡ ltb b (k * recordBytes newest)
@@ -98,7 +100,8 @@ module _ (l : Lent) (buffer : List ℕ) where
           positive-long = n .2;
           negative-long = n .3;
           entropy-long = n .4;
-          answers-long = n .5;
+          receive-positive-long = n .5;
+          receive-negative-long = n .6;
           each-recordable = sym (any-in-list l) ∙ a .0;
           room = omega (arith, length-list l, ltb-false (length buffer) (length (listOf l) * recordBytes newest) (a .1));
         }

@@ -7,27 +7,28 @@ use mathlib.Core.List.{List, [], _∷_, _++_}
 use native.Mathlib.Omega.{arith}
 use lib.IntN.{ℤ, pos, negsuc}
 use lib.ListN.{getD, length, take, drop, replicate}
-use Rattle.bits.specs.Bits.{bit, bitsOf}
+use Rattle.bits.specs.Bits.{bit, bitsOf, wordOf}
 use Rattle.bits.specs.Fields.{pack, unpack}
 use Rattle.bits.specs.Index.{eachFrom, placeIn}
 use Rattle.trace_laws.proofs.RecordLaws.{held-wired}
 use Rattle.trace_laws.proofs.Recordable.{record-formed}
 use Rattle.rules.specs.Answer.{firstOf}
 use Rattle.trace_rules.specs.Edition.{newest}
-use Rattle.trace_rules.specs.Record.{accessOf, otherWay, heldIn, inputOf, kindOf, registerOf, valueOf, recordOf, recordable, inputsOf}
+use Rattle.trace_rules.specs.Record.{accessOf, positivesOf, negativesOf, pairBits, heldIn, inputOf, kindOf, registerOf, valueOf, recordOf, recordable, inputsOf}
 use Rattle.trace_rules.specs.Writer.{SameRead, AllSame, no-more, and, WellFormed, Written, anyUnrecordable, writeVerdict}
 use Rattle.rules.specs.declared.Access.the-variants.{Read, Write}
 use Rattle.rules.specs.declared.Input.{Input}
+use Rattle.rules.specs.declared.Receive.the-variants.{Pairs}
 use Rattle.rules.specs.declared.Verdict.{Verdict}
 use Rattle.writer.specs.Lent.{Lent, lent, inputAt, listOf, even, Wrote, ReadBack, WrittenBack}
 use Rattle.writer.proofs.WriteCallExamples.{entry, room, kind-3, read-1293}
 
 -- a read of 1293, and its record
 abbrev one1293 : Lent
-one1293 = lent (1 ∷ []) (1293 ∷ []) (0 ∷ []) (0x8000000000000000 ∷ 0 ∷ 0 ∷ 0 ∷ []) (0 ∷ 0 ∷ 0 ∷ 0x100 ∷ []) (0xfedcba98 ∷ []) (3 ∷ [])
+one1293 = lent (1 ∷ []) (1293 ∷ []) (0 ∷ []) (0x8000000000000000 ∷ 0 ∷ 0 ∷ 0 ∷ []) (0 ∷ 0 ∷ 0 ∷ 0x100 ∷ []) (0xfedcba98 ∷ []) (3 ∷ []) (12 ∷ [])
 
 abbrev bytes : List ℕ
-bytes = 0x68 ∷ 0x68 ∷ replicate 6 0 ++ 0x80 ∷ replicate 60 0 ++ 1 ∷ 0xfe ∷ 0xdc ∷ 0xba ∷ 0x98 ∷ 0xc ∷ []
+bytes = 0x68 ∷ 0x68 ∷ replicate 6 0 ++ 0x80 ∷ replicate 60 0 ++ 1 ∷ 0xfe ∷ 0xdc ∷ 0xba ∷ 0x98 ∷ 0xa5 ∷ []
 
 -- ── the answer, and every byte of the buffer ──
 
@@ -48,9 +49,9 @@ two-same : {x y : Input} {zs : List Input} (d : Input) → AllSame newest (x ∷
 two-same d (and a (and b no-more)) = (refl, a, b)
 
 -- a write of 5 to 3 with alerts 125 and 126 high on the positive wire and alert 60 on the negative; a read of 4 with alerts 189 to 191 and 244 and 247; a word of
--- each, the answer of line 1 and that of line 2, with bits above it that are no line's
+-- each, line 1 at (1,0), line 3 at (0,1) and the others at (0,0), and line 2 at (1,1) and line 0 at (0,1), with bits above them that are no line's
 abbrev two : Lent
-two = lent (2 ∷ 1 ∷ []) (3 ∷ 4 ∷ []) (5 ∷ 0 ∷ []) (0 ∷ 6 ∷ 0 ∷ 0 ∷ 0 ∷ 0 ∷ 7 ∷ 0 ∷ []) (8 ∷ 0 ∷ 0 ∷ 0 ∷ 0 ∷ 0 ∷ 0 ∷ 0x900 ∷ []) (10 ∷ 0xb000000 ∷ []) (2 ∷ 0xf4 ∷ [])
+two = lent (2 ∷ 1 ∷ []) (3 ∷ 4 ∷ []) (5 ∷ 0 ∷ []) (0 ∷ 6 ∷ 0 ∷ 0 ∷ 0 ∷ 0 ∷ 7 ∷ 0 ∷ []) (8 ∷ 0 ∷ 0 ∷ 0 ∷ 0 ∷ 0 ∷ 0 ∷ 0x900 ∷ []) (10 ∷ 0xb000000 ∷ []) (2 ∷ 0xf4 ∷ []) (8 ∷ 0x85 ∷ [])
 
 module _ (left : List ℕ) (back : ReadBack two (replicate 151 1) left) where
   abbrev again : ℕ → Input
@@ -80,8 +81,9 @@ module _ (left : List ℕ) (back : ReadBack two (replicate 151 1) left) where
     both .2 .negative 246 (omega arith),
   )
 
-  pings : (again 0 .sample .word ≡ 10) × (again 0 .sample .answers ≡ 2) × (again 1 .sample .word ≡ 0xb000000) × (again 1 .sample .answers ≡ 4)
-  pings = (both .1 .word, both .1 .answers, both .2 .word, both .2 .answers)
+  pairs : (again 0 .sample .word ≡ 10) × (again 0 .sample .receive ≡ Pairs 2 8) × (again 1 .sample .word ≡ 0xb000000) × (again 1 .sample .receive ≡ Pairs 4 5)
+  unfolding bitsOf bit
+  pairs = (both .1 .word, both .1 .receive, both .2 .word, both .2 .receive)
 
 -- the numbers that were lent, whatever they are: entry i of any lists that are not refused
 lent-numbers : (l : Lent) (buffer left : List ℕ) → ReadBack l buffer left → even l ≡ true → writeVerdict newest (listOf l) buffer ≡ Verdict.Accepted
@@ -92,7 +94,7 @@ lent-numbers l buffer left back e a i k g v h p q r = let n = back e a .1 i h in
 -- ── writing what was read gives the same bytes ──
 
 is-record : recordOf newest (heldIn newest bytes) ≡ bytes
-unfolding recordOf heldIn accessOf otherWay bitsOf bit pack unpack
+unfolding recordOf heldIn accessOf positivesOf negativesOf pairBits bitsOf wordOf bit pack unpack
 is-record = refl
 
 formed : WellFormed newest bytes
@@ -101,5 +103,5 @@ formed = rw is-record at (record-formed newest (heldIn newest bytes) (held-wired
 
 -- lent again, into any buffer with room for it: its 75 bytes, and what stood behind them
 written-again : (buffer left : List ℕ) → WrittenBack one1293 buffer left → 75 ≤ length buffer → left ≡ bytes ++ drop 75 buffer
-unfolding listOf eachFrom inputsOf inputOf heldIn accessOf otherWay bitsOf bit pack unpack
+unfolding listOf eachFrom inputsOf inputOf heldIn accessOf positivesOf negativesOf bitsOf bit pack unpack
 written-again buffer left back l = back bytes formed refl refl l

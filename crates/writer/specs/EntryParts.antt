@@ -9,20 +9,21 @@ use Rattle.bits.specs.Fields.{pack, toBytes}
 use Rattle.bits.specs.Index.{anyTo}
 use Rattle.rules.specs.Answer.{firstOf}
 use Rattle.trace_rules.specs.Edition.{newest, recordBytes}
-use Rattle.trace_rules.specs.Record.{head, accessOf, otherWay, headFields, recordable}
+use Rattle.trace_rules.specs.Record.{head, accessOf, pairBits, headFields, recordable}
 use Rattle.rules.specs.State.{words}
 use Rattle.rules.specs.declared.Access.{Access}
 use Rattle.rules.specs.declared.Input.{Input}
+use Rattle.rules.specs.declared.Receive.{Receive}
 use Rattle.rules.specs.declared.Refusal.the-variants.{NoRecord, ShortBuffer}
 use Rattle.rules.specs.declared.Verdict.{Verdict}
 use Rattle.writer.specs.Lent.{Lent}
 
--- the access and sample of an entry's numbers and its words of wires
-abbrev pub inputIn : ℕ → ℕ → ℕ → List ℕ → List ℕ → ℕ → ℕ → Input
-inputIn kind register value positive negative word answers =
+-- the access and sample of an entry's numbers and its words of wires, of which p and m are the receive pairs'
+abbrev pub inputIn : ℕ → ℕ → ℕ → List ℕ → List ℕ → ℕ → ℕ → ℕ → Input
+inputIn kind register value positive negative word p m =
     record {
       access = accessOf kind register value;
-      sample = record { alerts = record { pos = positive; neg = negative }; word = word; answers = answers };
+      sample = record { alerts = record { pos = positive; neg = negative }; word = word; receive = Receive.Pairs p m };
     }
 
 -- the first 64 bits of a record: kind, register, zero bits, value
@@ -38,9 +39,9 @@ wordBytes (suc n) f = wordBytes n f ++ toBytes 8 (f n)
 abbrev pub setBytes : (ℕ → ℕ) → List ℕ
 setBytes f = wordBytes 3 f ++ toBytes 7 (f 3 / 2 ^ 8)
 
--- the bytes behind the wires: the entropy word, and a byte of four zero bits and the answers, line 0 first
-abbrev pub pingBytes : ℕ → ℕ → List ℕ
-pingBytes word answers = toBytes 4 word ++ (otherWay answers ∷ [])
+-- the bytes behind the wires: the entropy word, and a byte of four receive pairs, line 0 and positive wire first
+abbrev pub lastBytes : ℕ → ℕ → ℕ → List ℕ
+lastBytes word p m = toBytes 4 word ++ (pairBits (Receive.Pairs p m) ∷ [])
 
 -- entry i has an access that no well-formed record holds
 abbrev pub unrecordableAt : List ℕ → List ℕ → List ℕ → ℕ → Bool
@@ -58,6 +59,7 @@ pub record Ready (l : Lent) (buffer : List ℕ) : Type 0 where
   pub positive-long : length (l .kinds) * words ≤ length (l .positive)
   pub negative-long : length (l .kinds) * words ≤ length (l .negative)
   pub entropy-long : length (l .kinds) ≤ length (l .entropy)
-  pub answers-long : length (l .kinds) ≤ length (l .answers)
+  pub receive-positive-long : length (l .kinds) ≤ length (l .receive-positive)
+  pub receive-negative-long : length (l .kinds) ≤ length (l .receive-negative)
   pub each-recordable : anyTo (unrecordableAt (l .kinds) (l .registers) (l .values)) (length (l .kinds)) ≡ false
   pub room : length (l .kinds) * recordBytes newest ≤ length buffer

@@ -1,4 +1,4 @@
--- How a list of accesses and samples is lent: seven lists of numbers, of which entry i is tick i's.
+-- How a list of accesses and samples is lent: eight lists of numbers, of which entry i is tick i's.
 -- Assumes nothing.
 use Prim.Native.Nat.{ℕ, _+_, _*_, _≤_, _<_}
 use mathlib.Core.Path.{_≡_}
@@ -13,6 +13,7 @@ use Rattle.trace_rules.specs.Record.{accessOf, kindOf, registerOf, valueOf, inp
 use Rattle.rules.specs.State.{words}
 use Rattle.trace_rules.specs.Writer.{Written, WellFormed, AllSame, writeVerdict, writeOf, write}
 use Rattle.rules.specs.declared.Input.{Input}
+use Rattle.rules.specs.declared.Receive.{Receive}
 use Rattle.rules.specs.declared.Refusal.the-variants.{NoRecord}
 use Rattle.rules.specs.declared.Verdict.{Verdict}
 
@@ -23,12 +24,14 @@ pub record Lent : Type 0 where
   -- the words of 64 of each: alert 0 is the highest bit of the first
   pub positive : List ℕ
   pub negative : List ℕ
-  -- request (ix): the entropy word of each, and the lines whose ping is answered, line 0 lowest; bits from 4 up are not in its record
+  -- request (ix): the entropy word of each; request (xi): the positive and the negative wires of its four receive pairs, line 0 lowest; bits from 4 up
+  -- are not in its record
   pub entropy : List ℕ
-  pub answers : List ℕ
+  pub receive-positive : List ℕ
+  pub receive-negative : List ℕ
 
-abbrev pub lent : List ℕ → List ℕ → List ℕ → List ℕ → List ℕ → List ℕ → List ℕ → Lent
-lent kinds registers values positive negative entropy answers =
+abbrev pub lent : List ℕ → List ℕ → List ℕ → List ℕ → List ℕ → List ℕ → List ℕ → List ℕ → Lent
+lent kinds registers values positive negative entropy receive-positive receive-negative =
     record {
       kinds = kinds;
       registers = registers;
@@ -36,7 +39,8 @@ lent kinds registers values positive negative entropy answers =
       positive = positive;
       negative = negative;
       entropy = entropy;
-      answers = answers;
+      receive-positive = receive-positive;
+      receive-negative = receive-negative;
     }
 
 -- word v of entry i, and the entry's words
@@ -54,7 +58,7 @@ inputAt l i =
           record {
             alerts = record { pos = wordsAt (l .positive) i; neg = wordsAt (l .negative) i };
             word = getD (l .entropy) i 0;
-            answers = getD (l .answers) i 0;
+            receive = Receive.Pairs (getD (l .receive-positive) i 0) (getD (l .receive-negative) i 0);
           };
     }
 
@@ -67,7 +71,8 @@ even l =
     && (eqb (length (l .values)) (length (l .kinds))
     && (eqb (length (l .positive)) (length (l .kinds) * words)
     && (eqb (length (l .negative)) (length (l .kinds) * words)
-    && (eqb (length (l .entropy)) (length (l .kinds)) && eqb (length (l .answers)) (length (l .kinds))))))
+    && (eqb (length (l .entropy)) (length (l .kinds))
+    && (eqb (length (l .receive-positive)) (length (l .kinds)) && eqb (length (l .receive-negative)) (length (l .kinds)))))))
 
 -- lists of unequal lengths name a tick that lacks a part, which no record holds: 10
 unfoldable pub writeLent : Lent → List ℕ → Written
@@ -86,8 +91,8 @@ Numbers l =
     × (registerOf (inputAt l i .access) ≡ getD (l .registers) i 0)
     × (valueOf (inputAt l i .access) ≡ getD (l .values) i 0)
 
--- reading what was written gives the same accesses, the same 248 pairs of wires, the same words and the same answers of the four lines, for every
--- list that is not refused
+-- reading what was written gives the same accesses, the same 248 pairs of wires, the same words and the same four receive pairs, for every list
+-- that is not refused
 abbrev pub ReadBack : Lent → List ℕ → List ℕ → Type 0
 ReadBack l buffer left =
     even l ≡ true → writeVerdict newest (listOf l) buffer ≡ Verdict.Accepted

@@ -1,4 +1,4 @@
-// Request (ii): a trace writer for a list of accesses and samples, lent as seven lists of numbers: entry i is tick i's, and has WORDS words
+// Request (ii): a trace writer for a list of accesses and samples, lent as eight lists of numbers: entry i is tick i's, and has WORDS words
 // of positive and of negative wires.
 mod bytes;
 mod recordable;
@@ -11,7 +11,7 @@ use answers::signed;
 use rules::Answer;
 use rules::Refusal;
 use rules::Verdict;
-use trace::edition::PINGS_BYTES;
+use trace::edition::WIRES_BYTES;
 ghost use mathlib.Core.Path.{_≡_};
 ghost use Rattle.writer.specs.Lent.{lent, Wrote, ReadBack, WrittenBack};
 ghost use Rattle.writer.specs.EntryParts.{inOrder};
@@ -38,12 +38,13 @@ pub fn write(
     positive: &[u64],
     negative: &[u64],
     entropy: &[u32],
-    answers: &[u8],
+    receive_positive: &[u8],
+    receive_negative: &[u8],
     out: &mut [u8],
 ) -> i64
-    ensures { λ r. ⌜ Wrote (lent (now (kinds .entry)) (now (registers .entry)) (now (values .entry)) (now (positive .entry)) (now (negative .entry)) (now (entropy .entry)) (now (answers .entry))) (now (out .entry)) r (now (out .exit)) ⌝ }
-    ensures readback { λ r. ⌜ ReadBack (lent (now (kinds .entry)) (now (registers .entry)) (now (values .entry)) (now (positive .entry)) (now (negative .entry)) (now (entropy .entry)) (now (answers .entry))) (now (out .entry)) (now (out .exit)) ⌝ }
-    ensures writtenback { λ r. ⌜ WrittenBack (lent (now (kinds .entry)) (now (registers .entry)) (now (values .entry)) (now (positive .entry)) (now (negative .entry)) (now (entropy .entry)) (now (answers .entry))) (now (out .entry)) (now (out .exit)) ⌝ }
+    ensures { λ r. ⌜ Wrote (lent (now (kinds .entry)) (now (registers .entry)) (now (values .entry)) (now (positive .entry)) (now (negative .entry)) (now (entropy .entry)) (now («receive_positive» .entry)) (now («receive_negative» .entry))) (now (out .entry)) r (now (out .exit)) ⌝ }
+    ensures readback { λ r. ⌜ ReadBack (lent (now (kinds .entry)) (now (registers .entry)) (now (values .entry)) (now (positive .entry)) (now (negative .entry)) (now (entropy .entry)) (now («receive_positive» .entry)) (now («receive_negative» .entry))) (now (out .entry)) (now (out .exit)) ⌝ }
+    ensures writtenback { λ r. ⌜ WrittenBack (lent (now (kinds .entry)) (now (registers .entry)) (now (values .entry)) (now (positive .entry)) (now (negative .entry)) (now (entropy .entry)) (now («receive_positive» .entry)) (now («receive_negative» .entry))) (now (out .entry)) (now (out .exit)) ⌝ }
 {
     if are_uneven(
         kinds,
@@ -52,12 +53,13 @@ pub fn write(
         positive,
         negative,
         entropy,
-        answers,
+        receive_positive,
+        receive_negative,
     ) {
         signed(Answer::Refused(Refusal::NoRecord))
     } else {
         let count = kinds.len();
-        let short = out.len() / PINGS_BYTES < count;
+        let short = out.len() / WIRES_BYTES < count;
         match verdict_of(any_unrecordable(kinds, registers, values), short) {
             Verdict::Accepted => {
                 put_all(
@@ -67,10 +69,11 @@ pub fn write(
                     positive,
                     negative,
                     entropy,
-                    answers,
+                    receive_positive,
+                    receive_negative,
                     out,
                 );
-                (count * PINGS_BYTES) as i64
+                (count * WIRES_BYTES) as i64
             }
             Verdict::Refused(m) => signed(Answer::Refused(m)),
         }

@@ -28,16 +28,19 @@ pub fn are_uneven(
     positive: &[u64],
     negative: &[u64],
     entropy: &[u32],
-    answers: &[u8],
+    receive_positive: &[u8],
+    receive_negative: &[u8],
 ) -> bool
-    ensures { λ r. ⌜ r ≡ not (even (lent (now (kinds .entry)) (now (registers .entry)) (now (values .entry)) (now (positive .entry)) (now (negative .entry)) (now (entropy .entry)) (now (answers .entry)))) ⌝ }
+    ensures { λ r. ⌜ r ≡ not (even (lent (now (kinds .entry)) (now (registers .entry)) (now (values .entry)) (now (positive .entry)) (now (negative .entry)) (now (entropy .entry)) (now («receive_positive» .entry)) (now («receive_negative» .entry)))) ⌝ }
 {
     let count = kinds.len();
     let even = (registers.len() == count)
         & ((values.len() == count)
             & (has_words(positive, count)
                 & (has_words(negative, count)
-                    & ((entropy.len() == count) & (answers.len() == count)))));
+                    & ((entropy.len() == count)
+                        & ((receive_positive.len() == count)
+                            & (receive_negative.len() == count))))));
     !even
 }
 

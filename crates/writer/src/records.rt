@@ -4,8 +4,8 @@ use crate::bytes::put_seven;
 use crate::bytes::put_word;
 use rules::WORDS;
 use trace::edition::ALERTS_248_REGISTER_AT;
-use trace::edition::PINGS_BYTES;
-use trace::word::four;
+use trace::edition::WIRES_BYTES;
+use trace::lines::pair_bits;
 ghost use mathlib.Core.Path.{_≡_};
 ghost use mathlib.Core.Bool.{true};
 ghost use mathlib.Core.List.{_++_};
@@ -17,7 +17,7 @@ ghost use Rattle.trace_rules.specs.Record.{accessOf, recordOf, recordable};
 ghost use Rattle.rules.specs.State.{words};
 ghost use Rattle.trace_rules.specs.Writer.{recordsOf};
 ghost use Rattle.writer.specs.Lent.{lent, wordAt, wordsAt, listOf};
-ghost use Rattle.writer.specs.EntryParts.{inputIn, accessWord, wordBytes, setBytes, pingBytes, Ready};
+ghost use Rattle.writer.specs.EntryParts.{inputIn, accessWord, wordBytes, setBytes, lastBytes, Ready};
 
 // 2 bits kind, 11 bits register, 19 zero bits, 32 bits value.
 fn first_word(kind: u8, register: u16, value: u32) -> u64
@@ -51,16 +51,17 @@ fn put_wires(out: &mut [u8], at: usize, list: &[u64], i: usize)
     put_seven(out, at + 24, list[i * WORDS + WHOLE]);
 }
 
-// Behind the wires: the entropy word, four zero bits and the answers of the four lines, line 0 first.
-fn put_pings(out: &mut [u8], at: usize, word: u32, answers: u8)
+// Behind the wires: the entropy word and the four receive pairs, line 0 and positive wire first.
+fn put_last(out: &mut [u8], at: usize, word: u32, p: u8, m: u8)
     requires { ⌜ at + 5 ≤ length (now out) ⌝ }
-    ensures { λ _. ⌜ now (out .exit) ≡ sets (now (out .entry)) at (pingBytes word answers) ⌝ }
+    ensures { λ _. ⌜ now (out .exit) ≡ sets (now (out .entry)) at (lastBytes word p m) ⌝ }
 {
     put_half(out, at, word);
-    out[at + 4] = four(answers) as u8;
+    out[at + 4] = pair_bits(p, m);
 }
 
-// The record of entry i: the access, the positive wires with alert 0 first, the negative wires, the word and the answers.
+// The record of entry i: the access, the positive wires with alert 0 first, the negative wires, the word and the receive
+// pairs, of which p and m are the positive and the negative wires.
 fn put_record(
     out: &mut [u8],
     at: usize,
@@ -70,16 +71,17 @@ fn put_record(
     positive: &[u64],
     negative: &[u64],
     word: u32,
-    answers: u8,
+    p: u8,
+    m: u8,
     i: usize,
 )
     requires { ⌜ (at + recordBytes newest ≤ length (now out)) × (recordable newest (accessOf kind register value) ≡ true) × (i * words + words ≤ length (now positive)) × (i * words + words ≤ length (now negative)) ⌝ }
-    ensures { λ _. ⌜ now (out .exit) ≡ sets (now (out .entry)) at (recordOf newest (inputIn kind register value (wordsAt (now (positive .entry)) i) (wordsAt (now (negative .entry)) i) word answers)) ⌝ }
+    ensures { λ _. ⌜ now (out .exit) ≡ sets (now (out .entry)) at (recordOf newest (inputIn kind register value (wordsAt (now (positive .entry)) i) (wordsAt (now (negative .entry)) i) word p m)) ⌝ }
 {
     put_word(out, at, first_word(kind, register, value));
     put_wires(out, at + 8, positive, i);
     put_wires(out, at + 39, negative, i);
-    put_pings(out, at + 70, word, answers);
+    put_last(out, at + 70, word, p, m);
 }
 
 // The records of all entries, from the start of the buffer.
@@ -90,24 +92,26 @@ pub fn put_all(
     positive: &[u64],
     negative: &[u64],
     entropy: &[u32],
-    answers: &[u8],
+    receive_positive: &[u8],
+    receive_negative: &[u8],
     out: &mut [u8],
 )
-    requires { ⌜ Ready (lent (now kinds) (now registers) (now values) (now positive) (now negative) (now entropy) (now answers)) (now out) ⌝ }
-    ensures { λ _. ⌜ now (out .exit) ≡ recordsOf newest (listOf (lent (now (kinds .entry)) (now (registers .entry)) (now (values .entry)) (now (positive .entry)) (now (negative .entry)) (now (entropy .entry)) (now (answers .entry)))) ++ drop (length (now (kinds .entry)) * recordBytes newest) (now (out .entry)) ⌝ }
+    requires { ⌜ Ready (lent (now kinds) (now registers) (now values) (now positive) (now negative) (now entropy) (now «receive_positive») (now «receive_negative»)) (now out) ⌝ }
+    ensures { λ _. ⌜ now (out .exit) ≡ recordsOf newest (listOf (lent (now (kinds .entry)) (now (registers .entry)) (now (values .entry)) (now (positive .entry)) (now (negative .entry)) (now (entropy .entry)) (now («receive_positive» .entry)) (now («receive_negative» .entry)))) ++ drop (length (now (kinds .entry)) * recordBytes newest) (now (out .entry)) ⌝ }
 {
     let mut i = 0;
     while i < kinds.len() {
         put_record(
             out,
-            i * PINGS_BYTES,
+            i * WIRES_BYTES,
             kinds[i],
             registers[i],
             values[i],
             positive,
             negative,
             entropy[i],
-            answers[i],
+            receive_positive[i],
+            receive_negative[i],
             i,
         );
         i += 1;

@@ -1,6 +1,7 @@
 //! Reads N and trace records from standard input and prints one word a line.
 //! A first byte of 255 says that N comes next and the records are those of the
-//! second edition, and one of 254 the same of the third.
+//! second edition, one of 254 the same of the third, and one of 253 of the
+//! fourth.
 //!
 //! The paper names no exit status: it is 0 after `cut` and `refused` too, and
 //! only a failure to read or write gives another.
@@ -12,6 +13,8 @@ use std::io::{self, Read, Write};
 const SECOND: u8 = 255;
 /// The first byte of an input with records of the third edition.
 const THIRD: u8 = 254;
+/// The first byte of an input with records of the fourth edition.
+const FOURTH: u8 = 253;
 /// Records taken in one block.
 const BLOCK: usize = 8192;
 
@@ -31,6 +34,7 @@ fn opening(input: &mut impl Read) -> io::Result<Option<(Edition, Handler)>> {
     let (edition, n) = match byte(input)? {
         Some(SECOND) => (Edition::Second, byte(input)?),
         Some(THIRD) => (Edition::Third, byte(input)?),
+        Some(FOURTH) => (Edition::Fourth, byte(input)?),
         n => (Edition::First, n),
     };
     // A missing N counts as a refused one.

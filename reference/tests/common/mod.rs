@@ -2,6 +2,8 @@
 //! numbers, and wires.
 #![allow(dead_code)] // no test file uses all of it
 
+pub mod driven;
+pub mod escalation;
 pub mod pinged;
 pub mod policy;
 pub mod records;
@@ -9,13 +11,18 @@ pub mod shadowed;
 pub mod timer;
 pub mod waves;
 
-use reference::{Access, Handler, Sample, Ticked, Wires};
+use reference::{Access, Handler, LinePairs, Sample, Ticked, Wires};
 
-/// Every alert at rest: (0,1). The word is 0 and no ping is answered.
+/// The escalation lines.
+pub const LINES: [usize; 4] = [0, 1, 2, 3];
+/// Every receive pair of the escalation lines at rest: (0,1).
+pub const SILENT: LinePairs = LinePairs { pos: 0, neg: 15 };
+/// Every alert and every receive pair at rest: (0,1). The word is 0.
 pub const REST: Sample = Sample {
     pos: [0; 4],
     neg: [u64::MAX; 4],
     word: 0,
+    receive: Some(SILENT),
     answers: 0,
 };
 /// Alert 0 at (1,0), the others at rest.
@@ -23,19 +30,15 @@ pub const ALERT0: Sample = Sample {
     pos: [1 << 63, 0, 0, 0],
     neg: [!(1 << 63), u64::MAX, u64::MAX, u64::MAX],
     word: 0,
+    receive: Some(SILENT),
     answers: 0,
 };
 /// Numbers of alerts on both sides of every word, and the most.
 pub const COUNTS: [u64; 10] = [1, 63, 64, 65, 127, 128, 191, 192, 247, 248];
 
-/// A sample of these wires with the word 0 and no answer.
+/// A sample of these wires with the receive pairs at rest and the word 0.
 pub fn sampled(pos: Wires, neg: Wires) -> Sample {
-    Sample {
-        pos,
-        neg,
-        word: 0,
-        answers: 0,
-    }
+    Sample { pos, neg, ..REST }
 }
 
 /// A sample with this place at this pair.
@@ -131,7 +134,18 @@ impl Numbers {
         std::array::from_fn(|_| self.next())
     }
 
-    /// Any wires, with the word 0 and no answer.
+    /// The sample with any receive pairs, or now and then with none but any
+    /// answer bits, as an older edition has it.
+    pub fn received(&mut self, mut sample: Sample) -> Sample {
+        if self.below(8) == 0 {
+            (sample.receive, sample.answers) = (None, self.next() as u8);
+        } else {
+            sample.receive = Some(LinePairs::from_byte(self.next() as u8));
+        }
+        sample
+    }
+
+    /// Any wires, with the receive pairs at rest and the word 0.
     pub fn sample(&mut self) -> Sample {
         sampled(self.wires(), self.wires())
     }

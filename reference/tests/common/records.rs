@@ -2,17 +2,23 @@
 //! them alone.
 
 use super::{new, ALERT0, PAUSE, REST};
-use reference::{batch, Access, Edition, Handler, Outcome, Sample};
+use reference::{batch, Access, Edition, Handler, LinePairs, Outcome, Sample};
 
 /// All editions, the oldest first.
-pub const EDITIONS: [Edition; 3] = [Edition::First, Edition::Second, Edition::Third];
+pub const EDITIONS: [Edition; 4] = [
+    Edition::First,
+    Edition::Second,
+    Edition::Third,
+    Edition::Fourth,
+];
 
-/// A record from its first 32 bits, its value and its sample. An older one has
-/// no place for a word and answers, so they must be 0.
+/// A record from its first 32 bits, its value and its sample. One without a
+/// place for the word or the answers must have them 0; receive pairs are left
+/// out where there is no place.
 pub fn pack(edition: Edition, head: u32, value: u32, sample: Sample) -> Vec<u8> {
     let wire_bytes = match edition {
         Edition::First => 8,
-        Edition::Second | Edition::Third => 31,
+        _ => 31,
     };
     let mut bytes = head.to_be_bytes().to_vec();
     bytes.extend(value.to_be_bytes());
@@ -20,21 +26,34 @@ pub fn pack(edition: Edition, head: u32, value: u32, sample: Sample) -> Vec<u8> 
         let all: Vec<u8> = set.iter().flat_map(|word| word.to_be_bytes()).collect();
         bytes.extend(&all[..wire_bytes]);
     }
-    if edition == Edition::Third {
-        bytes.extend(sample.word.to_be_bytes());
-        // Four zero bits, then line 0's answer bit to line 3's.
-        bytes.push(sample.answers.reverse_bits() >> 4);
-    } else {
-        assert_eq!((sample.word, sample.answers), (0, 0));
+    match edition {
+        Edition::First | Edition::Second => assert_eq!((sample.word, sample.answers), (0, 0)),
+        Edition::Third => {
+            bytes.extend(sample.word.to_be_bytes());
+            // Four zero bits, then line 0's answer bit to line 3's.
+            bytes.push(sample.answers.reverse_bits() >> 4);
+        }
+        Edition::Fourth => {
+            bytes.extend(sample.word.to_be_bytes());
+            assert_eq!(sample.answers, 0);
+            bytes.push(pairs(sample.receive.unwrap()));
+        }
     }
     bytes
+}
+
+/// The byte of four receive pairs: p0 n0 p1 n1 p2 n2 p3 n3.
+pub fn pairs(receive: LinePairs) -> u8 {
+    let digit = |bits: u8, e: u8| bits >> e & 1;
+    let bits = (0..4).flat_map(|e| [digit(receive.pos, e), digit(receive.neg, e)]);
+    bits.fold(0, |byte, bit| byte * 2 + bit)
 }
 
 /// The record of an access whose register number is the edition's own.
 pub fn record(edition: Edition, access: Access, sample: Sample) -> Vec<u8> {
     let shift = match edition {
         Edition::First => 20,
-        Edition::Second | Edition::Third => 19,
+        _ => 19,
     };
     let (kind, register, value) = match access {
         Access::None => (0, 0, 0),
@@ -107,7 +126,7 @@ impl Bench {
     fn number(&self, old: u16) -> u16 {
         match self.edition {
             Edition::First => old,
-            Edition::Second | Edition::Third => renumbered(old).unwrap(),
+            _ => renumbered(old).unwrap(),
         }
     }
 

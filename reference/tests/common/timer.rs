@@ -14,9 +14,10 @@ pub fn drawing(mut sample: Sample, word: u32) -> Sample {
     sample
 }
 
-/// The sample with these answer bits, line 0 lowest.
+/// The sample as an older edition has it, with these answer bits, line 0
+/// lowest, in place of the receive pairs.
 pub fn answering(mut sample: Sample, answers: u8) -> Sample {
-    sample.answers = answers;
+    (sample.receive, sample.answers) = (None, answers);
     sample
 }
 

@@ -65,9 +65,6 @@ pub fn inputs((register, value): Entry) -> Vec<Input> {
         .expect("a boot's registers are all there");
     let mut accesses = vec![Access::Write(number, value); register.writes()];
     accesses.push(Access::Read(number));
-    let at_rest = |access| Input {
-        access,
-        sample: Sample::AT_REST,
-    };
+    let at_rest = |access| Input::new(access, Sample::AT_REST);
     accesses.into_iter().map(at_rest).collect()
 }

@@ -12,15 +12,18 @@ pub enum Edition {
     /// That of the ping timer: a first byte of 254, then N. Behind the wires are 32 bits entropy word, four zero bits and
     /// four answer bits, line 0 first.
     Pings,
+    /// That of the escalation wires: a first byte of 253, then N. Behind the wires are 32 bits entropy word and the four
+    /// receive pairs, line 0 and the positive wire first.
+    Wires,
 }
 
 use Edition::*;
 
 impl Edition {
     /// All, the oldest first.
-    pub const ALL: [Edition; 3] = [Alerts64, Alerts248, Pings];
+    pub const ALL: [Edition; 4] = [Alerts64, Alerts248, Pings, Wires];
     /// The one that is written.
-    pub const NEWEST: Edition = Pings;
+    pub const NEWEST: Edition = Wires;
 
     /// The name by which it is asked for: two editions may have as many bytes. `./tarravane --version` reads these lines.
     pub const fn name(self) -> &'static str {
@@ -28,6 +31,7 @@ impl Edition {
             Alerts64 => "24",
             Alerts248 => "70",
             Pings => "pings",
+            Wires => "wires",
         }
     }
 
@@ -48,6 +52,7 @@ impl Edition {
             Alerts64 => None,
             Alerts248 => Some(255),
             Pings => Some(254),
+            Wires => Some(253),
         }
     }
 
@@ -60,13 +65,18 @@ impl Edition {
     pub const fn tail_bytes(self) -> usize {
         match self {
             Alerts64 | Alerts248 => 0,
-            Pings => 5,
+            Pings | Wires => 5,
         }
     }
 
-    /// Do its records reach the ping timer: its registers, its word and its answers?
+    /// Do its records reach the ping timer: its registers, its word and the lines' answers?
     pub const fn has_timer(self) -> bool {
         self.registers().timer
+    }
+
+    /// Have its records the lines' receive pairs? Only then they are checked.
+    pub const fn has_receive(self) -> bool {
+        matches!(self, Wires)
     }
 
     /// The most alerts: a record has a positive and a negative wire of each.
@@ -83,7 +93,7 @@ impl Edition {
     pub const fn register_bits(self) -> u32 {
         match self {
             Alerts64 => 10,
-            Alerts248 | Pings => 11,
+            Alerts248 | Pings | Wires => 11,
         }
     }
 
@@ -97,29 +107,32 @@ impl Edition {
         match self {
             Alerts64 => MAP_64,
             Alerts248 => MAP_248,
-            Pings => MAP,
+            Pings | Wires => MAP,
         }
     }
 }
 
 const _: () = {
-    assert!(Edition::ALL.len() == 3);
+    assert!(Edition::ALL.len() == 4);
     assert!(Alerts64.bytes() == 24);
     assert!(Alerts248.bytes() == 70);
     assert!(Pings.bytes() == 75);
+    assert!(Wires.bytes() == 75);
 };
 
 #[test]
 fn an_edition_goes_by_its_name_and_its_first_byte() {
     for edition in Edition::ALL {
         assert_eq!(Edition::named(edition.name()), Some(edition));
-        assert_eq!(edition.has_timer(), edition == Pings);
+        assert_eq!(edition.has_timer(), edition.bytes() == 75);
+        assert_eq!(edition.has_receive(), edition == Wires);
     }
-    for other in ["", "75", "Pings", "240", "alerts"] {
+    for other in ["", "75", "Pings", "240", "alerts", "253"] {
         assert_eq!(Edition::named(other), None, "{other}");
     }
-    for first in 0..254 {
+    for first in 0..253 {
         assert_eq!(Edition::of(first), Alerts64, "{first}");
     }
-    assert_eq!((Edition::of(254), Edition::of(255)), (Pings, Alerts248));
+    let marked = [253, 254, 255].map(Edition::of);
+    assert_eq!(marked, [Wires, Pings, Alerts248]);
 }

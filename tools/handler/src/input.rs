@@ -1,4 +1,5 @@
 //! What goes into a tick.
+use crate::senders::LinePairs;
 use crate::state::WORDS;
 
 /// The access of a tick.
@@ -45,15 +46,14 @@ impl Wires {
 }
 
 /// The sample of a tick: all that comes in beside the access.
-#[repr(C)]
 #[derive(Clone, Copy, Debug, PartialEq, Eq)]
 pub struct Sample {
     /// The alerts' wires.
     pub alerts: Wires,
     /// The entropy word: by it the ping timer draws the next turn where one ends. It must be unpredictable.
     pub word: u32,
-    /// The lines whose ping is answered, line 0 at the lowest bit. Bits from 4 up count for nothing.
-    pub answers: u32,
+    /// What the lines' receivers send back.
+    pub receive: LinePairs,
 }
 
 impl Sample {
@@ -61,7 +61,7 @@ impl Sample {
     pub const AT_REST: Sample = Sample {
         alerts: Wires::REST,
         word: 0,
-        answers: 0,
+        receive: LinePairs::REST,
     };
 
     /// These wires of the alerts, and every other input at rest.
@@ -73,14 +73,36 @@ impl Sample {
     }
 }
 
+/// The sample as the library takes it.
+#[repr(C)]
+#[derive(Clone, Copy)]
+pub(crate) struct Wired {
+    pub alerts: Wires,
+    pub word: u32,
+    pub receive_positive: u16,
+    pub receive_negative: u16,
+}
+
+impl Wired {
+    pub(crate) fn of(sample: Sample) -> Wired {
+        Wired {
+            alerts: sample.alerts,
+            word: sample.word,
+            receive_positive: sample.receive.pos as u16,
+            receive_negative: sample.receive.neg as u16,
+        }
+    }
+}
+
 #[test]
 fn wires_stand_where_the_header_has_them() {
     use crate::layout::offset_of;
     use std::mem::size_of;
-    assert!(size_of::<Sample>() == 72);
-    assert!(offset_of!(Sample, alerts) == 0);
-    assert!(offset_of!(Sample, word) == 64);
-    assert!(offset_of!(Sample, answers) == 68);
+    assert!(size_of::<Wired>() == 72);
+    assert!(offset_of!(Wired, alerts) == 0);
+    assert!(offset_of!(Wired, word) == 64);
+    assert!(offset_of!(Wired, receive_positive) == 68);
+    assert!(offset_of!(Wired, receive_negative) == 70);
     assert!(offset_of!(Wires, neg) == 32);
 }
 
@@ -89,6 +111,19 @@ fn wires_stand_where_the_header_has_them() {
 pub struct Input {
     /// The access.
     pub access: Access,
-    /// The sample.
+    /// The sample. A record of an older edition has no receive pairs, and nobody checks them: they are at rest here.
     pub sample: Sample,
+    /// The lines whose ping is answered, line 0 at the lowest bit: in records of the edition `Pings` alone, else 0.
+    pub answers: u32,
+}
+
+impl Input {
+    /// This access and sample.
+    pub const fn new(access: Access, sample: Sample) -> Input {
+        Input {
+            access,
+            sample,
+            answers: 0,
+        }
+    }
 }

@@ -1,6 +1,8 @@
 //! Where a field stands, for the tests of the layout: `std::mem::offset_of` is younger than Rust 1.63.
+use crate::input::{Sample, Wired};
 use crate::{
-    Class, ClassStages, Handler, Links, Output, Receivers, Sample, Stages, Timer, Turn, Wires,
+    Class, ClassStages, Handler, LinePairs, LineReceivers, Links, Output, Receivers, Senders,
+    Stages, Timer, Turn, Wires,
 };
 
 /// A type with a value, whose fields have places.
@@ -62,9 +64,27 @@ impl Laid for Output {
     }
 }
 
-impl Laid for Sample {
-    fn some() -> Sample {
-        Sample::AT_REST
+impl Laid for Wired {
+    fn some() -> Wired {
+        Wired::of(Sample::AT_REST)
+    }
+}
+
+impl Laid for LinePairs {
+    fn some() -> LinePairs {
+        LinePairs::REST
+    }
+}
+
+impl Laid for Senders {
+    fn some() -> Senders {
+        Senders::NEW
+    }
+}
+
+impl Laid for LineReceivers {
+    fn some() -> LineReceivers {
+        LineReceivers::NEW
     }
 }
 

@@ -15,9 +15,11 @@ mod installed;
 mod layout;
 mod library;
 mod lifecycle;
+mod line_receivers;
 mod output;
 mod receivers;
 pub mod registers;
+mod senders;
 mod state;
 mod timer;
 mod word;
@@ -30,8 +32,10 @@ pub use heard::Heard;
 pub use input::{Access, Input, Sample, Wires};
 pub use installed::Installed;
 pub use lifecycle::Lifecycle;
+pub use line_receivers::{LineReceivers, Listened};
 pub use output::Output;
 pub use receivers::{Place, Receivers};
+pub use senders::{LinePairs, Senders};
 pub use state::{
     AlertStages, Alerts, Class, ClassStages, Handler, Interrupts, Links, LocalStages, Locals,
     Stages, ALERTS, CLASSES, LINES, LOCALS, PHASES, WORDS,
@@ -40,6 +44,9 @@ pub use timer::{Timer, Turn, Whose};
 pub use word::Word;
 pub use writer::{record, record_numbers, Lists};
 
+/// The local alert that occurs where a line's ping fails.
+const LINE_PING_FAILS: usize = 1;
+
 /// What a tick gives.
 #[derive(Clone, Copy, Debug, PartialEq, Eq)]
 pub struct Ticked {
@@ -47,7 +54,7 @@ pub struct Ticked {
     pub handler: Handler,
     /// What the access answers, from before the tick's events.
     pub answer: Answer,
-    /// Interrupts and lines after the tick, and the pairs that go to the alerts.
+    /// Interrupts and lines after the tick, and the pairs that go to the alerts and out on the lines.
     pub output: Output,
 }
 
@@ -60,7 +67,8 @@ impl Handler {
 
     /// One tick; the access has the register numbers of `registers::MAP`. A shadowed register takes two equal writes: the
     /// first is staged, the second commits. Refusal 7: state unchanged, tick not run, outputs at rest. Refusals 1 to 5, 12 and
-    /// 14: the access changes no register, and the tick runs; 3 and 12 drop the stage of the register that it names.
+    /// 14: the access changes no register, and the tick runs; 3 and 12 drop the stage of the register that it names. The
+    /// lines' receive pairs are checked: a wrong one makes local alert 3 occur.
     pub fn tick(self, access: Access, sample: Sample) -> Ticked {
         let (kind, register, value) = access.numbers();
         let given = library::tick(self, kind, register, value, sample);
@@ -83,8 +91,26 @@ impl Handler {
         }
     }
 
+    /// What the tick of a record of an older edition hears: nobody checks the lines' receive pairs there, and a line's ping is
+    /// answered by its bit of `answers`. The library is asked for the tick that hears the same: with the right receive pairs,
+    /// and with an open ping that they do not answer.
+    pub fn hear_unchecked(self, access: Access, sample: Sample, answers: u32) -> Heard {
+        let mut asked = self;
+        asked.links.right = 0;
+        let receive = self.links.senders.right();
+        let mut heard = asked.hear(access, Sample { receive, ..sample });
+        let answered = match self.links.turn.whose() {
+            Whose::Line(e) => answers >> e & 1 == 1,
+            Whose::Alert(_) => false,
+        };
+        if answered {
+            heard.locals &= !(1 << LINE_PING_FAILS);
+        }
+        heard
+    }
+
     /// A tick for each record of the edition, a word for each. Refusals 7, 8 and 9 leave state and list unchanged; 7 also
-    /// where the handler has more alerts than the edition, and where its ping timer is on and the edition is an older one.
+    /// where the handler has more alerts than the edition, and where its ping timer is on and the edition has none.
     pub fn batch(self, edition: Edition, bytes: &[u8], out: &mut [Word]) -> (Handler, Answer) {
         let given = library::batch(self, edition, bytes, out);
         (given.handler, Answer(given.answer))

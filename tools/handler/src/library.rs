@@ -1,7 +1,8 @@
 //! The functions of `libtarravane.a`. The only unsafe lines of the tools. Their names there carry the layout's number: these
-//! structs are of layout 3, and a library of another one does not link.
+//! structs are of layout 4, and a library of another one does not link.
 use crate::edition::Edition;
-use crate::input::Sample;
+use crate::input::{Sample, Wired};
+use crate::line_receivers::LineReceivers;
 use crate::output::Output;
 use crate::state::{Handler, WORDS};
 use crate::word::Word;
@@ -42,14 +43,22 @@ pub struct Installed {
     pub _spare: [u8; 6],
 }
 
+#[repr(C)]
+pub struct Listened {
+    pub receivers: LineReceivers,
+    pub positive: u32,
+    pub negative: u32,
+    pub seen: u32,
+}
+
 extern "C" {
-    #[link_name = "tarravane_new_layout_3"]
+    #[link_name = "tarravane_new_layout_4"]
     fn tarravane_new(n: usize) -> Made;
-    #[link_name = "tarravane_tick_layout_3"]
-    fn tarravane_tick(h: Handler, kind: u8, register: u16, value: u32, sample: Sample) -> Answered;
-    #[link_name = "tarravane_hear_layout_3"]
-    fn tarravane_hear(h: Handler, kind: u8, register: u16, value: u32, sample: Sample) -> Heard;
-    #[link_name = "tarravane_batch_24_layout_3"]
+    #[link_name = "tarravane_tick_layout_4"]
+    fn tarravane_tick(h: Handler, kind: u8, register: u16, value: u32, wires: Wired) -> Answered;
+    #[link_name = "tarravane_hear_layout_4"]
+    fn tarravane_hear(h: Handler, kind: u8, register: u16, value: u32, wires: Wired) -> Heard;
+    #[link_name = "tarravane_batch_24_layout_4"]
     fn tarravane_batch_24(
         h: Handler,
         bytes: *const u8,
@@ -57,7 +66,7 @@ extern "C" {
         out: *mut Word,
         words: usize,
     ) -> Batched;
-    #[link_name = "tarravane_batch_70_layout_3"]
+    #[link_name = "tarravane_batch_70_layout_4"]
     fn tarravane_batch_70(
         h: Handler,
         bytes: *const u8,
@@ -65,7 +74,7 @@ extern "C" {
         out: *mut Word,
         words: usize,
     ) -> Batched;
-    #[link_name = "tarravane_batch_pings_layout_3"]
+    #[link_name = "tarravane_batch_pings_layout_4"]
     fn tarravane_batch_pings(
         h: Handler,
         bytes: *const u8,
@@ -73,7 +82,15 @@ extern "C" {
         out: *mut Word,
         words: usize,
     ) -> Batched;
-    #[link_name = "tarravane_record_layout_3"]
+    #[link_name = "tarravane_batch_wires_layout_4"]
+    fn tarravane_batch_wires(
+        h: Handler,
+        bytes: *const u8,
+        length: usize,
+        out: *mut Word,
+        words: usize,
+    ) -> Batched;
+    #[link_name = "tarravane_record_layout_4"]
     fn tarravane_record(
         kinds: *const u8,
         kinds_length: usize,
@@ -87,13 +104,17 @@ extern "C" {
         negative_length: usize,
         entropy: *const u32,
         entropy_length: usize,
-        answers: *const u8,
-        answers_length: usize,
+        receive_positive: *const u8,
+        receive_positive_length: usize,
+        receive_negative: *const u8,
+        receive_negative_length: usize,
         bytes: *mut u8,
         length: usize,
     ) -> i64;
-    #[link_name = "tarravane_install_layout_3"]
+    #[link_name = "tarravane_install_layout_4"]
     fn tarravane_install(h: Handler, lifecycle: u8) -> Installed;
+    #[link_name = "tarravane_receive_layout_4"]
+    fn tarravane_receive(r: LineReceivers, positive: u32, negative: u32) -> Listened;
 }
 
 pub fn new(n: usize) -> Made {
@@ -103,17 +124,22 @@ pub fn new(n: usize) -> Made {
 
 pub fn tick(h: Handler, kind: u8, register: u16, value: u32, sample: Sample) -> Answered {
     // Safe: integers in, integers out, no precondition.
-    unsafe { tarravane_tick(h, kind, register, value, sample) }
+    unsafe { tarravane_tick(h, kind, register, value, Wired::of(sample)) }
 }
 
 pub fn hear(h: Handler, kind: u8, register: u16, value: u32, sample: Sample) -> Heard {
     // Safe: integers in, integers out, no precondition.
-    unsafe { tarravane_hear(h, kind, register, value, sample) }
+    unsafe { tarravane_hear(h, kind, register, value, Wired::of(sample)) }
 }
 
 pub fn install(h: Handler, lifecycle: u8) -> Installed {
     // Safe: integers in, integers out, no precondition.
     unsafe { tarravane_install(h, lifecycle) }
+}
+
+pub fn receive(r: LineReceivers, positive: u32, negative: u32) -> Listened {
+    // Safe: integers in, integers out, no precondition.
+    unsafe { tarravane_receive(r, positive, negative) }
 }
 
 pub fn batch(h: Handler, edition: Edition, bytes: &[u8], out: &mut [Word]) -> Batched {
@@ -124,6 +150,7 @@ pub fn batch(h: Handler, edition: Edition, bytes: &[u8], out: &mut [Word]) -> Ba
             Edition::Alerts64 => tarravane_batch_24(h, from, length, to, words),
             Edition::Alerts248 => tarravane_batch_70(h, from, length, to, words),
             Edition::Pings => tarravane_batch_pings(h, from, length, to, words),
+            Edition::Wires => tarravane_batch_wires(h, from, length, to, words),
         }
     }
 }
@@ -144,8 +171,10 @@ pub fn record(lists: Lists, out: &mut [u8]) -> i64 {
             lists.negative.len(),
             lists.entropy.as_ptr(),
             lists.entropy.len(),
-            lists.answers.as_ptr(),
-            lists.answers.len(),
+            lists.receive_positive.as_ptr(),
+            lists.receive_positive.len(),
+            lists.receive_negative.as_ptr(),
+            lists.receive_negative.len(),
             out.as_mut_ptr(),
             out.len(),
         )

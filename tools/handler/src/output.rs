@@ -1,8 +1,9 @@
 //! What a tick sends out.
 use crate::input::Wires;
+use crate::senders::LinePairs;
 
 /// Interrupts and lines, class and line 0 at the lowest bits, and what goes to the alerts: a pair to each, in the wires' order of
-/// bits. Every place at N and above is (0,1), 248 to 255 too.
+/// bits. Every place at N and above is (0,1), 248 to 255 too. Then what goes out on the lines, a pair on each.
 #[repr(C)]
 #[derive(Clone, Copy, Debug, PartialEq, Eq)]
 pub struct Output {
@@ -14,6 +15,8 @@ pub struct Output {
     pub acknowledge: Wires,
     /// Each ping that opens changes its level.
     pub ping: Wires,
+    /// (1,0) while the line is on, in the tick after a lone tick of it, and for one tick as a ping.
+    pub escalation: LinePairs,
 }
 
 impl Output {
@@ -23,6 +26,7 @@ impl Output {
         lines: 0,
         acknowledge: Wires::REST,
         ping: Wires::REST,
+        escalation: LinePairs::REST,
     };
 }
 
@@ -30,8 +34,9 @@ impl Output {
 fn outputs_stand_where_the_header_has_them() {
     use crate::layout::offset_of;
     use std::mem::size_of;
-    assert!(size_of::<Output>() == 136);
+    assert!(size_of::<Output>() == 144);
     assert!(offset_of!(Output, lines) == 4);
     assert!(offset_of!(Output, acknowledge) == 8);
     assert!(offset_of!(Output, ping) == 72);
+    assert!(offset_of!(Output, escalation) == 136);
 }

@@ -1,5 +1,6 @@
 //! The state, in the library's layout (`include/tarravane.h`). Integers alone: any bytes are a value, refusal 7 judges them.
 use crate::receivers::Receivers;
+use crate::senders::Senders;
 use crate::timer::{Timer, Turn};
 
 /// The most alerts that a handler is made for.
@@ -49,6 +50,10 @@ pub struct Links {
     pub turn: Turn,
     /// The lines whose ping is open, line 0 at the lowest bit. Bits from 4 up are not looked at.
     pub lines: u32,
+    /// The lines' senders.
+    pub senders: Senders,
+    /// All answers to the open ping of the turn's line were right so far: the lowest bit, no other is looked at.
+    pub right: u32,
 }
 
 impl Links {
@@ -57,6 +62,8 @@ impl Links {
         receivers: Receivers::NEW,
         turn: Turn::NEW,
         lines: 0,
+        senders: Senders::NEW,
+        right: 0,
     };
 }
 
@@ -203,15 +210,17 @@ fn fields_stand_where_the_header_has_them() {
     assert!(offset_of!(Stages, alerts) == 192);
     assert!(offset_of!(Stages, locals) == 688);
     assert!(offset_of!(Stages, timeout) == 744);
-    assert!(size_of::<Links>() == 136);
+    assert!(size_of::<Links>() == 160);
     assert!(offset_of!(Links, turn) == 128);
     assert!(offset_of!(Links, lines) == 132);
-    assert!(size_of::<Handler>() == 2072);
+    assert!(offset_of!(Links, senders) == 136);
+    assert!(offset_of!(Links, right) == 156);
+    assert!(size_of::<Handler>() == 2096);
     assert!(offset_of!(Handler, links) == 8);
-    assert!(offset_of!(Handler, classes) == 144);
-    assert!(offset_of!(Handler, alerts) == 288);
-    assert!(offset_of!(Handler, locals) == 1280);
-    assert!(offset_of!(Handler, interrupts) == 1308);
-    assert!(offset_of!(Handler, timer) == 1312);
-    assert!(offset_of!(Handler, stages) == 1320);
+    assert!(offset_of!(Handler, classes) == 168);
+    assert!(offset_of!(Handler, alerts) == 312);
+    assert!(offset_of!(Handler, locals) == 1304);
+    assert!(offset_of!(Handler, interrupts) == 1332);
+    assert!(offset_of!(Handler, timer) == 1336);
+    assert!(offset_of!(Handler, stages) == 1344);
 }

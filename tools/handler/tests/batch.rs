@@ -1,7 +1,9 @@
 //! A batch of any edition is its ticks, and what it refuses it leaves.
 use handler::registers::Map;
 use handler::registers::{Field, Setting, INTR_ENABLE, PING_ENABLE, PING_REGWEN};
-use handler::{Access, Answer, Edition, Handler, Refusal, Sample, Ticked, Wires, Word};
+use handler::{
+    Access, Answer, Edition, Handler, LinePairs, Refusal, Sample, Ticked, Turn, Wires, Word,
+};
 use harness::configure::configure;
 use harness::record::{pack, record, Head, Tail, NONE, WRITE};
 
@@ -74,7 +76,12 @@ fn bytes(edition: Edition) -> Vec<u8> {
     let all = accesses(edition.registers()).into_iter().enumerate();
     let records = all.map(|(at, (kind, register, value))| {
         let Wires { pos, neg } = wires(at);
-        record(edition, kind, register.into(), value.into(), (pos, neg))
+        let head = Head::new(kind as u8, register, value);
+        let tail = match edition.has_receive() {
+            true => Tail::wired(0, LinePairs::REST),
+            false => Tail::default(),
+        };
+        pack(edition, head, (pos, neg), tail)
     });
     records.collect::<Vec<_>>().concat()
 }
@@ -145,20 +152,22 @@ fn an_older_batch_refuses_a_timer_that_is_on() {
             }
         }
         assert_eq!(words, [Word(7)]);
-        assert_eq!(h.batch(Edition::Pings, &[], &mut []), (h, Answer(0)));
+        for newer in [Edition::Pings, Edition::Wires] {
+            assert_eq!(h.batch(newer, &[], &mut []), (h, Answer(0)));
+        }
     }
 }
 
-/// 4, 5 and 6 are no registers of older records; the newest one hands its word and its answers to the timer.
+/// 4, 5 and 6 are no registers of older records; those with the timer hand it their word, and 254 its answers.
 #[test]
-fn the_newest_records_alone_reach_the_timer() {
+fn records_of_75_bytes_alone_reach_the_timer() {
     let wires = (Wires::REST.pos, Wires::REST.neg);
     let mut words = [Word(7); 1];
     for edition in Edition::ALL {
         for register in PING_REGWEN..=PING_ENABLE {
             let bytes = record(edition, READ, register.into(), 0, wires);
             assert_eq!(made(1).batch(edition, &bytes, &mut words).1, Answer(0));
-            let refusal = (edition != Edition::Pings).then_some(Refusal(1));
+            let refusal = (!edition.has_timer()).then_some(Refusal(1));
             assert_eq!(words[0].refusal(), refusal);
         }
     }
@@ -182,5 +191,71 @@ fn the_newest_records_alone_reach_the_timer() {
         let closed = answers & 4 != 0;
         assert_eq!(after.links.lines, if closed { 0 } else { 4 }, "{answers}");
         assert_eq!(after.links.turn.number, if closed { 6 } else { 5 });
+    }
+}
+
+/// The receive pairs of a record are those of a tick, and an older record's are not checked.
+#[test]
+fn the_newest_records_alone_are_checked() {
+    let wires = (Wires::REST.pos, Wires::REST.neg);
+    let head = Head::new(NONE, 0, 0);
+    let mut h = made(1);
+    h.locals.en[3] = 1;
+    h.links.senders.answer = 5;
+    for byte in 0..=255 {
+        let receive = LinePairs::of_byte(byte);
+        let mut words = [Word(7)];
+        let bytes = pack(Edition::Wires, head, wires, Tail::wired(0, receive));
+        let (after, answer) = h.batch(Edition::Wires, &bytes, &mut words);
+        let sample = Sample {
+            receive,
+            ..Sample::AT_REST
+        };
+        let ticked = h.tick(Access::Nothing, sample);
+        assert_eq!((after, answer), (ticked.handler, Answer(0)));
+        assert_eq!(
+            after.locals.cause[3],
+            u8::from(receive != LinePairs::sound(5))
+        );
+        let older = pack(Edition::Pings, head, wires, Tail::new(0, u32::from(byte)));
+        let (after, _) = h.batch(Edition::Pings, &older, &mut words);
+        assert_eq!((words[0], after.locals.cause[3]), (Word(0), 0));
+    }
+}
+
+/// What an older record's tick hears is what its batch does: local 1 goes by the answer bits, local 3 never occurs.
+#[test]
+fn an_unchecked_tick_is_heard_as_it_is() {
+    let wires = (Wires::REST.pos, Wires::REST.neg);
+    for number in 0..8 {
+        for count in 0..6 {
+            for answers in 0..16 {
+                let mut h = made(1);
+                h.locals.en = [1; 7];
+                (h.timer.enable, h.timer.timeout) = (1, 4);
+                h.links.turn = Turn {
+                    number,
+                    alert: 0,
+                    count,
+                };
+                let line = number % 2 == 1;
+                h.links.lines = if line { 1 << (number / 2) } else { 0 };
+                (h.links.senders.answer, h.links.right) = (answers, u32::from(count) % 2);
+                let bytes = pack(
+                    Edition::Pings,
+                    Head::new(NONE, 0, 0),
+                    wires,
+                    Tail::new(0, answers),
+                );
+                let (after, _) = h.batch(Edition::Pings, &bytes, &mut [Word(0)]);
+                let heard = h.hear_unchecked(Access::Nothing, Sample::AT_REST, answers);
+                let caused = (0..7).map(|j| u64::from(after.locals.cause[j]) << j);
+                assert_eq!(
+                    heard.locals,
+                    caused.sum::<u64>(),
+                    "{number} {count} {answers}"
+                );
+            }
+        }
     }
 }

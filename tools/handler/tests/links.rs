@@ -1,8 +1,8 @@
-//! The wrapper hands over words and answers, and gives back pairs and what is heard, each alert at its own bit.
+//! The wrapper hands over words and receive pairs, and gives back pairs and what is heard, each alert at its own bit.
 use handler::registers::{Field, MAP};
 use handler::{
-    Access, Answer, Handler, Heard, Output, Place, Receivers, Refusal, Sample, Turn, Whose, Wires,
-    ALERTS, LINES, WORDS,
+    Access, Answer, Handler, Heard, LinePairs, LineReceivers, Output, Place, Receivers, Refusal,
+    Sample, Turn, Whose, Wires, ALERTS, LINES, WORDS,
 };
 use harness::configure::configure;
 
@@ -93,32 +93,70 @@ fn a_ping_shows_at_once_and_stays() {
     }
 }
 
-#[test]
-fn a_line_is_answered_at_its_own_bit() {
-    for e in 0..LINES {
-        let h = at_turn(2 * e as u8 + 1, 0, 3);
-        assert_eq!(h.links.turn.whose(), Whose::Line(e));
-        let open = after(h, &[REST]);
-        assert_eq!(open.links.lines, 1 << e);
-        for bits in 0..64 {
-            let sample = Sample {
-                answers: bits,
-                word: 0xAB_CDEF,
-                ..REST
-            };
-            let given = open.tick(Access::Nothing, sample).handler;
-            let answered = bits >> e & 1 == 1;
-            assert_eq!(given.links.lines, if answered { 0 } else { 1 << e });
-            let next = Turn {
-                number: (2 * e as u8 + 2) % 8,
-                alert: 0xAB,
-                count: 0xCDEF,
-            };
-            assert_eq!(given.links.turn == next, answered, "{e} {bits}");
-        }
-        let last = after(h, &[REST; 3]);
-        assert_eq!(last.hear(Access::Nothing, REST).locals, 2);
+/// The receive pairs that are right, the word one that sets the next turn.
+fn sound(h: &Handler) -> Sample {
+    Sample {
+        receive: h.links.senders.right(),
+        word: 0xAB_CDEF,
+        ..REST
     }
+}
+
+#[test]
+fn a_line_is_pinged_and_answered_on_its_own_pair() {
+    for e in 0..LINES {
+        let h = at_turn(2 * e as u8 + 1, 0, 9);
+        assert_eq!(h.links.turn.whose(), Whose::Line(e));
+        let mut receivers = LineReceivers::NEW;
+        let mut state = h;
+        for age in 0..=4 {
+            assert_eq!(receivers.sends(), state.links.senders.right());
+            let given = state.tick(Access::Nothing, sound(&state));
+            let pulse = if age == 0 { 1 << e } else { 0 };
+            assert_eq!(given.output.escalation, LinePairs::sound(pulse));
+            let listened = receivers.listen(given.output.escalation);
+            assert_eq!(listened.seen, 0);
+            (receivers, state) = (listened.receivers, given.handler);
+            assert_eq!(state.links.lines, if age < 4 { 1 << e } else { 0 });
+        }
+        let next = Turn {
+            number: (2 * e as u8 + 2) % 8,
+            alert: 0xAB,
+            count: 0xCDEF,
+        };
+        assert_eq!(state.links.turn, next);
+        let failed = after(h, &[REST; 9]);
+        assert_eq!(failed.hear(Access::Nothing, REST).locals, 2);
+    }
+}
+
+#[test]
+fn a_wrong_receive_pair_is_heard() {
+    for e in 0..LINES {
+        let (mut h, _) = Handler::new(ALERTS);
+        h.locals.en[3] = 1;
+        for (pos, neg) in [(1 << e, 15), (0, 15 & !(1 << e)), (1 << e, 15 & !(1 << e))] {
+            let receive = LinePairs { pos, neg };
+            let heard = h.hear(Access::Nothing, Sample { receive, ..REST });
+            assert_eq!(heard.locals, 8);
+        }
+        // Bits from 4 up count for nothing.
+        let receive = LinePairs {
+            pos: 0xFFF0,
+            neg: 0xA5F,
+        };
+        let heard = h.hear(Access::Nothing, Sample { receive, ..REST });
+        assert_eq!(heard.locals, 0);
+    }
+}
+
+#[test]
+fn equal_wires_are_an_escalation_at_once() {
+    let listened = LineReceivers::NEW.listen(LinePairs { pos: 3, neg: 13 });
+    assert_eq!((listened.receive, listened.seen), (LinePairs::REST, 1));
+    let next = listened.receivers.listen(LinePairs::sound(2));
+    assert_eq!(next.receive, LinePairs { pos: 2, neg: 12 });
+    assert_eq!(next.seen, 2);
 }
 
 const SILENT: Heard = Heard {

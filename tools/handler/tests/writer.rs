@@ -1,6 +1,6 @@
 //! The writer's wrapper hands over each part of each input, and what it is refused.
-use handler::{record, Access, Answer, Edition, Input, Refusal, Sample, Wires, WORDS};
-use harness::record::{pack, record as packed, Head, Tail, NONE};
+use handler::{record, Access, Answer, Edition, Input, LinePairs, Refusal, Sample, Wires, WORDS};
+use harness::record::{pack, Head, Side, Tail, NONE};
 
 const EDITION: Edition = Edition::NEWEST;
 const RECORD: usize = EDITION.bytes();
@@ -15,9 +15,15 @@ const SOME: [u64; WORDS] = [
 const ALL: [u64; WORDS] = [u64::MAX; WORDS];
 const NO: [u64; WORDS] = [0; WORDS];
 
+/// The bytes of an access with these wires, the receive pairs at rest.
+fn packed(kind: u8, register: u16, value: u32, wires: (Side, Side)) -> Vec<u8> {
+    let head = Head::new(kind, register, value);
+    pack(EDITION, head, wires, Tail::wired(0, LinePairs::REST))
+}
+
 fn input(access: Access, pos: [u64; WORDS], neg: [u64; WORDS]) -> Input {
     let sample = Sample::of(Wires { pos, neg });
-    Input { access, sample }
+    Input::new(access, sample)
 }
 
 #[test]
@@ -29,10 +35,10 @@ fn a_record_for_each_input() {
         input(Access::Write(0, 1), NO, ALL),
     ];
     let mut wanted = [
-        packed(EDITION, 0, 0, 0, (SOME, NO)),
-        packed(EDITION, 1, 2047, 0, (NO, SOME)),
-        packed(EDITION, 2, 1345, 0xFFFF_FFFF, (ALL, NO)),
-        packed(EDITION, 2, 0, 1, (NO, ALL)),
+        packed(0, 0, 0, (SOME, NO)),
+        packed(1, 2047, 0, (NO, SOME)),
+        packed(2, 1345, 0xFFFF_FFFF, (ALL, NO)),
+        packed(2, 0, 1, (NO, ALL)),
     ]
     .concat();
     wanted.extend([7; 5]);
@@ -42,23 +48,25 @@ fn a_record_for_each_input() {
 }
 
 #[test]
-fn words_and_answers_stand_behind_the_wires() {
-    for answers in 0..64 {
+fn words_and_receive_pairs_stand_behind_the_wires() {
+    for bits in 0..1024 {
+        let (pos, neg) = (bits & 31, bits >> 5);
         let sample = Sample {
             alerts: Wires { pos: SOME, neg: NO },
             word: 0x89AB_CDEF,
-            answers,
+            receive: LinePairs { pos, neg },
         };
         let access = Access::Nothing;
         let mut out = [7; RECORD];
         assert_eq!(
-            record(&[Input { access, sample }], &mut out).bytes(),
+            record(&[Input::new(access, sample)], &mut out).bytes(),
             Ok(RECORD)
         );
-        let tail = Tail::new(0x89AB_CDEF, answers & 15);
+        let tail = Tail::wired(0x89AB_CDEF, sample.receive);
         let head = Head::new(NONE, 0, 0);
         assert_eq!(out[..], pack(EDITION, head, (SOME, NO), tail)[..]);
         assert_eq!(out[70..74], [0x89, 0xAB, 0xCD, 0xEF]);
+        assert_eq!(out[74], sample.receive.byte());
     }
 }
 

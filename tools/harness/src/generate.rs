@@ -4,8 +4,10 @@ mod damage;
 mod edges;
 mod ends;
 mod entropy;
+mod escalations;
 mod handshake;
 mod kind;
+mod lines;
 mod long;
 mod pings;
 mod play;
@@ -31,7 +33,9 @@ use handler::Edition;
 fn counts(edition: Edition) -> &'static [u8] {
     match edition {
         Edition::Alerts64 => &[1, 2, 7, 8, 9, 63, 64],
-        Edition::Alerts248 | Edition::Pings => &[1, 9, 64, 65, 127, 128, 191, 192, 247, 248],
+        Edition::Alerts248 | Edition::Pings | Edition::Wires => {
+            &[1, 9, 64, 65, 127, 128, 191, 192, 247, 248]
+        }
     }
 }
 
@@ -69,6 +73,7 @@ pub fn trace(edition: Edition, kind: Kind, seed: u64) -> Vec<u8> {
         Kind::Edges => edges::edges(edition, rng),
         Kind::Handshake => handshake::handshakes(edition, rng),
         Kind::Pings => pings::pings(edition, rng),
+        Kind::Lines => escalations::escalations(edition, rng),
         Kind::Full => long::long(edition, rng, seed),
         Kind::Noise => damage::noise(edition, rng),
         Kind::Damaged => {

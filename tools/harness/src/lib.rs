@@ -20,4 +20,5 @@ pub mod rng;
 pub mod spoil;
 pub mod states;
 pub mod turns;
+pub mod wired;
 pub mod write;

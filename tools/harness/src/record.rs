@@ -1,7 +1,7 @@
 //! Packs trace records of every edition. Written apart from the reference and
 //! from the proved writer, so that a slip in one of them is not repeated here.
 
-use handler::{Edition, ALERTS, WORDS};
+use handler::{Edition, LinePairs, ALERTS, WORDS};
 
 /// Kind bits of a record without access.
 pub const NONE: u8 = 0;
@@ -36,7 +36,8 @@ pub struct Tail {
     /// The entropy word, 32 bits.
     pub word: u32,
     /// The last byte: 4 bits that are zero in a good record, then the answers,
-    /// line 0 first.
+    /// line 0 first; in the newest edition the receive pairs, line 0 and the
+    /// positive wire first.
     pub last: u8,
 }
 
@@ -45,6 +46,17 @@ impl Tail {
     /// are left out.
     pub fn new(word: u32, answers: u32) -> Tail {
         let last = (0..4).map(|e| (answers >> e & 1) << (3 - e)).sum::<u32>();
+        Tail {
+            word,
+            last: last as u8,
+        }
+    }
+
+    /// The word, and receive pairs; their bits from 4 up are left out.
+    pub fn wired(word: u32, receive: LinePairs) -> Tail {
+        let wire = |wires: u32, e: u32| wires >> e & 1;
+        let pair = |e| wire(receive.pos, e) << 1 | wire(receive.neg, e);
+        let last = (0..4).fold(0, |byte, e| byte << 2 | pair(e));
         Tail {
             word,
             last: last as u8,

@@ -4,6 +4,7 @@ mod fit;
 mod pings;
 mod place;
 mod receiver;
+mod sender;
 mod slot;
 mod way;
 
@@ -11,6 +12,7 @@ pub use fit::{fit, fit_thresholds};
 pub use pings::fit_turn;
 pub use place::Place;
 pub use receiver::Bit;
+pub use sender::Sent;
 pub use way::{Way, WAYS};
 
 use crate::rng::Rng;

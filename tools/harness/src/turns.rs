@@ -33,6 +33,8 @@ pub struct Turns {
     pub other_line: u64,
     /// Ticks with answers where no line has a ping.
     pub stray: u64,
+    /// Pings of lines that an escalation kept from the wire, and that it closed.
+    pub escalated: [u64; 2],
     /// Pings that were open while the timeout changed, and those that failed
     /// by it.
     pub changed: [u64; 2],
@@ -69,8 +71,21 @@ impl Standing {
             }
             Turn::Alert(_) => (false, false, false, false),
             Turn::Line(e) => {
-                let answered = sample.answers >> e & 1 == 1;
-                (true, was_at.line_open(e), true, answered)
+                // An escalation on the line keeps a ping from the wire.
+                let free = !before.senders[e].sent() && !after.senders[e].on;
+                let answered = match sample.receive {
+                    Some(pairs) => {
+                        let right = before.senders[e].right(pairs.pair(e));
+                        right && was_at.count == 3 && !was_at.wrong
+                    }
+                    None => sample.answers >> e & 1 == 1,
+                };
+                (
+                    true,
+                    was_at.line_open(e),
+                    free || !sample.checks(),
+                    answered,
+                )
             }
         };
         let due = !was && was_at.count == 0;
@@ -133,6 +148,7 @@ impl Turns {
     /// A ping that is due opens or not.
     fn due(&mut self, before: &Handler, after: &Handler, now: &Standing) {
         match before.timer.turn() {
+            Turn::Line(_) if !now.open => self.escalated[0] += 1,
             Turn::Line(e) => self.lines[e] += 1,
             Turn::Alert(i) if (i as u64) >= before.n => self.none[0] += 1,
             Turn::Alert(i) => {
@@ -153,7 +169,9 @@ impl Turns {
         let (of, timeout) = (usize::from(now.line), after.timer.timeout);
         let at_end = timeout > 0 && now.age == timeout;
         let changed = now.was && before.timer.timeout != timeout;
-        let failed = now.ends && !now.answered;
+        let over = timeout > 0 && now.age >= timeout;
+        let failed = now.ends && !now.answered && over;
+        self.escalated[1] += u64::from(now.ends && !now.answered && !over);
         if now.answered {
             self.answered[of][usize::from(now.was) + usize::from(now.was && at_end)] += 1;
         }
@@ -187,8 +205,8 @@ impl fmt::Display for Turns {
         )?;
         writeln!(
             out,
-            "answers of another line {}, of no ping {}; timeout changed while open {}, to its failure {}; ticks open at timeout 0 {}",
-            self.other_line, self.stray, self.changed[0], self.changed[1], self.waiting
+            "answers of another line {}, of no ping {}; timeout changed while open {}, to its failure {}; ticks open at timeout 0 {}; pings that an escalation kept from the wire, and closed {:?}",
+            self.other_line, self.stray, self.changed[0], self.changed[1], self.waiting, self.escalated
         )
     }
 }

@@ -1,7 +1,7 @@
 //! What the default set must reach, and that traces are what they say.
 
 use handler::registers::Field;
-use handler::{Edition, Wires, WORDS};
+use handler::{Edition, LinePairs, Wires, WORDS};
 use harness::compare::{
     damage, expected, generated, Case, Coverage, ANSWERS, DEFAULT_SEED, DEFAULT_TRACES,
 };
@@ -98,6 +98,34 @@ fn has_every_family_of_pings(coverage: &Coverage) {
     assert!(of.far > 2 && of.longest == u16::MAX, "{of:?}");
     // Every place of the handshake, with a ping that is open and one that opens.
     assert!(coverage.handshakes.met.least() > 10);
+}
+
+/// Each family of escalations, pings beside them and answers is there.
+fn has_every_family_of_lines(coverage: &Coverage) {
+    let (of, turns) = (&coverage.wired, &coverage.turns);
+    assert!(of.checked > 1_000_000 && of.equal > 1000, "{of:?}");
+    assert!(of.wrong.iter().all(|count| *count > 500), "{of:?}");
+    assert!(of.lengths.iter().all(|count| *count > 1000), "{of:?}");
+    assert!(of.gaps > 200, "{of:?}");
+    // Not in the tick of a ping, nor a ping in it or right after it.
+    assert!(
+        of.after_ping[1..].iter().all(|count| *count > 100),
+        "{of:?}"
+    );
+    assert!(
+        of.before_ping[3..].iter().all(|count| *count > 100),
+        "{of:?}"
+    );
+    assert!(of.before_ping[2] > 50, "{of:?}");
+    assert!(turns.lines.iter().all(|count| *count > 3000), "{turns:?}");
+    assert!(
+        turns.escalated.iter().all(|count| *count > 400),
+        "{turns:?}"
+    );
+    // In the fourth tick, some at a timeout of 4; none before.
+    assert_eq!(turns.answered[1][0], 0);
+    assert!(turns.answered[1][1] > 3000 && turns.answered[1][2] > 100);
+    assert!(turns.failed[1].iter().all(|count| *count > 3000));
 }
 
 /// Each family of locks at 65534 and 65535 is there.
@@ -209,6 +237,18 @@ fn the_default_set_of_records_with_pings_reaches_all() {
     each_alone(&coverage, &[0, 63, 64, 127, 128, 191, 192, 247]);
 }
 
+#[test]
+fn the_default_set_of_records_with_receive_pairs_reaches_all() {
+    let coverage = default_set(Edition::Wires);
+    reaches_every_state_refusal_and_line(&coverage);
+    reaches_every_alert_and_register(Edition::Wires, &coverage);
+    has_every_family_of_shadow_writes(&coverage);
+    has_every_family_of_thresholds(&coverage);
+    has_every_family_of_handshakes(&coverage);
+    has_every_family_of_lines(&coverage);
+    each_alone(&coverage, &[0, 63, 64, 127, 128, 191, 192, 247]);
+}
+
 /// The numbers of accesses in sweeps of all the edition's alerts, refused or not.
 #[test]
 fn sweeps_go_to_both_ends_of_every_block() {
@@ -295,7 +335,14 @@ fn records_are_packed_as_the_paper_shows() {
     let wanted = format!("a80800000000393d{}80{}", "00".repeat(31), "00".repeat(30));
     assert_eq!(hex(Edition::Alerts248, head), wanted);
     // Lines 0 and 2 are answered: bits 3 and 1 of the last byte.
-    assert_eq!(hex(Edition::Pings, head), wanted + "123456780a");
+    assert_eq!(hex(Edition::Pings, head), wanted.clone() + "123456780a");
+    // Of line 0 (1,0), of line 1 (1,1), of line 2 (0,1), of line 3 (0,0).
+    let receive = LinePairs { pos: 3, neg: 0xF6 };
+    let neg = std::array::from_fn(|w| u64::from(w == 0) << 63);
+    let tail = Tail::wired(0x1234_5678, receive);
+    let record = pack(Edition::Wires, head, ([0; WORDS], neg), tail);
+    let digits: String = record.iter().map(|byte| format!("{byte:02x}")).collect();
+    assert_eq!(digits, wanted + "12345678b4");
 }
 
 #[test]

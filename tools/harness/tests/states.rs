@@ -4,7 +4,7 @@
 use handler::registers::Setting;
 use handler::{Access, Answer, Edition, Handler, Output, Sample, Ticked, Word, ALERTS};
 use harness::bench::{load, start, time, time_boot, Load, LOADS};
-use harness::calls::{handler_of, reference_of, with_spare, Found};
+use harness::calls::{handler_of, reference_of, told_apart, with_spare, Found};
 use harness::compare::ANSWERS;
 use harness::rng::Rng;
 use harness::spoil::{Bit, Place, WAYS};
@@ -143,7 +143,7 @@ fn only_n_over_248_gives_7() {
 fn both_sides_hold_the_same_state() {
     let mut rng = Rng::new(7);
     let places = Place::all();
-    assert_eq!(places.len(), 3 + 8 + 16 + 4 * (12 + 7) + (4 + 2) * 255);
+    assert_eq!(places.len(), 3 + 8 + 6 + 16 + 4 * (12 + 7) + (4 + 2) * 255);
     let mut h = state(248);
     for _ in 0..100 {
         let values: Vec<u64> = places.iter().map(|_| rng.bits()).collect();
@@ -155,7 +155,13 @@ fn both_sides_hold_the_same_state() {
             let kept = value & (u64::MAX >> (64 - place.kept()));
             assert_eq!(place.get(&h), kept, "{place}");
         }
-        assert_eq!(with_spare(handler_of(&reference_of(&h)), &h), h);
+        // Right or not is said of an open ping of a line alone.
+        let right = told_apart(h).links.right;
+        let mut wanted = h;
+        wanted.links.right = right;
+        let mut got = with_spare(handler_of(&reference_of(&h)), &h);
+        got.links.right = told_apart(got).links.right;
+        assert_eq!(got, wanted);
     }
 }
 
@@ -185,11 +191,19 @@ fn every_way_gives_what_it_is_for() {
     assert!(turns.on > 3000 && turns.begun > 10 && turns.alerts > 100);
     assert!(turns.lines.iter().all(|count| *count > 30), "{turns:?}");
     assert!(turns.none.iter().all(|count| *count > 10), "{turns:?}");
-    let ended = turns.answered.iter().flatten();
+    let ended = turns.answered[0].iter().chain(&turns.escalated);
     let ended = ended.chain(turns.failed.iter().flatten());
     assert!(ended.clone().all(|count| *count > 20), "{turns:?}");
-    assert!(turns.far > 50 && turns.other_line > 100, "{turns:?}");
-    let rare = [&turns.again[..], &turns.by_access[..1], &turns.changed].concat();
+    // A line's ping is answered in the fourth tick after it opened, not before.
+    assert_eq!(turns.answered[1][0], 0);
+    assert!(turns.answered[1][1] > 20 && turns.far > 50, "{turns:?}");
+    let rare = [
+        &turns.again[..],
+        &turns.by_access[..1],
+        &turns.changed,
+        &turns.answered[1][2..],
+    ];
+    let rare = rare.concat();
     assert!(rare.iter().all(|count| *count > 0), "{turns:?}");
 }
 

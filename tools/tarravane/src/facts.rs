@@ -6,6 +6,7 @@ pub mod clears;
 pub mod events;
 pub mod lines;
 pub mod locks;
+pub mod pairs;
 pub mod receivers;
 pub mod stages;
 pub mod starts;

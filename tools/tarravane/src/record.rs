@@ -1,4 +1,5 @@
 //! `record`: a text to a trace.
+pub mod ends;
 mod grown;
 mod warnings;
 

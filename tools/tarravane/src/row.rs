@@ -1,6 +1,7 @@
 //! The row of a tick.
 mod causes;
 mod class;
+mod pairs;
 mod receivers;
 mod said;
 mod stages;
@@ -56,26 +57,27 @@ fn columns(t: &Tick, said: &str, form: Form) -> String {
 }
 
 /// The row in the first form that has room for it, with the line of a text but its entropy, else with the wires counted;
-/// receivers that are not ready by their alerts, else counted; what the ping timer does. In short form causes may be left out, and are then counted. Open stages are
+/// receivers that are not ready by their alerts, else counted; the lines' pairs; what the ping timer does. In short form causes may be left out, and are then counted. Open stages are
 /// counted at its end.
 pub fn row(naming: Naming, t: &Tick) -> String {
     let (edition, x) = (t.edition, &t.input);
     let causes = causes::set(&t.before, &t.after);
-    let timer = timer::list(t);
+    let lines = pairs::list(t) + &timer::list(t);
     let whole = said::whole(naming, edition, x);
     for said in [whole, said::counted(naming, edition, x)] {
         for form in [Form::Columns, Form::Squeezed] {
             let start = columns(t, &said, form) + &causes.concat();
             let stages = stages::count(&t.after, form);
             for receivers in [receivers::list(t), receivers::count(t)] {
-                let row = format!("{start}{receivers}{timer}{stages}");
+                let row = format!("{start}{receivers}{lines}{stages}");
                 if row.trim_end().len() <= WIDTH {
                     return row.trim_end().to_string();
                 }
             }
         }
     }
-    let end = receivers::count(t) + &timer::short(t) + &stages::count(&t.after, Form::Short);
+    let lines = pairs::short(t) + &timer::short(t);
+    let end = receivers::count(t) + &lines + &stages::count(&t.after, Form::Short);
     let room = |short: &String| WIDTH.saturating_sub(short.len() + end.len());
     let mut short = columns(t, &said::shortest(naming, edition, x), Form::Short);
     if room(&short) < causes::least(&causes) {
@@ -94,7 +96,8 @@ pub fn wide_row(naming: Naming, t: &Tick) -> String {
         said::line(naming, t.edition, &t.input)
     };
     let causes = causes::set(&t.before, &t.after).concat();
-    let end = receivers::list(t) + &timer::list(t) + &stages::list(naming, &t.after);
+    let lines = pairs::list(t) + &timer::list(t);
+    let end = receivers::list(t) + &lines + &stages::list(naming, &t.after);
     let row = columns(t, &said, Form::Columns) + &causes + &end;
     row.trim_end().to_string()
 }

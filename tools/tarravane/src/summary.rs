@@ -5,6 +5,7 @@ mod escalation;
 mod events;
 mod first;
 mod kept;
+mod lines;
 mod pings;
 mod refusals;
 mod shadow;
@@ -17,6 +18,7 @@ use events::Events;
 use first::First;
 use handler::registers::{Naming, LETTERS};
 use handler::CLASSES;
+use lines::Lines;
 use pings::Pings;
 use refusals::Refusals;
 use shadow::Shadow;
@@ -27,6 +29,7 @@ pub struct Summary {
     classes: [Class; CLASSES],
     events: Events,
     pings: Pings,
+    lines: Lines,
     shadow: Shadow,
     refusals: Refusals,
 }
@@ -39,6 +42,7 @@ impl Summary {
         self.first.add(t);
         self.events.add(t);
         self.pings.add(t);
+        self.lines.add(t);
         self.shadow.add(t);
         self.refusals.add(t);
     }
@@ -50,13 +54,14 @@ impl Summary {
         }
         all.extend(self.events.lines());
         all.extend(self.pings.lines());
+        all.extend(self.lines.lines());
         all.push(self.shadow.line(naming));
         all.extend(self.refusals.lines());
         all
     }
 
     /// In short: the first event, the classes with a start or a clear, all others in one line, the ping timer where it is on,
-    /// stages that came to nothing, and refusals.
+    /// lines with wrong answers, stages that came to nothing, and refusals.
     pub fn short_lines(&self) -> Vec<String> {
         let mut all = vec![self.first.words()];
         let mut quiet = Vec::new();
@@ -72,6 +77,7 @@ impl Summary {
             all.push(format!("class{es} {quiet}: no start; no clear"));
         }
         all.extend(self.pings.short_lines());
+        all.extend(self.lines.short_lines());
         all.extend(self.shadow.short_line());
         all.push(self.refusals.line());
         all

@@ -1,5 +1,5 @@
 //! A trace as text: `edition E` where it is not the newest, `alerts N`, then a line for each tick with its access, the wires
-//! that are off rest, and what the ping timer is given; `raw` and `cut` for bytes that are no well-formed record. Each part goes both ways: `parse` takes
+//! that are off rest, what the ping timer is given and what the lines send back; `raw` and `cut` for bytes that are no well-formed record. Each part goes both ways: `parse` takes
 //! words, `words` gives them.
 pub mod access;
 pub mod alerts;
@@ -8,6 +8,7 @@ mod hex;
 pub mod line;
 pub mod lines;
 mod pings;
+pub mod receive;
 pub mod sample;
 pub mod wires;
 mod word;

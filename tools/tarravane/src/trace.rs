@@ -24,7 +24,7 @@ pub fn opened(name: &str) -> Result<(Trace, Option<u64>), String> {
     Ok((Cursor::new(looked_at).chain(from), bytes))
 }
 
-/// What is said of a trace that replays. Records of 75 bytes are of more than one edition to come, so theirs is named.
+/// What is said of a trace that replays. Records of 75 bytes are of two editions, so theirs is named.
 pub fn title(edition: Edition, alerts: usize) -> String {
     let (bytes, name) = (edition.bytes(), edition.name());
     let named = match name == bytes.to_string() {

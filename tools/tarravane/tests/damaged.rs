@@ -30,6 +30,7 @@ fn any_bytes_go_round() {
         // The same after each mark, and with an N that is taken.
         goes_round(&[&[255], &bytes[..]].concat());
         goes_round(&[&[254], &bytes[..]].concat());
+        goes_round(&[&[253], &bytes[..]].concat());
         let edition = rng.pick(&Edition::ALL);
         let n = 1 + rng.index(edition.alerts()) as u8;
         goes_round(&[start(edition, n), bytes].concat());
@@ -74,7 +75,7 @@ fn malformed(edition: Edition) -> Vec<Vec<u8>> {
     let zeros = 32..32 + edition.zero_bits();
     bad.extend(zeros.clone().map(|bit| rest(2, ctrl, 1 << bit)));
     bad.extend(zeros.map(|bit| rest(0, 0, 1 << bit)));
-    if edition.has_timer() {
+    if edition == Edition::Pings {
         // The zero bits before the answers.
         bad.extend((4..8).map(|bit| {
             let mut record = record_pings(0, 0, 0, Wires::REST, (7, 15));
@@ -91,6 +92,7 @@ fn a_record_that_is_not_well_formed_is_raw() {
         (Edition::Alerts64, 20, 0),
         (Edition::Alerts248, 19, 0),
         (Edition::Pings, 19, 4),
+        (Edition::Wires, 19, 0),
     ] {
         let (good, all) = (read_ctrl(edition), malformed(edition));
         assert_eq!(all.len(), 7 + 2 * zeros + last);
@@ -158,6 +160,11 @@ fn a_trace_without_a_handler_is_told_and_written() {
     let none = [vec![254, 249], record_pings(0, 0, 0, Wires::REST, (9, 1))].concat();
     let text = "edition pings\nalerts 249\nnone entropy 0x9 answers 0\n";
     is_refused(none, text, &asks(249, 75, 248));
+    let ends = "the trace ends after 253: the number of alerts comes next";
+    is_refused(vec![253], "edition wires\n", ends);
+    let none = [start(Edition::Wires, 0), read_ctrl(Edition::Wires)].concat();
+    let text = "edition wires\nalerts 0\nread CLASSA_CTRL\n";
+    is_refused(none, text, &asks(0, 75, 248));
 }
 
 #[test]
@@ -170,9 +177,10 @@ fn a_missing_trace_is_told() {
 #[test]
 fn an_n_that_is_refused_is_written() {
     for (edition, all, last) in [
-        (Edition::Alerts64, [0, 65, 253], 63),
+        (Edition::Alerts64, [0, 65, 252], 63),
         (Edition::Alerts248, [0, 249, 255], 247),
         (Edition::Pings, [0, 254, 255], 247),
+        (Edition::Wires, [0, 249, 253], 247),
     ] {
         let (bytes, name) = (edition.bytes(), edition.name());
         for n in all {
@@ -217,6 +225,11 @@ fn a_text_without_n_gives_what_comes_before_it() {
             "edition pings\n",
             &[254],
             "the trace ends after 254: the number of alerts comes next",
+        ),
+        (
+            "edition wires\n",
+            &[253],
+            "the trace ends after 253: the number of alerts comes next",
         ),
     ] {
         let (trace, said) = ended("record", &["-"], text.as_bytes(), 1);

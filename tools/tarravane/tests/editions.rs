@@ -23,6 +23,10 @@ fn the_title_names_the_edition() {
             &[254, 248],
             "alerts: 248; records of 75 bytes, edition pings",
         ),
+        (
+            &[253, 248],
+            "alerts: 248; records of 75 bytes, edition wires",
+        ),
     ] {
         assert_eq!(
             title(&["-"], bytes),
@@ -181,11 +185,11 @@ fn a_bad_edition_is_told() {
     for (text, problem) in [
         (
             "edition 25\nalerts 2",
-            "line 1: edition wants a name: 24, 70, pings, not 25",
+            "line 1: edition wants a name: 24, 70, pings, wires, not 25",
         ),
         (
             "edition 75\nalerts 2",
-            "line 1: edition wants a name: 24, 70, pings, not 75",
+            "line 1: edition wants a name: 24, 70, pings, wires, not 75",
         ),
         (
             "edition 24\n\nalerts",
@@ -206,6 +210,22 @@ fn a_bad_edition_is_told() {
         (
             "edition 24\nalerts 254",
             "line 2: a first byte of 254 is that of edition pings",
+        ),
+        (
+            "edition 24\nalerts 253",
+            "line 2: a first byte of 253 is that of edition wires",
+        ),
+        (
+            "edition pings\nalerts 2\nnone receive 0=10",
+            "line 3: edition pings has no receive",
+        ),
+        (
+            "edition pings\nalerts 2\nnone sound",
+            "line 3: edition pings has no sound",
+        ),
+        (
+            "alerts 2\nnone answers 1",
+            "line 2: edition wires has no answers",
         ),
         (
             "edition 70\nalerts 2\nnone entropy 1",

@@ -253,7 +253,12 @@ fn a_crowded_tick_fits() {
         assert_eq!(rows.len(), first + 22_000);
         assert!(rows[first].contains(" +"), "{}", rows[first]);
         let last = &rows[first + 21_999];
-        assert!(last.contains("Ph0 22000/5500"), "{last}");
+        // Line 0 is on, and its receiver never answers.
+        let counts = match edition.has_receive() {
+            true => "P0 22k/5k",
+            false => "Ph0 22000/5500",
+        };
+        assert!(last.contains(counts), "{last}");
     }
 }
 
@@ -392,6 +397,17 @@ fn each_command_has_its_own_help() {
         "[turn",
     );
     helps("record", &["entropy WORD", "answers E"], "[turn");
+    helps("record", &["receive E=PQ", "sound"], "[back");
+    let pairs = ["[esc 0]", "[back 0: 01, not 10]", "!2", "[closed line 2]"];
+    helps("explain", &pairs, "LINE0");
+    let pairs = [
+        "LINE0_ESC",
+        "LINE0_BACK",
+        "LINE0_RIGHT",
+        "LINE0_WRONG",
+        "CLOSED",
+    ];
+    helps("wave", &pairs, "[back");
     let help = String::from_utf8(given("explain", &["--help"], &[])).expect("text");
     let order = "The answer is given before the tick's events;";
     assert!(help.contains(order));

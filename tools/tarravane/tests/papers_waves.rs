@@ -5,7 +5,7 @@ use common::page::section;
 use common::repository;
 use std::fs;
 
-/// The rows of a wave of a class, of a pair, and of a receiver, by their place in a line that the case prints.
+/// The rows of a wave of a class, of an alert's pair, and of its receiver, by their place in a line that the case prints.
 const CLASS: &[(&str, usize)] = &[
     ("CLASSA_STATE", 1),
     ("CLASSA_ESC_CNT", 2),
@@ -32,6 +32,15 @@ const RECEIVER: &[(&str, usize)] = &[
     ("ack_n", 6),
     ("ping_p", 7),
     ("ping_n", 8),
+];
+
+/// Those of a line's pairs.
+const LINE: &[(&str, usize)] = &[
+    ("resp_p", 0),
+    ("resp_n", 1),
+    ("esc_p", 3),
+    ("esc_n", 4),
+    ("CLASSB_ACCUM_CNT", 5),
 ];
 
 /// The lines that a case prints below its name, in words.
@@ -83,6 +92,12 @@ fn the_waves_are_those_of_the_cases() {
                 block,
                 &[&[("diff_p", 0), ("diff_n", 1)], PAIR].concat(),
             ),
+            "W7" | "W8" => check(&wave, block, &[&[("lines", 2)], LINE].concat()),
+            "W9" => check(
+                &wave,
+                block,
+                &[&[("CLASSC_ACCUM_CNT", 6), ("ping open", 7)], LINE].concat(),
+            ),
             _ => check(
                 &wave,
                 block,
@@ -91,5 +106,8 @@ fn the_waves_are_those_of_the_cases() {
         }
         shown.push(wave);
     }
-    assert_eq!(shown, ["W1", "W2", "W3", "W4", "W5", "W6"]);
+    assert_eq!(
+        shown,
+        ["W1", "W2", "W3", "W4", "W5", "W6", "W7", "W8", "W9"]
+    );
 }

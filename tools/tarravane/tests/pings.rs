@@ -52,7 +52,8 @@ fn the_stuck_sender_is_told_tick_by_tick() {
 /// Also where the local alert is disabled, so that nothing else changes.
 #[test]
 fn a_failed_ping_is_a_change() {
-    let text = "alerts 1
+    let text = "edition pings
+        alerts 1
         write PING_TIMEOUT_CYC 2
         write PING_TIMEOUT_CYC 2
         write PING_TIMER_EN 1
@@ -69,9 +70,9 @@ fn a_failed_ping_is_a_change() {
     assert!(rows[2].ends_with(" [ping line 0] [fail line 0] [turn 0 in 1]"));
 }
 
-/// What the summary of the newest edition says of the ping timer.
+/// What the summary of the edition `pings` says of the ping timer.
 fn timer(text: &str) -> Vec<String> {
-    let text = configured(text);
+    let text = format!("edition pings\n{}", configured(text));
     let trace = given("record", &["-"], text.as_bytes());
     let all = explained(&["--summary", "-"], &trace);
     let from = all.iter().position(|line| line.starts_with("ping timer: "));

@@ -40,6 +40,7 @@ fn explain_prints_what_readme_shows() {
     shows("explain --summary examples/broken-seal.trace");
     shows("explain --from 9 --to 19 examples/silly-threshold.trace");
     shows("explain --from 29 --to 40 examples/stuck-sender.trace");
+    shows("explain --from 28 --to 40 examples/cut-cable.trace");
 }
 
 #[test]

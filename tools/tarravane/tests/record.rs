@@ -50,20 +50,23 @@ fn each_line_is_a_record() {
     ]
     .concat();
     assert_eq!(trace_of(&format!("edition 70\n{text}")), wanted);
-    // The newest has five bytes more.
-    let grown: Vec<u8> = wanted[2..]
-        .chunks(70)
-        .flat_map(|record| [record, &[0; 5]].concat())
-        .collect();
-    let wanted = [&[254, 248], &grown[..]].concat();
-    assert_eq!(trace_of(text), wanted);
-    assert_eq!(trace_of(&format!("edition pings\n{text}")), wanted);
+    // The newer ones have five bytes more, the last of them the answers or, of the newest, the receive pairs.
+    let grown = |mark: u8, last: u8| {
+        let records = wanted[2..].chunks(70);
+        let grown = records.flat_map(|record| [record, &[0, 0, 0, 0, last]].concat());
+        [mark, 248].into_iter().chain(grown).collect::<Vec<u8>>()
+    };
+    let newest = grown(253, 0b0101_0101);
+    assert_eq!(trace_of(text), newest);
+    assert_eq!(trace_of(&format!("edition wires\n{text}")), newest);
+    assert_eq!(trace_of(&format!("edition pings\n{text}")), grown(254, 0));
 }
 
 /// What the ping timer is given, in any order after the access.
 #[test]
 fn a_line_has_entropy_and_answers() {
     let text = "
+        edition pings
         alerts 2
         write PING_TIMER_EN 1 entropy 0x10003
         none answers 3 0 wires 1=10 entropy 1
@@ -79,9 +82,11 @@ fn a_line_has_entropy_and_answers() {
     assert_eq!(trace_of(text), wanted);
     for (line, problem) in [
         ("none entropy", "entropy wants a word of 32 bits"),
-        ("none answers 4", "no such line, 0 to 3: 4"),
+        ("none receive 4=10", "no such line, 0 to 3: 4"),
+        ("none receive", "receive wants E=PQ or E-F=PQ"),
+        ("none sound 1", "unexpected: 1"),
         ("none entropy 1 entropy 1", "entropy stands twice"),
-        ("none wires 0=10 answers", "answers wants lines, 0 to 3"),
+        ("none wires 0=10 answers 1", "edition wires has no answers"),
     ] {
         assert_eq!(said_of_line(line), format!("line 2: {problem}"));
     }
@@ -89,8 +94,9 @@ fn a_line_has_entropy_and_answers() {
 
 #[test]
 fn no_ticks_are_a_trace_too() {
-    assert_eq!(trace_of("alerts 248"), [254, 248]);
-    assert_eq!(trace_of("alerts 1\n\n# nothing\n"), [254, 1]);
+    assert_eq!(trace_of("alerts 248"), [253, 248]);
+    assert_eq!(trace_of("alerts 1\n\n# nothing\n"), [253, 1]);
+    assert_eq!(trace_of("edition pings\nalerts 1"), [254, 1]);
     assert_eq!(trace_of("edition 70\nalerts 64"), [255, 64]);
     assert_eq!(trace_of("edition 24\nalerts 64"), [64]);
 }
@@ -274,6 +280,7 @@ fn a_long_text() {
         ("edition 24\nalerts 64\n", &[64][..], 1024, 64),
         ("edition 70\nalerts 248\n", &[255, 248], 2048, 248),
         ("edition pings\nalerts 248\n", &[254, 248], 2048, 248),
+        ("edition wires\nalerts 248\n", &[253, 248], 2048, 248),
     ] {
         let line = |i: usize| format!("write {} {i} wires {}=10\n", i % registers, i % alerts);
         let lines: Vec<String> = (0..20_000).map(line).collect();
@@ -300,13 +307,13 @@ fn a_file_is_there_whole_or_not_at_all() {
     assert_eq!(folder.names(), ["a.txt"]);
     fs::write(&text, "alerts 1\nnone\n").expect("a text");
     assert!(given("record", &[&text, "-o", &trace], &[]).is_empty());
-    let none = record_pings(0, 0, 0, Wires::REST, (0, 0));
-    let whole = [vec![254, 1], none].concat();
+    let none = record(Edition::NEWEST, 0, 0, 0, Wires::REST);
+    let whole = [vec![253, 1], none].concat();
     assert_eq!(fs::read(&trace).expect("the trace"), whole);
     refused("record", &["-", "-o", &trace], b"alerts 2\nnome\n");
     assert_eq!(fs::read(&trace).expect("the trace"), whole);
     given("record", &["-", "-o", &trace], b"alerts 2");
-    assert_eq!(fs::read(&trace).expect("the trace"), [254, 2]);
+    assert_eq!(fs::read(&trace).expect("the trace"), [253, 2]);
     assert_eq!(folder.names(), ["a.trace", "a.txt"]);
 }
 

@@ -141,8 +141,43 @@ fn check_alert(dump: &Dump, edition: Edition, ticks: &[Ran], i: usize, all: bool
     }
 }
 
+/// Is the line's ping open in a tick: before it, or opened in it? With pairs that are checked it stays open in that tick, or is not sent.
+fn line_pinged(edition: Edition, t: &Ran, e: usize) -> bool {
+    let open = |h: &Handler| h.links.lines >> e & 1 == 1;
+    let opens = match edition.has_receive() {
+        true => open(&t.after),
+        false => t.before.links.turn.count == 0,
+    };
+    open(&t.before) || opens
+}
+
+/// The pairs of each line that moves; nothing of the others, and of an older edition.
+fn check_lines(dump: &Dump, edition: Edition, ticks: &[Ran], all: bool) {
+    for e in 0..4 {
+        let name = |what: &str| format!("lines.LINE{e}_{what}");
+        let sent = |t: &Ran| t.after.links.senders.last >> e & 1 == 1;
+        let right = |t: &Ran| {
+            if t.before.links.senders.answer >> e & 1 == 1 {
+                2
+            } else {
+                1
+            }
+        };
+        let came = |t: &Ran| t.record[edition.bytes() - 1] >> (6 - 2 * e) & 3;
+        let moves = |t: &Ran| sent(t) || right(t) != 1 || came(t) != 1;
+        let has = edition.has_receive() && (all || ticks.iter().any(moves));
+        assert_eq!(dump.has(&name("ESC")), has);
+        for t in ticks.iter().filter(|_| has) {
+            assert_eq!(dump.is_on(&name("ESC"), t.number), sent(t));
+            assert_eq!(dump.at(&name("BACK"), t.number), came(t).to_string());
+            assert_eq!(dump.at(&name("RIGHT"), t.number), right(t).to_string());
+            assert_eq!(dump.is_on(&name("WRONG"), t.number), came(t) != right(t));
+        }
+    }
+}
+
 /// The turn that each tick meets, and whether its ping is open in it; nothing where the timer never goes on.
-fn check_timer(dump: &Dump, ticks: &[Ran], all: bool) {
+fn check_timer(dump: &Dump, edition: Edition, ticks: &[Ran], all: bool) {
     let ever = ticks.iter().any(|t| t.after.timer.is_on());
     assert_eq!(dump.has("pings.TURN"), ever || all);
     for t in ticks.iter().filter(|_| ever || all) {
@@ -154,14 +189,13 @@ fn check_timer(dump: &Dump, ticks: &[Ran], all: bool) {
         let (turn, open) = match whose {
             None => ("-".to_string(), false),
             Some(Whose::Alert(i)) => (format!("ALERT{i}"), i < t.before.n && pinged(t, i)),
-            Some(Whose::Line(e)) => {
-                let open = links.lines >> e & 1 == 1 || links.turn.count == 0;
-                (format!("line_{e}"), open)
-            }
+            Some(Whose::Line(e)) => (format!("line_{e}"), line_pinged(edition, t, e)),
         };
         assert_eq!((at("TURN"), on("OPEN")), (&turn[..], open));
         let ends = links.turn.number != t.after.links.turn.number && whose.is_some();
-        assert_eq!(on("ANSWERED") || on("FAILED"), ends && open);
+        let closed = dump.has("pings.CLOSED") && on("CLOSED");
+        assert_eq!(on("ANSWERED") || on("FAILED") || closed, ends && open);
+        assert!(!closed || edition.has_receive() && t.word.0 >> 56 & 15 != 0);
         assert!(!on("ANSWERED") || !on("FAILED"));
         let cause = |t: &Handler, j: usize| t.locals.cause[j] == 1;
         let newly = (0..2).any(|j| cause(&t.after, j) && !cause(&t.before, j));
@@ -200,7 +234,8 @@ fn check(bytes: &[u8], all: bool) {
     }
     assert!(!dump.has(&format!("alerts.ALERT{n}_PAIR")));
     check_locals(&dump, &ticks, all);
-    check_timer(&dump, &ticks, all && edition.has_timer());
+    check_timer(&dump, edition, &ticks, all && edition.has_timer());
+    check_lines(&dump, edition, &ticks, all);
     assert_eq!(dump.end, ticks.len() as u64 + 1);
 }
 
@@ -416,4 +451,41 @@ fn a_file_of_any_name() {
     assert!(said.is_empty());
     let dump = Dump::parse(&fs::read_to_string(&to).expect("the dump"));
     assert_eq!(dump.comments[0], "trace: a _end__var.trace");
+}
+
+/// The cut cables: what is sent on line 0, what comes back, what was right, and how the ping ends.
+#[test]
+fn the_lines_pairs_are_shown_tick_by_tick() {
+    for (name, sent, wrong, failed, closed) in [
+        (
+            "cut-cable",
+            vec![29, 39, 40, 41],
+            vec![30, 32, 40, 42],
+            vec![35],
+            vec![],
+        ),
+        (
+            "cut-cable-first",
+            vec![29, 30, 31, 32],
+            vec![30, 32],
+            vec![],
+            vec![30],
+        ),
+    ] {
+        let bytes = trace(name);
+        for all in [false, true] {
+            check(&bytes, all);
+        }
+        let dump = dump(&bytes, &[]);
+        let on = |name: &str| -> Vec<u64> { (0..=43).filter(|t| dump.is_on(name, *t)).collect() };
+        assert_eq!(on("lines.LINE0_ESC"), sent);
+        assert_eq!(on("lines.LINE0_WRONG"), wrong);
+        assert_eq!(on("alerts.LOC_ALERT3_EVENT"), wrong);
+        assert_eq!(on("pings.FAILED"), failed);
+        assert_eq!(on("pings.CLOSED"), closed);
+        assert_eq!(on("lines.LINE1_WRONG"), []);
+        for tick in 0..=43 {
+            assert_eq!(dump.at("lines.LINE0_BACK", tick), "1");
+        }
+    }
 }

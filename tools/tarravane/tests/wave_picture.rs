@@ -128,6 +128,25 @@ fn the_ping_timer_has_a_lane() {
     assert!(!off.contains("ping"));
 }
 
+/// Below a line whose pairs move stand what is sent and what comes back, with a cross where that is wrong; the caption tells of it.
+#[test]
+fn the_lines_pairs_have_lanes() {
+    let picture = picture(&trace("cut-cable"), &[]);
+    let sent = [("on".to_string(), 29, 29), ("on".to_string(), 39, 41)];
+    assert_eq!(spans(&picture, "pair 0"), sent);
+    assert_eq!(spans(&picture, "back 0"), []);
+    let came = [31, 33].map(|tick| ("(1,0)".to_string(), tick, tick));
+    assert_eq!(spans(&picture, "back 1"), came);
+    // Four wrong answers, the failed ping, the refused clear, and two more of the legend.
+    assert_eq!(marks(&picture, "cross"), 8);
+    let told = texts(&picture, "told");
+    let wrong = "line 0: 4 wrong answers, first at 30: 01, not 10, last at 42";
+    assert!(told.iter().any(|line| line == wrong), "{told:?}");
+    assert!(texts(&picture, "small").contains(&"wrong answer".to_string()));
+    let old = common::wave::picture(&trace("stuck-sender"), &[]);
+    assert!(!old.contains("pair 0") && !old.contains("wrong answer"));
+}
+
 /// How often a mark is drawn, without the one of the legend.
 fn marks(picture: &str, class: &str) -> usize {
     picture.matches(&format!("class=\"{class}\"")).count() - 1

@@ -179,6 +179,7 @@ fn damaged_traces_are_1() {
             (&[65], "refused: the trace asks for 65 alerts"),
             (&[255], "refused: the trace ends after 255"),
             (&[254], "refused: the trace ends after 254"),
+            (&[253], "refused: the trace ends after 253"),
         ] {
             let (printed, said) = ended("wave", &["-", "-o", &to], bytes, 1);
             assert!(printed.is_empty());

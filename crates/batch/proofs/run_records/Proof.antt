@@ -8,7 +8,8 @@ use borrow.Author.Needs.{needs}
 use lib.ListN.{take, drop}
 use Rattle.trace_rules.specs.Edition.{recordBytes}
 use Rattle.trace_rules.specs.Record.{inputOf, inputsOf}
-use Rattle.handler.specs.QuietTick.{ended}
+use Rattle.handler.specs.QuietTick.{withMoved, ended}
+use Rattle.rules.specs.declared.Links.{Links}
 use Rattle.batch.specs.Running.{Running}
 use Rattle.batch.proofs.Running.{start, end, length-inputs, record-within, few-alerts, next-record}
 use Rattle.batch.proofs.run_records.Statement.{statement}
@@ -44,18 +45,29 @@ quiet-of-requires c κs = let l = c .before .before .loop in few-alerts _ _ _ (c
 moved-by-requires : tie.Need-moved-by-requires Inv-loop μ-loop
 moved-by-requires c κs = search needs
 
+cast-link : tie.Need-cast-link Inv-loop μ-loop
+cast-link c = search needs
+
+link-requires : tie.Need-link-requires Inv-loop μ-loop
+link-requires c κs = search needs
+
 word-requires : tie.Need-word-requires Inv-loop μ-loop
 word-requires c κs = search needs
 
 mul-out : tie.Need-mul-out Inv-loop μ-loop
-mul-out c = let begin = c .before .before .before .before .before .before .before .before .before .before .before in omega (arith, begin .pre .2, begin .good .1 .1 .1 .0 .1)
+mul-out c =
+    let l = c .before .before .before .before .before .before .before .before in
+    let begin = l .before .before .before .before .before in
+    omega (arith, l .loop-test .taken, begin .pre .2, begin .good .1 .1 .1 .0 .1)
 
 slice-write-out : tie.Need-slice-write-out Inv-loop μ-loop
-slice-write-out c = omega (arith, c .before .before .before .before .before .before .before .loop .inv .1 .same)
+slice-write-out c =
+    let l = c .before .before .before .before .before .before .before .before in
+    omega (arith, l .before .loop .inv .1 .same, l .loop-test .taken, l .before .before .before .before .before .pre .2)
 
 add-i : tie.Need-add-i Inv-loop μ-loop
 add-i c =
-    let test = c .before .before .before .before .before .before .before .before .before in
+    let test = c .before .before .before .before .before .before .before .before .before .before in
     let begin = test .before .before .before .before .before in
     search (test .loop-test .taken, begin .pre .2, begin .good .1 .1 .1 .0 .1, needs)
 
@@ -64,9 +76,10 @@ loop-less c = search needs
 
 loop-again : tie.Need-loop-again Inv-loop μ-loop
 loop-again c =
-    let word = c .before .before .before in
-    let end = word .before .moved-by in
-    let quiet = word .before .before .before .before in
+    let word = c .before .before in
+    let linked = word .before .link in
+    let end = word .before .before .before .moved-by in
+    let quiet = word .before .before .before .before .before .before in
     let input = quiet .before in
     let l = input .before .before .loop in
     let size = input .before .before .before .record-bytes in
@@ -74,9 +87,10 @@ loop-again c =
       omega arith,
       rw add-one
           (next-record (begin .args .edition) (begin .args .h) (begin .args .bytes .now) (begin .args .out .now) (begin .pre .0) (l .g) (l .out) (l .i) (l .inv .1) (omega arith) (omega arith)
-          _ (ended (l .g) (quiet .quiet-of .result .answer) (quiet .quiet-of .result .links) (end .result)) _ (input .input-at .ensures
+          _ (record { handler = withMoved (linked .result) (end .result) (l .g); answer = quiet .quiet-of .result .answer; interrupts = end .result .interrupts; lines = end .result .lines }) _ (input .input-at .ensures
           ∙ ap (λ (n : ℕ). inputOf (begin .args .edition) (take (recordBytes (begin .args .edition)) (drop (l .i * n) (begin .args .bytes .now)))) (size .ensures))
-          (ap (ended (l .g) (quiet .quiet-of .result .answer) (quiet .quiet-of .result .links)) (end .ensures) ∙ quiet .quiet-of .ensures (word .before .before .before .if1 .taken))
+          (ap (λ (k : Links). record { handler = withMoved k (end .result) (l .g); answer = quiet .quiet-of .result .answer; interrupts = end .result .interrupts; lines = end .result .lines }) (linked .ensures)
+          ∙ ap (ended (l .g) (quiet .quiet-of .result .answer) (quiet .quiet-of .result .met)) (end .ensures) ∙ quiet .quiet-of .ensures (word .before .before .before .before .before .if1 .taken))
           (word .word .ensures)),
     )
 
@@ -90,7 +104,9 @@ mul-out-2 : tie.Need-mul-out-2 Inv-loop μ-loop
 mul-out-2 c = let begin = c .before .before .before .before .before .before .before .before .before .before in omega (arith, begin .pre .2, begin .good .1 .1 .1 .0 .1)
 
 slice-write-out-2 : tie.Need-slice-write-out-2 Inv-loop μ-loop
-slice-write-out-2 c = omega (arith, c .before .before .before .before .before .before .loop .inv .1 .same)
+slice-write-out-2 c =
+    let l = c .before .before .before .before .before in
+    omega (arith, l .before .loop .inv .1 .same, l .loop-test .taken, l .before .before .before .before .before .pre .2)
 
 add-i-2 : tie.Need-add-i-2 Inv-loop μ-loop
 add-i-2 c = let begin = c .before .before .before .before .before .before .before .before .before .before .before in search (c .before .before .before .before .before .before .loop-test .taken, begin .pre .2, begin .good .1 .1 .1 .0 .1, needs)
@@ -133,6 +149,8 @@ run-records-spec =
     input-at-requires
     quiet-of-requires
     moved-by-requires
+    cast-link
+    link-requires
     word-requires
     mul-out
     slice-write-out

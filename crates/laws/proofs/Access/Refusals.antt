@@ -16,7 +16,7 @@ use Rattle.rules.specs.Map.{decode, isRegister, bits, readOnly}
 use Rattle.rules.specs.Stages.{dropped}
 use Rattle.rules.specs.State.{withStages, withLinks}
 use Rattle.rules.specs.Samples.{heard}
-use Rattle.rules.specs.Tick.{stepped, linksAfter, outputOf, hears, noOutput, after, tick, ticked}
+use Rattle.rules.specs.Tick.{stepped, lines, linksAfter, outputOf, hears, noOutput, after, tick, ticked}
 use Rattle.rules.specs.Valid.{valid}
 use Rattle.rules.specs.declared.Access.{Access}
 use Rattle.rules.specs.declared.Answer.{Answer}
@@ -197,7 +197,7 @@ raises-none m = go (eqb (refusalNumber m) 3) (eqb (refusalNumber m) 12)
 
 -- steps 2 to 4 of the state g
 abbrev stepsOn : Handler → Sample → Effects → Handler
-stepsOn g s fx = withLinks (linksAfter (heard g s fx)) (stepped g (heard g s fx) fx)
+stepsOn g s fx = let k = stepped g (heard g s fx) fx in withLinks (linksAfter g (heard g s fx) (lines k)) k
 
 module _ (h : Handler) where
   -- no access

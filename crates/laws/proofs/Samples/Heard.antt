@@ -1,10 +1,10 @@
--- What step 2 hears, alert by alert, line by line and local alert by local alert.
+-- What step 2 hears, alert by alert and local alert by local alert.
 -- Assumes nothing.
 use Prim.Native.Nat.{ℕ, _*_, _≤_, _<_}
 use mathlib.Core.Path.{_≡_, refl, sym, ap, ap₂, _∙_}
-use mathlib.Core.Bool.{Bool, false, and-true, and-false, cond, _&&_}
+use mathlib.Core.Bool.{Bool, false, and-true, and-false, _&&_}
 use native.Mathlib.Omega.{arith}
-use borrow.Author.Tests.{lt-ltb, le-ltb}
+use borrow.Author.Tests.{le-ltb}
 use lib.Dec.{ltb}
 use Rattle.bits.specs.Bits.{bit}
 use Rattle.bits.specs.Index.{placeIn}
@@ -13,10 +13,10 @@ use Rattle.bits.proofs.WordLaws.{placeIn-each}
 use Rattle.link_rules.proofs.CodeLaws.{code-back, pausing-back, busy-back}
 use Rattle.link_rules.proofs.ReceiverLaws.{same-receiver}
 use Rattle.link_rules.specs.Codes.{handshakeOf, pausingBit, busyBit}
-use Rattle.link_rules.specs.Pings.{asks, lineAfter}
-use Rattle.link_rules.specs.Timer.{opens, turned}
+use Rattle.link_rules.specs.Pings.{asks}
+use Rattle.link_rules.specs.Timer.{opens}
 use Rattle.link_rules.specs.declared.Receiver.{Receiver}
-use Rattle.rules.specs.Samples.{alertEnabled, happened, answered, receiverAfter, before, asksFor, timed, receiverTimed, linesTimed, raised, heard, alertEvent}
+use Rattle.rules.specs.Samples.{alertEnabled, happened, answered, receiverAfter, before, asksFor, timed, receiverTimed, raised, heard, alertEvent}
 use Rattle.rules.specs.State.{most, words, localCount, receiver, receiverIn, receiversBy}
 use Rattle.rules.specs.declared.Effects.{Effects}
 use Rattle.rules.specs.declared.Handler.{Handler}
@@ -49,29 +49,9 @@ module _ (g : Handler) (s : Sample) (fx : Effects) where
   unfolding opens
   asked-at i l = placeIn-each words (asks (before g s fx) (g .links .turn)) i l
 
-  pub heard-receiver : (i : ℕ) → i < words * 64 → receiverIn (heard g s fx .links .receivers) i ≡ receiverTimed g s fx i
+  pub heard-receiver : (i : ℕ) → i < words * 64 → receiverIn (heard g s fx .receivers) i ≡ receiverTimed g s fx i
   unfolding heard
   heard-receiver i l = receiver-by (receiverTimed g s fx) i l
-
-  pub heard-turn : heard g s fx .links .turn ≡ turned (timed g s fx) (g .links .turn)
-  unfolding heard
-  heard-turn = refl
-
-  -- a line's ping; the bits from 4 up are no line's
-  heard-bit : (e : ℕ) → e < 32
-      → bit (heard g s fx .links .lines) e ≡ cond (ltb e 4) (lineAfter (timed g s fx) (g .links .turn) (bit (g .links .lines) e) e) (bit (g .links .lines) e)
-  unfolding heard linesTimed
-  heard-bit e l =
-      bit-bitsOf 32 (λ k. cond (ltb k 4) (lineAfter (timed g s fx) (g .links .turn) (bit (g .links .lines) k) k) (bit (g .links .lines) k)) e l
-
-  pub heard-line : (e : ℕ) → e < 4 → bit (heard g s fx .links .lines) e ≡ lineAfter (timed g s fx) (g .links .turn) (bit (g .links .lines) e) e
-  heard-line e l =
-      heard-bit e (omega arith)
-      ∙ ap (λ (b : Bool). cond b (lineAfter (timed g s fx) (g .links .turn) (bit (g .links .lines) e) e) (bit (g .links .lines) e)) (lt-ltb e 4 l)
-
-  pub heard-no-line : (e : ℕ) → 4 ≤ e → e < 32 → bit (heard g s fx .links .lines) e ≡ bit (g .links .lines) e
-  heard-no-line e m l =
-      heard-bit e l ∙ ap (λ (b : Bool). cond b (lineAfter (timed g s fx) (g .links .turn) (bit (g .links .lines) e) e) (bit (g .links .lines) e)) (le-ltb e 4 m)
 
   pub heard-event : (i : ℕ) → i < words * 64 → placeIn (heard g s fx .events) i ≡ happened g (asksFor g s fx) (s .alerts) i
   unfolding heard
@@ -86,7 +66,7 @@ module _ (g : Handler) (s : Sample) (fx : Effects) where
   heard-raise j l = bit-bitsOf localCount (raised g s fx) j l
 
   -- samples at N and above count for nothing, and nothing there changes
-  pub heard-above : (i : ℕ) → g .n ≤ i → i < words * 64 → receiverIn (heard g s fx .links .receivers) i ≡ receiver g i
+  pub heard-above : (i : ℕ) → g .n ≤ i → i < words * 64 → receiverIn (heard g s fx .receivers) i ≡ receiver g i
   unfolding receiverAfter receiverTimed
   heard-above i l b =
       heard-receiver i b

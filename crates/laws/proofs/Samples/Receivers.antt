@@ -1,28 +1,29 @@
 -- An alert's receiver: an access leaves it, and a tick goes by its wires and what the ping timer does with it alone.
 -- Assumes nothing.
 use Prim.Native.Nat.{ℕ, _≤_, _<_}
-use mathlib.Core.Path.{_≡_, refl, ap, ap₂, _∙_}
+use mathlib.Core.Path.{_≡_, refl, sym, ap, ap₂, _∙_}
 use mathlib.Core.Bool.{Bool, true, false, and-true, cond, _&&_}
 use native.Mathlib.Omega.{arith}
 use borrow.Author.Tests.{lt-ltb}
 use lib.Dec.{eqb, ltb}
+use Rattle.link_rules.proofs.Closing.{closing-asks}
 use Rattle.link_rules.proofs.ReceiverLaws.{same-receiver}
 use Rattle.link_rules.specs.Pings.{asks}
 use Rattle.link_rules.specs.Receiver.{received}
-use Rattle.link_rules.specs.Timer.{failsAlert}
+use Rattle.link_rules.specs.Timer.{opens, openNow, fails, failsAlert}
 use Rattle.link_rules.specs.declared.Received.{Received}
 use Rattle.link_rules.specs.declared.Receiver.{Receiver}
 use Rattle.rules.specs.Access.{store, acted, effects}
 use Rattle.rules.specs.Map.{decode}
-use Rattle.rules.specs.Samples.{positive, negative, receivedBy, happened, answered, receiverAfter, asksFor, receiverTimed}
+use Rattle.rules.specs.Samples.{positive, negative, receivedBy, happened, answered, receiverAfter, asksFor, timed, receiverTimed}
 use Rattle.rules.specs.State.{most, receiver, receiverIn}
-use Rattle.rules.specs.Tick.{hears, happensIn, answeredIn, after}
+use Rattle.rules.specs.Tick.{hears, happensIn, answeredIn, linksAfter, after}
 use Rattle.rules.specs.declared.Access.{Access}
 use Rattle.rules.specs.declared.Access.the-variants.{Nothing, Read, Write, Malformed}
 use Rattle.rules.specs.declared.Handler.{Handler}
 use Rattle.rules.specs.declared.Input.{Input}
 use Rattle.rules.specs.declared.Links.{Links}
-use Rattle.laws.specs.Pinging.{meetsIn, failsIn, givenIn, closedIf}
+use Rattle.laws.specs.Pinging.{closedIn, meetsIn, failsIn, givenIn, closedIf}
 use Rattle.laws.specs.RegisterFile.{stores, storedBy}
 use Rattle.laws.proofs.Map.Cases.{pick, by-kind}
 use Rattle.laws.proofs.Samples.Heard.{asked-at, heard-receiver, heard-event, heard-answer}
@@ -61,7 +62,8 @@ module _ (h : Handler) (x : Input) (i : ℕ) (m : h .n ≤ most) (l : i < h .n) 
   as-given : receivedBy g (asksFor g (x .sample) (effects h (x .access))) (x .sample .alerts) i ≡ gives
   as-given =
       ap₂ (λ (b : Bool) (r : Receiver). received (record { asks = b; pos = positive (x .sample .alerts) i; neg = negative (x .sample .alerts) i }) r)
-      (asked-at g (x .sample) (effects h (x .access)) i (omega (arith, m, l)) ∙ ap (λ (z : Links). asks (meetsIn h x) (z .turn) i) (acted-links h (x .access)))
+      (asked-at g (x .sample) (effects h (x .access)) i (omega (arith, m, l)) ∙ sym (closing-asks (closedIn h x) (timed g (x .sample) (effects h (x .access))) (g .links .turn) i)
+      ∙ ap (λ (z : Links). asks (meetsIn h x) (z .turn) i) (acted-links h (x .access)))
       (acted-receiver h (x .access) i)
 
   -- whether it has an event, and whether its open ping is answered
@@ -79,7 +81,7 @@ module _ (h : Handler) (x : Input) (i : ℕ) (m : h .n ≤ most) (l : i < h .n) 
 
   -- its receiver after the tick: a ping that fails closes
   pub after-receiver : receiver (after h x) i ≡ closedIf (failsIn h x i) (gives .receiver)
-  unfolding hears after receiverAfter receiverTimed
+  unfolding hears after linksAfter receiverAfter receiverTimed fails openNow opens
   after-receiver =
       heard-receiver g (x .sample) (effects h (x .access)) i (omega (arith, m, l))
       ∙ ap₂ (λ (b : Bool) (r : Received). closedIf (b && (failsAlert (meetsIn h x) (g .links .turn) && eqb i (g .links .turn .alert))) (cond b (r .receiver) (receiver g i))) below as-given

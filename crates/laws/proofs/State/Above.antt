@@ -16,7 +16,7 @@ use Rattle.rules.specs.Run.{run}
 use Rattle.rules.specs.Samples.{alertEvent, sampled}
 use Rattle.rules.specs.Stages.{stageIn, stage}
 use Rattle.rules.specs.State.{most, words, alert, alertColumn, receiver, receiverIn, withStages, withLinks, newHandler, badCount, made}
-use Rattle.rules.specs.Tick.{hears, stepped, linksAfter, after, tick, ticked}
+use Rattle.rules.specs.Tick.{hears, stepped, lines, linksAfter, reached, after, tick, ticked}
 use Rattle.rules.specs.Valid.{valid}
 use Rattle.rules.specs.declared.Access.{Access}
 use Rattle.rules.specs.declared.Access.the-variants.{Nothing, Read, Write, Malformed}
@@ -150,11 +150,11 @@ linked-above h g x a r = record { n = a .n; alerts = a .alerts; receivers = r; s
 
 -- steps 1 to 4
 pub after-above : (h : Handler) (x : Input) → SameAbove h (after h x)
-unfolding hears after
+unfolding hears after linksAfter
 after-above h x =
     let g : Handler = acted h (x .access) in
     then h g (after h x) (acted-above h (x .access))
-    (linked-above g (stepped g (hears h x) (effects h (x .access))) (linksAfter (hears h x)) (stepped-above g (hears h x) (effects h (x .access)))
+    (linked-above g (reached h x) (linksAfter g (hears h x) (lines (reached h x))) (stepped-above g (hears h x) (effects h (x .access)))
     (heard-above g (x .sample) (effects h (x .access))))
 
 -- a tick, refused or not

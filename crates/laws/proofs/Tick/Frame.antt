@@ -16,7 +16,7 @@ use Rattle.rules.specs.Map.{settingRow}
 use Rattle.rules.specs.Samples.{sampled}
 use Rattle.rules.specs.Stages.{stageIn, stage}
 use Rattle.rules.specs.State.{most, classCount, classAt, withLinks}
-use Rattle.rules.specs.Tick.{hears, signals, linksAfter, stepped, after}
+use Rattle.rules.specs.Tick.{hears, signals, lines, linksAfter, reached, stepped, after}
 use Rattle.rules.specs.declared.Effects.{Effects}
 use Rattle.rules.specs.declared.Handler.{Handler}
 use Rattle.rules.specs.declared.Heard.{Heard}
@@ -116,7 +116,8 @@ linked-value l g = by-kind (λ q. value (withLinks l g) q ≡ value g q) (λ o. 
 pub after-value : (h : Handler) (x : Input) (q : Register)
     → value (after h x) q ≡ value (stepped (acted h (x .access)) (hears h x) (effects h (x .access))) q
 unfolding after
-after-value h x = linked-value (linksAfter (hears h x)) (stepped (acted h (x .access)) (hears h x) (effects h (x .access)))
+after-value h x =
+    linked-value (linksAfter (acted h (x .access)) (hears h x) (lines (reached h x))) (reached h x)
 
 -- one that does not move by itself is what the access left
 pub after-still : (h : Handler) (x : Input) (q : Register) → inMap (h .n) q ≡ true → movesItself q ≡ false

@@ -14,15 +14,15 @@ use Rattle.link_rules.specs.declared.Turn.{Turn}
 use Rattle.rules.specs.Access.{acted, effects}
 use Rattle.rules.specs.Samples.{positive, negative}
 use Rattle.rules.specs.State.{receiver, isOn}
-use Rattle.rules.specs.Tick.{hears, after}
+use Rattle.rules.specs.Tick.{lines, hears, reached, after}
 use Rattle.rules.specs.Valid.{valid}
 use Rattle.rules.specs.declared.Handler.{Handler}
 use Rattle.rules.specs.declared.Input.{Input}
 use Rattle.rules.specs.declared.Links.{Links}
 use Rattle.laws.specs.Pinging.{meetsIn, asksIn, failsIn}
-use Rattle.laws.proofs.Samples.Heard.{heard-no-line}
 use Rattle.laws.proofs.Samples.Off.{off-fails, off-asks, off-turned, off-line}
 use Rattle.laws.proofs.Samples.Receivers.{acted-links, after-unfailed}
+use Rattle.laws.proofs.Tick.Links.{linked-no-line}
 use Rattle.laws.proofs.Tick.Turns.{met-runs, after-turn, after-line}
 use Rattle.laws.proofs.Valid.ValidLaws.{facts}
 
@@ -68,5 +68,5 @@ module _ (h : Handler) (x : Input) (v : valid h ≡ true) (off : isOn h ≡ fals
       go (yes b) =
           after-line h x e b ∙ off-line (meetsIn h x) (h .links .turn) off-runs (bit (h .links .lines) e) e (none-open e b) ∙ sym (none-open e b)
       go (no b) =
-          heard-no-line (acted h (x .access)) (x .sample) (effects h (x .access)) e (omega arith) l
+          linked-no-line (acted h (x .access)) (hears h x) (lines (reached h x)) e (omega arith) l
           ∙ ap (λ (z : Links). bit (z .lines) e) (acted-links h (x .access))

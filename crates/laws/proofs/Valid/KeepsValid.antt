@@ -20,7 +20,7 @@ use Rattle.rules.specs.Run.{run}
 use Rattle.rules.specs.Samples.{sampled, marked, alertEvent, occurs}
 use Rattle.rules.specs.Stages.{settingStage, noClassStages, stageIn, stage}
 use Rattle.rules.specs.State.{most, localCount, classCount, local, alert, classAt, isOn, resetClass, withLinks, newHandler, badCount, made}
-use Rattle.rules.specs.Tick.{signals, stepped, linksAfter, hears, after, tick, ticked}
+use Rattle.rules.specs.Tick.{signals, stepped, lines, linksAfter, reached, hears, after, tick, ticked}
 use Rattle.rules.specs.Valid.{valid}
 use Rattle.rules.specs.declared.Field.{Field}
 use Rattle.rules.specs.declared.Effects.{Effects}
@@ -98,7 +98,7 @@ pub after-valid : (h : Handler) (x : Input) → valid h ≡ true → valid (afte
 unfolding after
 after-valid h x e =
     let t = facts h e in
-    linked-valid (linksAfter (hears h x)) (stepped (acted h (x .access)) (hears h x) (effects h (x .access)))
+    linked-valid (linksAfter (acted h (x .access)) (hears h x) (lines (reached h x))) (reached h x)
     (after-owned h x (t .n) (t .timer .enable) (t .pings))
     (stepped-valid (acted h (x .access)) (hears h x) (effects h (x .access)) (acted-valid h (x .access) e))
 

@@ -24,17 +24,17 @@ use Rattle.writer.proofs.write.Tie as tie
 -- the lists and the buffer that are lent
 abbrev lent : tie.After-slice-known → Lent
 lent c =
-    let a = c .before .before .before .before .before .before .before .before .args in
-    specs.lent (a .kinds .now) (a .registers .now) (a .values .now) (a .positive .now) (a .negative .now) (a .entropy .now) (a .answers .now)
+    let a = c .before .before .before .before .before .before .before .before .before .args in
+    specs.lent (a .kinds .now) (a .registers .now) (a .values .now) (a .positive .now) (a .negative .now) (a .entropy .now) (a .receive-positive .now) (a .receive-negative .now)
 
 abbrev buffer : tie.After-slice-known → List ℕ
-buffer c = c .before .before .before .before .before .before .before .before .args .out .now
+buffer c = c .before .before .before .before .before .before .before .before .before .args .out .now
 
 -- what was written tells the rest; a word of wires has 64 bits and an entropy word 32 by the slices' rule
 whole : (c : tie.After-slice-known) (r : ℤ) (left : List ℕ) → Wrote (lent c) (buffer c) r left
     → Wrote (lent c) (buffer c) r left × (ReadBack (lent c) (buffer c) left × WrittenBack (lent c) (buffer c) left)
 whole c r left w =
-    let entropy = c .before .before in
+    let entropy = c .before .before .before in
     contract (lent c) (buffer c) r left w (λ i. entropy .before .before .shared-slice-known4 .given i .fits) (λ i. entropy .before .shared-slice-known5 .given i .fits)
     (λ i. entropy .shared-slice-known6 .given i .fits)
 
@@ -54,7 +54,7 @@ is-ready c = let judge = c .before .before in ready _ _ (equal-lengths (judge .b
 count-fits : (c : tie.After-enum-told) → length (lent (c .before .before .before .before .before .before) .kinds) * recordBytes newest < 2 ^ 63
 count-fits c =
     let known = c .before .before .before .before .before .before in
-    omega (arith, is-ready c .room, known .before .before .before .before .before .before .before .before .good .1 .1 .1 .1 .1 .1 .1 .0 .1)
+    omega (arith, is-ready c .room, known .before .before .before .before .before .before .before .before .before .good .1 .1 .1 .1 .1 .1 .1 .1 .0 .1)
 
 are-uneven-requires : tie.Need-are-uneven-requires
 are-uneven-requires c κs = search needs

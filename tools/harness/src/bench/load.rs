@@ -1,18 +1,20 @@
 //! The records that are timed.
 
 use super::QUIET;
+use crate::calls::reference_edition;
 use crate::record::{pack, Head, Tail, NONE, READ};
 use crate::rng::Rng;
 use handler::registers::{Field, Map, Setting, INTR_ENABLE, INTR_STATE};
-use handler::{Edition, CLASSES, LOCALS};
+use handler::{Edition, LinePairs, CLASSES, LINES, LOCALS};
+use reference::batch;
 
 /// What the records of a batch do.
 #[derive(Clone, Copy, Debug, PartialEq, Eq)]
 pub enum Load {
     /// No access, all wires at rest.
     Quiet,
-    /// The same with the ping timer on: random words, and no answer, so that
-    /// pings fail.
+    /// The same with the ping timer on: random words, and no answer of an alert,
+    /// so that its pings fail.
     Pinged,
     /// An alert rises in every 64th tick and falls in the next.
     Sparse,
@@ -70,9 +72,26 @@ pub fn load(edition: Edition, load: Load, records: usize) -> Vec<u8> {
             Load::Pinged => rng.bits() as u32,
             _ => 0,
         };
-        bytes.extend(pack(edition, head, wires, Tail::new(word, 0)));
+        let tail = match edition.has_receive() {
+            true => Tail::wired(word, LinePairs::REST),
+            false => Tail::new(word, 0),
+        };
+        bytes.extend(pack(edition, head, wires, tail));
     }
     bytes
+}
+
+/// Gives every record the receive pairs that sound receivers send, from this
+/// state on.
+pub fn sound(edition: Edition, mut state: reference::Handler, bytes: &mut [u8]) {
+    let last = edition.bytes() - 1;
+    for record in bytes.chunks_exact_mut(edition.bytes()) {
+        let on = |e: usize| u32::from(state.senders[e].expected()) << e;
+        let pairs = LinePairs::sound((0..LINES).map(on).sum());
+        record[last] = Tail::wired(0, pairs).last;
+        let answer = batch(&mut state, reference_edition(edition), record, &mut [0]);
+        assert_eq!(answer, 0);
+    }
 }
 
 /// Every register that can be read where all alerts are there.

@@ -1,6 +1,6 @@
 //! The rounds of a load.
 
-use super::load::{load, Load};
+use super::load::{load, sound, Load};
 use super::start::start;
 use super::timed::Timed;
 use super::ROUNDS;
@@ -10,8 +10,11 @@ use std::time::{Duration, Instant};
 
 /// Times one load, both sides in turn.
 pub fn time(edition: Edition, kind: Load, name: &'static str, records: usize) -> Timed {
-    let bytes = load(edition, kind, records);
+    let mut bytes = load(edition, kind, records);
     let first = start(edition, kind);
+    if edition.has_receive() {
+        sound(edition, first.clone(), &mut bytes);
+    }
     let mut words = vec![Word(0); records];
     let mut numbers = vec![0; records];
     let mut timed = Timed::new(name, edition.alerts(), records);

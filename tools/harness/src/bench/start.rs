@@ -4,17 +4,20 @@ use super::load::Load;
 use super::QUIET;
 use crate::calls::reference_edition;
 use crate::configure::configure;
-use crate::record::{record, WRITE};
+use crate::record::{pack, Head, Tail, WRITE};
 use handler::registers::{Field, Setting, INTR_ENABLE, PING_ENABLE, PING_REGWEN, PING_TIMEOUT};
-use handler::{Edition, CLASSES};
+use handler::{Edition, LinePairs, CLASSES};
 
-/// The writes that set all up: all alerts and local 2 enabled, the alerts in
-/// all four classes, a threshold of 100, phases of 1000 ticks; and where the
-/// load has the ping timer on, all alerts locked, local 0 and 1 enabled, a
-/// timeout of 256 ticks.
+/// The writes that set all up: all alerts and local 2 enabled, where there are
+/// receive pairs local 3 too, the alerts in all four classes, a threshold of
+/// 100, phases of 1000 ticks; and where the load has the ping timer on, all
+/// alerts locked, local 0 and 1 enabled, a timeout of 256 ticks.
 fn set_up(edition: Edition, load: Load) -> Vec<u8> {
     let map = edition.registers();
     let mut writes = vec![(INTR_ENABLE, 15), (map.local(Field::En, 2), 1)];
+    if edition.has_receive() {
+        writes.push((map.local(Field::En, 3), 1));
+    }
     for i in 0..map.alerts {
         writes.push((map.alert(Field::Class, i), (i % CLASSES) as u32));
         writes.push((map.alert(Field::En, i), 1));
@@ -33,7 +36,11 @@ fn set_up(edition: Edition, load: Load) -> Vec<u8> {
     writes
         .flat_map(|(register, value)| configure(map, register, value))
         .flat_map(|(register, value)| {
-            record(edition, WRITE.into(), register.into(), value.into(), QUIET)
+            let tail = match edition.has_receive() {
+                true => Tail::wired(0, LinePairs::REST),
+                false => Tail::default(),
+            };
+            pack(edition, Head::new(WRITE, register, value), QUIET, tail)
         })
         .collect()
 }

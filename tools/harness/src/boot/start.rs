@@ -2,6 +2,7 @@
 
 use super::obstacle::{clear, lock, stage};
 use super::way::Way;
+use crate::calls::settle;
 use crate::rng::Rng;
 use crate::spoil::{self, fit, fit_thresholds, fit_turn, spoil, Place};
 use handler::boot::BOOT_ALERTS;
@@ -77,5 +78,6 @@ pub fn start(way: Way, places: &[Place], rng: &mut Rng) -> Handler {
         Way::Damaged => spoil(rng.pick(&DAMAGE), places, rng, &mut state),
         Way::New | Way::Open | Way::Fitted | Way::Few => {}
     }
+    settle(&mut state.links);
     state
 }

@@ -5,7 +5,7 @@ use crate::record::{largest, pack, Head, Tail, KIND3, NONE, READ, WRITE};
 use crate::rng::Rng;
 use handler::registers::{Field, Map, Setting, MAP};
 use handler::registers::{PING_ENABLE, PING_REGWEN, PING_TIMEOUT};
-use handler::{Access, Edition, Handler, Sample, Wires, ALERTS, CLASSES, LOCALS};
+use handler::{Access, Edition, Handler, LinePairs, Sample, Wires, ALERTS, CLASSES, LOCALS};
 
 /// A register number: mostly an assigned one, now and then a CLR.
 pub fn register(map: Map, rng: &mut Rng) -> u16 {
@@ -84,12 +84,32 @@ pub fn answers(rng: &mut Rng) -> u32 {
     rng.pick(&[0, 0, one, one, any & 0xF, 0xF, any, any & !0xF])
 }
 
-/// Any wires, any word, any answers.
-pub fn sample(rng: &mut Rng) -> Sample {
+/// Receive pairs: mostly the right ones, at times one of them wrong or equal,
+/// or any; bits from 4 up may be 1.
+pub fn receive(right: LinePairs, rng: &mut Rng) -> LinePairs {
+    let any = rng.bits() as u32;
+    let one = 1 << rng.below(4);
+    let LinePairs { pos, neg } = right;
+    let pairs = match rng.below(8) {
+        0 => (pos ^ one, neg ^ one),
+        1 => (pos ^ one, neg),
+        2 => (pos, neg ^ one),
+        3 => (any, any >> 8),
+        _ => (pos, neg),
+    };
+    let above = rng.pick(&[0, 0, any & 0xFFF0]);
+    LinePairs {
+        pos: pairs.0 & 0xFFFF ^ above,
+        neg: pairs.1 & 0xFFFF ^ above >> 8 & 0xFFF0,
+    }
+}
+
+/// Any wires, any word, receive pairs that the state mostly asks for.
+pub fn sample(state: &Handler, rng: &mut Rng) -> Sample {
     Sample {
         alerts: wires(rng),
         word: word(rng),
-        answers: answers(rng),
+        receive: receive(state.links.senders.right(), rng),
     }
 }
 
@@ -111,7 +131,14 @@ pub fn record(edition: Edition, rng: &mut Rng) -> Vec<u8> {
         _ => {}
     }
     let Wires { pos, neg } = wires(rng);
-    let mut tail = Tail::new(word(rng), answers(rng));
+    let (word, answers) = (word(rng), answers(rng));
+    if edition.has_receive() {
+        // Mostly those of lines at rest: any are right now and then.
+        let rest = rng.pick(&[0, 0, answers]);
+        let pairs = receive(LinePairs::sound(rest), rng);
+        return pack(edition, head, (pos, neg), Tail::wired(word, pairs));
+    }
+    let mut tail = Tail::new(word, answers);
     if rng.once_in(32) {
         tail.last |= 0x10 << rng.below(4);
     }

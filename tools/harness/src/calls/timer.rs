@@ -28,7 +28,26 @@ pub fn reference_timer(timer: &Timer, links: &Links, stages: &Stages) -> referen
         alert,
         count,
         lines: (links.lines & LINES) as u8,
+        // It says something of an open ping of a line alone.
+        wrong: line_open(links) && links.right & 1 == 0,
     }
+}
+
+/// Is the ping of the turn's line open?
+fn line_open(links: &Links) -> bool {
+    match links.turn.whose() {
+        Whose::Line(e) => links.lines >> e & 1 == 1,
+        Whose::Alert(_) => false,
+    }
+}
+
+/// The library's word on the answers to the open ping of a line.
+pub fn handler_right(timer: &reference::Timer) -> u32 {
+    let open = match timer.turn() {
+        reference::timer::Turn::Line(e) => timer.line_open(e),
+        reference::timer::Turn::Alert(_) => false,
+    };
+    u32::from(open && !timer.wrong)
 }
 
 /// The library's registers of it.
@@ -55,9 +74,13 @@ pub fn with_spare_lines(lines: u32, other: u32) -> u32 {
 }
 
 /// The state without what no rule ever reads, where the two sides may keep
-/// other numbers: of a turn's number its parity and its line alone count, and
-/// in a line's turn nobody looks at the alert.
+/// other numbers: of a turn's number its parity and its line alone count, in a
+/// line's turn nobody looks at the alert, and the answers to a line's ping were
+/// right or not only while it is open.
 pub fn told_apart(mut state: Handler) -> Handler {
+    if !(state.timer.is_on() && line_open(&state.links)) {
+        state.links.right = 0;
+    }
     let turn = &mut state.links.turn;
     if state.timer.is_on() {
         turn.number %= 8;

@@ -2,7 +2,8 @@
 //! whole, so that no field can be forgotten.
 
 use super::receivers::{handler_receivers, reference_receivers, with_spare_bits};
-use super::timer::{handler_timer, handler_turn, reference_timer, with_spare_lines};
+use super::senders::{handler_senders, reference_pairs, reference_senders};
+use super::timer::{handler_right, handler_timer, handler_turn, reference_timer, with_spare_lines};
 use handler::{
     Access, AlertStages, Alerts, Class, ClassStages, Edition, Handler, Interrupts, Links,
     LocalStages, Locals, Sample, Stages, Wires,
@@ -40,6 +41,7 @@ pub fn reference_of(state: &Handler) -> reference::Handler {
         classes: from_fn(|k| reference_class(&state.classes[k])),
         stages: reference_stages(&state.stages),
         timer: reference_timer(&state.timer, &state.links, &state.stages),
+        senders: reference_senders(&state.links.senders),
     }
 }
 
@@ -102,6 +104,8 @@ pub fn handler_of(state: &reference::Handler) -> Handler {
             receivers: handler_receivers(&state.receivers),
             turn: handler_turn(&state.timer),
             lines: state.timer.lines.into(),
+            senders: handler_senders(&state.senders),
+            right: handler_right(&state.timer),
         },
         classes: from_fn(|k| handler_class(&state.classes[k])),
         alerts: Alerts {
@@ -170,22 +174,23 @@ pub fn reference_edition(edition: Edition) -> reference::Edition {
         Edition::Alerts64 => reference::Edition::First,
         Edition::Alerts248 => reference::Edition::Second,
         Edition::Pings => reference::Edition::Third,
+        Edition::Wires => reference::Edition::Fourth,
     }
 }
 
-/// The reference's sample.
+/// The reference's sample: its receive pairs are checked.
 pub fn reference_sample(sample: &Sample) -> reference::Sample {
     let Sample {
         alerts: Wires { pos, neg },
         word,
-        answers,
+        receive,
     } = *sample;
-    // Bits from 4 up count for nothing on either side.
     reference::Sample {
         pos,
         neg,
         word,
-        answers: answers as u8,
+        receive: Some(reference_pairs(receive)),
+        answers: 0,
     }
 }
 

@@ -5,6 +5,7 @@ use super::locking::Locking;
 use super::shadowed::Shadowed;
 use crate::record::{Head, NONE, READ};
 use crate::turns::Turns;
+use crate::wired::Wired;
 use handler::Edition;
 use reference::handler::CLASSES;
 use reference::Handler;
@@ -62,6 +63,8 @@ pub struct Coverage {
     pub locking: Locking,
     /// What the ping timer did.
     pub turns: Turns,
+    /// What the lines met.
+    pub wired: Wired,
 }
 
 impl Coverage {
@@ -129,7 +132,8 @@ impl Coverage {
             self.registers.len(),
             self.causes.len()
         )?;
-        write!(out, "{}{}{}", self.handshakes, self.turns, self.shadowed)?;
+        write!(out, "{}{}{}", self.handshakes, self.turns, self.wired)?;
+        write!(out, "{}", self.shadowed)?;
         write!(out, "{}", self.locking)
     }
 

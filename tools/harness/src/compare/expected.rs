@@ -27,6 +27,7 @@ pub fn expected(bytes: &[u8], coverage: &mut Coverage) -> Vec<u8> {
     coverage.shadowed.begin();
     coverage.handshakes.begin();
     coverage.turns.begin();
+    coverage.wired.begin();
     for record in records {
         let before = handler.clone();
         let mut word = [0];
@@ -62,6 +63,7 @@ fn reached(
     let (_, sample) = parse(reference_edition(edition), record);
     coverage.alone(before, after, &sample);
     coverage.turns.tick(before, after, &sample);
+    coverage.wired.tick(before, after, &sample);
     let accepted = (word >> 52) & 15 == 0;
     if (head.kind, head.register) == (WRITE, PING_ENABLE) && accepted {
         coverage.turns.enabled(before, head.value);

@@ -40,7 +40,7 @@ impl Locking {
         let number = match edition {
             Edition::Alerts64 => carried(head.register),
             Edition::Alerts248 => without_timer(head.register),
-            Edition::Pings => head.register,
+            Edition::Pings | Edition::Wires => head.register,
         };
         let register = Register::decode(number, before.n);
         let register = match register {

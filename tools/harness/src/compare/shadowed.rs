@@ -61,7 +61,7 @@ impl Shadowed {
         let number = match edition {
             Edition::Alerts64 => carried(head.register),
             Edition::Alerts248 => without_timer(head.register),
-            Edition::Pings => head.register,
+            Edition::Pings | Edition::Wires => head.register,
         };
         let register = match Register::decode(number, before.n) {
             Some(register) => register,

@@ -1,4 +1,4 @@
-//! A list as the writer borrows it: seven slices, each between guards.
+//! A list as the writer borrows it: eight slices, each between guards.
 
 use super::row::Row;
 use super::spoil::Way;
@@ -11,10 +11,10 @@ use handler::{Wires, WORDS};
 pub const GUARD: usize = 4;
 
 /// The numbers that each slice has for an entry.
-pub const UNITS: [usize; LISTS] = [1, 1, 1, WORDS, WORDS, 1, 1];
+pub const UNITS: [usize; LISTS] = [1, 1, 1, WORDS, WORDS, 1, 1, 1];
 
 /// The slices of a list.
-pub const LISTS: usize = 7;
+pub const LISTS: usize = 8;
 
 /// The slices as the writer borrows them.
 #[derive(Clone, Copy)]
@@ -31,8 +31,10 @@ pub struct Lent<'a> {
     pub negative: &'a [u64],
     /// Entropy words.
     pub entropy: &'a [u32],
-    /// Answers.
-    pub answers: &'a [u8],
+    /// Positive wires of the receive pairs.
+    pub receive_positive: &'a [u8],
+    /// Negative ones.
+    pub receive_negative: &'a [u8],
 }
 
 impl Lent<'_> {
@@ -45,7 +47,8 @@ impl Lent<'_> {
             self.positive.len(),
             self.negative.len(),
             self.entropy.len(),
-            self.answers.len(),
+            self.receive_positive.len(),
+            self.receive_negative.len(),
         ]
     }
 
@@ -67,7 +70,7 @@ impl Lent<'_> {
                 neg: side(self.negative, at),
             },
             word: self.entropy[at],
-            answers: self.answers[at],
+            receive: (self.receive_positive[at], self.receive_negative[at]),
         };
         (0..count).map(row).collect()
     }
@@ -91,7 +94,8 @@ pub struct Entries {
     positive: Vec<u64>,
     negative: Vec<u64>,
     entropy: Vec<u32>,
-    answers: Vec<u8>,
+    receive_positive: Vec<u8>,
+    receive_negative: Vec<u8>,
     lengths: [usize; LISTS],
 }
 
@@ -110,7 +114,8 @@ impl Entries {
             positive: all.iter().flat_map(|row| row.wires.pos).collect(),
             negative: all.iter().flat_map(|row| row.wires.neg).collect(),
             entropy: all.iter().map(|row| row.word).collect(),
-            answers: all.iter().map(|row| row.answers).collect(),
+            receive_positive: all.iter().map(|row| row.receive.0).collect(),
+            receive_negative: all.iter().map(|row| row.receive.1).collect(),
             lengths: UNITS.map(|unit| rows.len() * unit),
         }
     }
@@ -122,7 +127,8 @@ impl Entries {
 
     /// The slices without the guards.
     pub fn lent(&self) -> Lent<'_> {
-        let [kinds, registers, values, positive, negative, entropy, answers] = self.lengths;
+        let [kinds, registers, values, positive, negative, entropy, receives @ ..] = self.lengths;
+        let [receive_positive, receive_negative] = receives;
         Lent {
             kinds: &self.kinds[GUARD..][..kinds],
             registers: &self.registers[GUARD..][..registers],
@@ -130,7 +136,8 @@ impl Entries {
             positive: &self.positive[GUARD * WORDS..][..positive],
             negative: &self.negative[GUARD * WORDS..][..negative],
             entropy: &self.entropy[GUARD..][..entropy],
-            answers: &self.answers[GUARD..][..answers],
+            receive_positive: &self.receive_positive[GUARD..][..receive_positive],
+            receive_negative: &self.receive_negative[GUARD..][..receive_negative],
         }
     }
 }

@@ -1,11 +1,11 @@
 //! One entry of a list.
 
-use crate::calls::{answers, register, wires, word};
+use crate::calls::{receive, register, wires, word};
 use crate::generate::WRITTEN;
 use crate::record::largest;
 use crate::rng::Rng;
 use handler::registers::MAP;
-use handler::{Access, Edition, Sample, Wires};
+use handler::{Access, Edition, LinePairs, Sample, Wires};
 use std::array::from_fn;
 
 /// The largest register that the writer takes.
@@ -24,8 +24,9 @@ pub struct Row {
     pub wires: Wires,
     /// The entropy word.
     pub word: u32,
-    /// The answers, line 0 at the lowest bit; bits 4 to 7 count for nothing.
-    pub answers: u8,
+    /// The receive pairs, line 0 at the lowest bit; bits 4 to 7 count for
+    /// nothing.
+    pub receive: (u8, u8),
 }
 
 impl Row {
@@ -44,8 +45,10 @@ impl Row {
             value: rng.pick(&[0, 1, u32::MAX, any]),
             wires: wires(rng),
             word: word(rng),
-            answers: answers(rng) as u8,
+            receive: (0, 0),
         };
+        let pairs = receive(LinePairs::REST, rng);
+        row.receive = (pairs.pos as u8, pairs.neg as u8);
         if rng.once_in(2) {
             row.wires = random;
             row.word = any.rotate_left(7);
@@ -61,12 +64,21 @@ impl Row {
         row
     }
 
+    /// The receive pairs as a sample has them.
+    pub fn pairs(&self) -> LinePairs {
+        let (pos, neg) = self.receive;
+        LinePairs {
+            pos: pos.into(),
+            neg: neg.into(),
+        }
+    }
+
     /// The sample as a tick takes it.
     pub fn sample(&self) -> Sample {
         Sample {
             alerts: self.wires,
             word: self.word,
-            answers: self.answers.into(),
+            receive: self.pairs(),
         }
     }
 

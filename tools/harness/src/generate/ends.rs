@@ -11,7 +11,7 @@ fn large(edition: Edition) -> &'static [usize] {
     match edition {
         Edition::Alerts64 => &[170, 171, 341, 682, 1023, 1024, 1025, 2730, 8192, 8193],
         Edition::Alerts248 => &[58, 59, 117, 468, 936, 937, 2047, 2048, 2049, 8193],
-        Edition::Pings => &[54, 55, 109, 436, 873, 874, 2047, 2048, 2049, 8193],
+        Edition::Pings | Edition::Wires => &[54, 55, 109, 436, 873, 874, 2047, 2048, 2049, 8193],
     }
 }
 

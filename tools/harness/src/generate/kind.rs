@@ -37,10 +37,12 @@ pub enum Kind {
     Handshake,
     /// The ping timer: turns, pings, answers and failures.
     Pings,
+    /// The lines: short escalations, pings near them, right and wrong answers.
+    Lines,
 }
 
 /// Every kind with its name on the command line.
-pub const KINDS: [(Kind, &str); 16] = [
+pub const KINDS: [(Kind, &str); 17] = [
     (Kind::Mixed, "mixed"),
     (Kind::Escalate, "escalate"),
     (Kind::Timeout, "timeout"),
@@ -57,6 +59,7 @@ pub const KINDS: [(Kind, &str); 16] = [
     (Kind::Edges, "edges"),
     (Kind::Handshake, "handshake"),
     (Kind::Pings, "pings"),
+    (Kind::Lines, "lines"),
 ];
 
 impl Kind {
@@ -74,10 +77,13 @@ impl Kind {
     }
 
     /// The kind of the trace at a place of an edition's set: where it has the
-    /// ping timer, two of seven are of it.
+    /// ping timer, two of seven are of it, and where it has receive pairs, one
+    /// more is of them; there short traces with any end keep their place.
     pub fn of(edition: Edition, place: u64) -> Kind {
         match Kind::at(place) {
             Kind::Full => Kind::Full,
+            Kind::Ends if edition.has_receive() => Kind::Ends,
+            _ if edition.has_receive() && place % 7 == 6 => Kind::Lines,
             _ if edition.has_timer() && matches!(place % 7, 3 | 5) => Kind::Pings,
             kind => kind,
         }

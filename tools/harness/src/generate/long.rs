@@ -19,12 +19,14 @@ pub fn long(edition: Edition, mut rng: Rng, seed: u64) -> Vec<u8> {
     let n = rng.pick(match edition {
         Edition::Alerts64 => &[4, 9, 64],
         Edition::Alerts248 => &[4, 65, 248],
-        Edition::Pings => &[9, 65, 248],
+        Edition::Pings | Edition::Wires => &[9, 65, 248],
     });
     let mut scene = Scene::new(edition, rng, n);
     scene.active = vec![0, scene.n - 1, 1, scene.n - 2];
     scene.equal = 0;
     scene.moving = false;
+    // The reference beside would take most of the time: receive pairs at rest.
+    scene.lines = None;
     let (k, map) = (scene.focus, scene.map);
     // In turn: four alerts take turns, two of them, equal wires.
     let way = seed % 3;

@@ -1,12 +1,13 @@
 //! A trace under construction: the wires as they stand and the records so far.
 
 use super::entropy::Entropy;
+use super::lines::Lines;
 use crate::configure::configure;
 use crate::opened::opening;
 use crate::record::{pack, Head, Side, Tail, NONE, READ, WRITE};
 use crate::rng::Rng;
 use handler::registers::Map;
-use handler::{Edition, Wires, CLASSES};
+use handler::{Edition, LinePairs, Wires, CLASSES};
 
 /// Alerts on both sides of each word of wires, and the last one.
 const BORDERS: [usize; 7] = [63, 64, 127, 128, 191, 192, 247];
@@ -37,6 +38,8 @@ pub struct Scene {
     pub neg: Side,
     /// What the ping timer is handed, where the records have that.
     pub entropy: Option<Entropy>,
+    /// What comes back on the lines, where the records have that.
+    pub lines: Option<Lines>,
     bytes: Vec<u8>,
 }
 
@@ -52,6 +55,10 @@ impl Scene {
             active.push(rng.pick(&BORDERS).min(count - 1));
         }
         let entropy = edition.has_timer().then(|| Entropy::new(rng.bits()));
+        let lines = match edition.has_receive() {
+            true => Lines::new(rng.bits(), n.into()),
+            false => None,
+        };
         Scene {
             edition,
             map: edition.registers(),
@@ -64,6 +71,7 @@ impl Scene {
             pos: Wires::REST.pos,
             neg: Wires::REST.neg,
             entropy,
+            lines,
             bytes: opening(edition, n),
             rng,
         }
@@ -121,8 +129,16 @@ impl Scene {
     pub fn tick_spoilt(&mut self, head: Head, bits: u8) {
         let wires = self.next_wires();
         let mut tail = self.entropy.as_mut().map_or(Tail::default(), Entropy::tail);
+        if self.edition.has_receive() {
+            let pairs = self.lines.as_mut().map_or(LinePairs::REST, Lines::receive);
+            tail = Tail::wired(tail.word, pairs);
+        }
         tail.last |= bits;
-        self.bytes.extend(pack(self.edition, head, wires, tail));
+        let record = pack(self.edition, head, wires, tail);
+        if let Some(lines) = &mut self.lines {
+            lines.tick(&record);
+        }
+        self.bytes.extend(record);
     }
 
     /// One of the active alerts.

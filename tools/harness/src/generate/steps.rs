@@ -7,9 +7,11 @@ use handler::{CLASSES, LOCALS};
 
 impl Scene {
     /// The local alerts that occur: by equal wires, by writes that differ, and
-    /// where there is a ping timer by pings that fail.
+    /// where there is a ping timer by pings that fail, where there are receive
+    /// pairs by wrong ones.
     pub(super) fn occurring(&self) -> &'static [usize] {
         match self.map.timer {
+            true if self.edition.has_receive() => &[2, 5, 0, 1, 3],
             true => &[2, 5, 0, 1],
             false => &[2, 5],
         }

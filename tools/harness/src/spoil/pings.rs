@@ -5,7 +5,7 @@ use crate::rng::Rng;
 use handler::{Handler, Whose, ALERTS, WORDS};
 
 /// Timeouts at both ends and short ones.
-const TIMEOUTS: [u32; 9] = [0, 0, 1, 2, 3, 7, 65534, 65535, 65535];
+const TIMEOUTS: [u32; 11] = [0, 0, 1, 2, 3, 4, 4, 7, 65534, 65535, 65535];
 
 /// Any turn of a timer that is mostly on, its ping open, due or to come, and no
 /// other ping open. The count is often near the timeout, since else nothing
@@ -19,7 +19,10 @@ pub fn fit_turn(rng: &mut Rng, state: &mut Handler) {
     let number = rng.bits() as u8;
     turn.number = rng.pick(&[number, number, number & !1]);
     let near = [timeout, timeout.wrapping_sub(1), timeout.wrapping_sub(2)];
-    let counts = [0, 0, 0, 1, 65534, 65535, near[0], near[1], near[2]];
+    // A line's ping is answered in the tick of which the count is 4.
+    let counts = [
+        0, 0, 0, 1, 2, 3, 3, 4, 65534, 65535, near[0], near[1], near[2],
+    ];
     turn.count = rng.pick(&counts);
     let there = rng.index(state.n.clamp(1, ALERTS));
     let none = rng.pick(&[state.n.min(255), 248, 255]);
@@ -31,9 +34,10 @@ pub fn fit_turn(rng: &mut Rng, state: &mut Handler) {
     // Often a stage that the next write commits, near the count.
     let staged = rng.pick(&[0, 0, 1, 2, 3, u64::from(state.links.turn.count) + 1]);
     state.stages.timeout = staged;
-    for j in 0..2 {
+    for j in [0, 1, 3] {
         state.locals.en[j] = rng.pick(&[0, 1, 1]);
     }
+    state.links.right = rng.pick(&[0, 1, 1]);
     close_pings(state);
     if state.timer.is_on() && rng.once_in(2) {
         open_turn(state);

@@ -2,6 +2,7 @@
 //! may hold and the bits that are kept for it.
 
 use super::receiver::Bit;
+use super::sender::Sent;
 use handler::registers::{Field, Setting, INTR_BITS, PING_TIMEOUT_BITS};
 use handler::{ALERTS, CLASSES, LOCALS, WORDS};
 use std::fmt;
@@ -33,6 +34,10 @@ pub enum Place {
     TurnCount,
     /// The lines whose ping is open.
     Lines,
+    /// A field of the lines' senders.
+    Senders(Sent),
+    /// Whether the answers to a line's open ping were right so far.
+    Right,
     /// A class's register.
     Class(usize, Setting),
     /// An alert's register.
@@ -64,6 +69,8 @@ impl Place {
     pub fn all() -> Vec<Place> {
         let mut all = vec![Place::N, Place::IntrState, Place::IntrEnable];
         all.extend(Place::TIMER);
+        all.extend(Sent::ALL.map(Place::Senders));
+        all.push(Place::Right);
         for bit in Bit::ALL {
             all.extend((0..WORDS).map(|word| Place::Receivers(bit, word)));
         }
@@ -84,12 +91,13 @@ impl Place {
     }
 
     /// The most that it may hold: the largest value of a register, and one
-    /// more in a stage. N, the receivers, the turn and the lines have another
-    /// rule or none.
+    /// more in a stage. N, the receivers, the turn, the lines and their senders
+    /// have another rule or none.
     pub fn most(self) -> Option<u64> {
         let bits = match self {
             Place::N | Place::Receivers(..) => return None,
             Place::TurnNumber | Place::TurnAlert | Place::TurnCount | Place::Lines => return None,
+            Place::Senders(_) | Place::Right => return None,
             Place::PingRegwen | Place::PingEnable => 1,
             Place::PingTimeout | Place::PingStage => PING_TIMEOUT_BITS,
             Place::IntrState | Place::IntrEnable => INTR_BITS,
@@ -124,6 +132,8 @@ impl Place {
             Place::N | Place::Receivers(..) => 64,
             Place::PingTimeout | Place::TurnCount => 16,
             Place::PingStage => 32,
+            Place::Senders(_) => 4,
+            Place::Right => 1,
             Place::Class(_, setting) => setting.bits().next_power_of_two().max(8),
             // One bit more, for the value plus 1; that of CTRL is as wide as
             // that of ACCUM_THRESH.
@@ -149,6 +159,8 @@ impl fmt::Display for Place {
             Place::TurnAlert => write!(out, "the turn's alert"),
             Place::TurnCount => write!(out, "the turn's count"),
             Place::Lines => write!(out, "open lines"),
+            Place::Senders(sent) => write!(out, "senders' {}", sent.name()),
+            Place::Right => write!(out, "right answers so far"),
             Place::Class(k, setting) => write!(out, "class {k} {}", setting.name()),
             Place::Alert(field, i) => write!(out, "alert {i} {}", field.name()),
             Place::Local(field, j) => write!(out, "local {j} {}", field.name()),

@@ -54,6 +54,8 @@ impl Place {
             Place::TurnAlert => Slot::Byte(&mut state.links.turn.alert),
             Place::TurnCount => Slot::Half(&mut state.links.turn.count),
             Place::Lines => Slot::Word(&mut state.links.lines),
+            Place::Senders(sent) => Slot::Word(sent.bits(&mut state.links.senders)),
+            Place::Right => Slot::Word(&mut state.links.right),
             Place::Class(k, setting) => class_slot(&mut state.classes[k], setting),
             Place::Alert(Field::Regwen, i) => Slot::Byte(&mut state.alerts.regwen[i]),
             Place::Alert(Field::En, i) => Slot::Byte(&mut state.alerts.en[i]),

@@ -6,7 +6,7 @@ use super::subject::Subject;
 use super::summary::Summary;
 use crate::calls::{
     access, aimed, handler_of, reference_access, reference_edition, reference_of, reference_sample,
-    sample, with_spare, Odd,
+    sample, settle, with_spare, Odd,
 };
 use crate::rng::Rng;
 use handler::registers::PING_ENABLE;
@@ -26,7 +26,7 @@ pub fn tick(
         true => aimed(state, rng),
         false => access(rng),
     };
-    let sample = sample(rng);
+    let sample = sample(state, rng);
     let given = (reference_access(access), reference_sample(&sample));
     let mut twin = reference_of(state);
     let valid = twin.valid();
@@ -68,6 +68,14 @@ fn ticked_odd(wanted: &reference::Ticked, got: &Ticked) -> Option<Odd> {
     Odd::first("tick", &numbers)
         .or_else(|| Odd::pairs("tick", "acknowledge", &wanted.acknowledge, &out.acknowledge))
         .or_else(|| Odd::pairs("tick", "ping", &wanted.ping, &out.ping))
+        .or_else(|| {
+            let (want, got) = (wanted.escalation, out.escalation);
+            let wires = [
+                ("escalation positive", want.pos.into(), got.pos.into()),
+                ("escalation negative", want.neg.into(), got.neg.into()),
+            ];
+            Odd::first("tick", &wires)
+        })
 }
 
 /// What is heard otherwise than the reference hears it.
@@ -96,6 +104,7 @@ pub fn batches(
     summary: &mut Summary,
 ) -> Option<Odd> {
     let mut state = *state;
+    settle(&mut state.links);
     let count = rng.pick(&[1, 1, 3]);
     (0..count).find_map(|_| batch(subject, &mut state, rng, summary))
 }

@@ -41,7 +41,6 @@ fn well_formed(rng: &mut Rng) -> [u8; WRITTEN_BYTES] {
     let mut record = [0; WRITTEN_BYTES].map(|_: u8| rng.bits() as u8);
     record[1] &= 0xF8;
     record[2..4].fill(0);
-    record[WRITTEN_BYTES - 1] &= 0x0F;
     match record[0] >> 6 {
         0 => record[..8].fill(0),
         1 => record[4..8].fill(0),
@@ -69,7 +68,7 @@ fn row_of((access, sample): (reference::Access, reference::Sample)) -> Row {
             neg: sample.neg,
         },
         word: sample.word,
-        answers: sample.answers,
+        receive: sample.receive.map_or((0, 0), |it| (it.pos, it.neg)),
     }
 }
 

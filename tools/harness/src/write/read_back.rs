@@ -41,7 +41,11 @@ fn parse_odd(rows: &[Row], bytes: &[u8]) -> Option<Odd> {
             pos: wires_of(row.wires.pos),
             neg: wires_of(row.wires.neg),
             word: row.word,
-            answers: row.answers & 15,
+            receive: Some(reference::LinePairs {
+                pos: row.receive.0 & 15,
+                neg: row.receive.1 & 15,
+            }),
+            answers: 0,
         };
         let wanted = (reference_access(row.access()), sample);
         let got = parse(WRITTEN, record);

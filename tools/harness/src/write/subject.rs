@@ -31,7 +31,8 @@ fn proved_record(list: Lent, out: &mut [u8]) -> Answer {
         positive,
         negative,
         entropy,
-        answers,
+        receive_positive,
+        receive_negative,
     } = list;
     let lists = handler::Lists {
         kinds,
@@ -40,7 +41,8 @@ fn proved_record(list: Lent, out: &mut [u8]) -> Answer {
         positive,
         negative,
         entropy,
-        answers,
+        receive_positive,
+        receive_negative,
     };
     handler::record_numbers(lists, out)
 }
@@ -51,13 +53,24 @@ fn sides(words: &[u64]) -> Option<Vec<reference::Wires>> {
     entries.map(|entry| entry.try_into().ok()).collect()
 }
 
-/// The reference's writer. It has no list in which the words of an entry are
-/// not all there: that is one of slices that do not fit together.
+/// The reference's writer. It has no list in which the words of an entry or
+/// one wire of its receive pairs are not all there: that is one of slices that
+/// do not fit together.
 pub fn reference_record(list: Lent, out: &mut [u8]) -> Answer {
     let (positive, negative) = match (sides(list.positive), sides(list.negative)) {
         (Some(positive), Some(negative)) => (positive, negative),
         _ => return Answer(Refusal::Unrecordable.answer()),
     };
+    let pairs = list.receive_positive.iter().zip(list.receive_negative);
+    let receive: Vec<reference::LinePairs> = pairs
+        .map(|(pos, neg)| reference::LinePairs {
+            pos: *pos,
+            neg: *neg,
+        })
+        .collect();
+    if list.receive_positive.len() != list.receive_negative.len() {
+        return Answer(Refusal::Unrecordable.answer());
+    }
     Answer(reference::record(
         list.kinds,
         list.registers,
@@ -65,7 +78,7 @@ pub fn reference_record(list: Lent, out: &mut [u8]) -> Answer {
         &positive,
         &negative,
         list.entropy,
-        list.answers,
+        &receive,
         out,
     ))
 }

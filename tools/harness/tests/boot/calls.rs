@@ -3,7 +3,7 @@
 
 use crate::slip::Slip::{self, Gives, GoesOn, Takes, Ticks};
 use handler::boot::{inputs, Entry};
-use handler::{Access, Answer, Handler, Input, Installed, Sample, Wires};
+use handler::{Access, Answer, Handler, Input, Installed, LinePairs, Sample, Wires};
 
 /// The ticks of an entry without some of them.
 fn without(entry: Entry, dropped: fn(usize, &Access) -> bool) -> Vec<Input> {
@@ -58,9 +58,16 @@ pub const TICKS: &[Slip] = &[
         ticks.iter_mut().for_each(|tick| tick.sample.word = 1 << 16);
         ticks
     }),
-    Ticks("pings of lines answered", |entry| {
+    Ticks("receive pairs that answer", |entry| {
         let mut ticks = inputs(entry);
-        ticks.iter_mut().for_each(|tick| tick.sample.answers = 15);
+        let all = LinePairs::sound(15);
+        ticks.iter_mut().for_each(|tick| tick.sample.receive = all);
+        ticks
+    }),
+    Ticks("equal receive pairs", |entry| {
+        let mut ticks = inputs(entry);
+        let low = LinePairs { pos: 0, neg: 0 };
+        ticks.iter_mut().for_each(|tick| tick.sample.receive = low);
         ticks
     }),
     Ticks("only 64 alerts at rest", |entry| {

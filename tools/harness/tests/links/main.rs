@@ -1,13 +1,15 @@
 //! What pairs, pings and states show, and no word does: ticks and accounts of them that go wrong in one reading of requests
-//! (viii) and (ix). The run over states must find each.
+//! (viii), (ix) and (xi). The run over states must find each.
 
 use harness::calls::Found;
 use harness::states::{try_all, Subject, Summary, PROVED};
 use heard::HEARD;
+use lines::{CHECKED, LINE_PINGS, SENT};
 use ticks::{ACKNOWLEDGE, ANSWERED, NOWHERE, OPENED};
 use turns::{OPEN, TURNS};
 
 mod heard;
+mod lines;
 mod ticks;
 mod turns;
 mod words;
@@ -37,9 +39,9 @@ fn missed<'a>(wrong: impl Iterator<Item = (&'a str, Subject)>) -> Vec<&'a str> {
 
 #[test]
 fn the_run_over_states_finds_every_wrong_tick() {
-    let all = [ACKNOWLEDGE, OPENED, ANSWERED, NOWHERE, TURNS, OPEN]
-        .into_iter()
-        .flatten();
+    let alerts = [ACKNOWLEDGE, OPENED, ANSWERED, NOWHERE, TURNS, OPEN];
+    let lines = [SENT, CHECKED, LINE_PINGS];
+    let all = alerts.into_iter().chain(lines).flatten();
     let wrong = all.map(|(name, tick)| {
         (
             *name,

@@ -67,10 +67,6 @@ pub const TURNS: &[(&str, Tick)] = &[
             given
         },
     ),
-    ("answers from bit 4 up count", |h, access, mut sample| {
-        sample.answers |= sample.answers >> 4;
-        h.tick(access, sample)
-    }),
     (
         "the word's top bits go to the alert",
         |h, access, mut sample| {

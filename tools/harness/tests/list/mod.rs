@@ -1,6 +1,7 @@
 //! The slips: a piece of the reference's text and what replaces it.
 
 mod handshake;
+mod lines;
 mod patterns;
 mod pings;
 mod stages;
@@ -19,6 +20,9 @@ pub fn slips() -> impl Iterator<Item = &'static Slip> {
         pings::DRAWN,
         pings::ANSWERS,
         pings::RECORDS,
+        lines::SENDERS,
+        lines::LINE_PINGS,
+        lines::PAIRS,
     ];
     RULES.iter().chain(later.into_iter().flatten())
 }
@@ -64,11 +68,11 @@ const RULES: &[Slip] = &[
     Slip {
         name: "samples dropped on a refusal",
         file: "handler.rs",
-        right: "let mut assigned = self.sample_and_ping(sample, on);",
+        right: "let mut assigned = self.sample(&sample.pos, &sample.neg);",
         wrong: "let mut assigned = if answer < 0 {
             [false; CLASSES]
         } else {
-            self.sample_and_ping(sample, on)
+            self.sample(&sample.pos, &sample.neg)
         };",
     },
     Slip {
@@ -228,8 +232,12 @@ const RULES: &[Slip] = &[
         name: "access after the samples",
         file: "handler.rs",
         right: "let (answer, cleared) = self.access(access);
-        let mut assigned = self.sample_and_ping(sample, on);",
-        wrong: "let mut assigned = self.sample_and_ping(sample, on);
+        let mut standing = self.open_due(on, sample);
+        let pulse = self.pulse(standing);
+        let mut assigned = self.sample(&sample.pos, &sample.neg);",
+        wrong: "let mut standing = self.open_due(on, sample);
+        let pulse = self.pulse(standing);
+        let mut assigned = self.sample(&sample.pos, &sample.neg);
         let (answer, cleared) = self.access(access);",
     },
     Slip {

@@ -35,9 +35,13 @@ const fn slip(
 
 /// The access, and then the samples.
 const STEPS: &str = "let (answer, cleared) = self.access(access);
-        let mut assigned = self.sample_and_ping(sample, on);";
+        let mut standing = self.open_due(on, sample);
+        let pulse = self.pulse(standing);
+        let mut assigned = self.sample(&sample.pos, &sample.neg);
+        let right = self.check_answers(sample.receive, &mut assigned);
+        standing = self.settle(standing, sample, right, &mut assigned);";
 /// A line's answer.
-const ANSWERED: &str = "if (answers >> e) & 1 == 1 {";
+const ANSWERED: &str = "return (sample.answers >> e) & 1 == 1;";
 /// A due alert that is pinged, and one that is not.
 const PINGED: &str = "Turn::Alert(i) if self.pingable(i) => self.receivers[i].ask(),";
 const NOT_PINGED: &str = "Turn::Alert(_) => return Standing::Over,";
@@ -76,10 +80,10 @@ pub const TURNS: &[Slip] = &[
         COUNT,
         "self.count = if self.number % 2 == 1 { 0 } else { word as u16 };",
     ),
-    steps(
+    turn(
         "a ping counts down in the tick in which the timer goes on",
-        "if on {",
-        "if self.timer.on() {",
+        "if !on {",
+        "if !self.timer.on() {",
     ),
     turn(
         "a ping fails one tick early",
@@ -134,17 +138,21 @@ pub const TURNS: &[Slip] = &[
         "let old = self.timer.timeout;
         let (answer, cleared) = self.access(access);
         let new = std::mem::replace(&mut self.timer.timeout, old);
-        let mut assigned = self.sample_and_ping(sample, on);
+        let mut standing = self.open_due(on, sample);
+        let pulse = self.pulse(standing);
+        let mut assigned = self.sample(&sample.pos, &sample.neg);
+        let right = self.check_answers(sample.receive, &mut assigned);
+        standing = self.settle(standing, sample, right, &mut assigned);
         self.timer.timeout = new;",
     ),
-    steps(
+    turn(
         "the word of the tick before sets a turn",
         "        if standing == Standing::Over {
-            self.timer.next_turn(sample.word);",
+            self.timer.next_turn(word);",
         "        thread_local! {
             static LAST: std::cell::Cell<u32> = std::cell::Cell::new(0);
         }
-        let last = LAST.with(|last| last.replace(sample.word));
+        let last = LAST.with(|last| last.replace(word));
         if standing == Standing::Over {
             self.timer.next_turn(last);",
     ),
@@ -192,7 +200,11 @@ pub const DRAWN: &[Slip] = &[
         for i in 0..MAX_ALERTS {
             self.alerts[i].regwen = old[i].regwen;
         }
-        let mut assigned = self.sample_and_ping(sample, on);
+        let mut standing = self.open_due(on, sample);
+        let pulse = self.pulse(standing);
+        let mut assigned = self.sample(&sample.pos, &sample.neg);
+        let right = self.check_answers(sample.receive, &mut assigned);
+        standing = self.settle(standing, sample, right, &mut assigned);
         for i in 0..MAX_ALERTS {
             self.alerts[i].regwen = new[i].regwen;
         }",
@@ -222,20 +234,20 @@ pub const DRAWN: &[Slip] = &[
 
 /// Slips about answers.
 pub const ANSWERS: &[Slip] = &[
-    turn("a line's answer in the tick of its ping is lost", ANSWERED, "if (answers >> e) & 1 == 1 && self.timer.count > 0 {"),
-    turn("any line's answer counts", ANSWERED, "if answers & 15 != 0 {"),
+    turn("a line's answer in the tick of its ping is lost", ANSWERED, "return (sample.answers >> e) & 1 == 1 && self.timer.count > 0;"),
+    turn("any line's answer counts", ANSWERED, "return sample.answers & 15 != 0;"),
     turn(
         "an answer of another line fails the ping",
-        ANSWERED,
-        "if answers & 15 != 0 && (answers >> e) & 1 == 0 {
+        "if let Turn::Line(e) = turn {",
+        "if let Turn::Line(e) = turn {
+            if sample.answers & 15 != 0 && (sample.answers >> e) & 1 == 0 {
                 self.occur(ESCALATION_PING, assigned);
-            }
-            if (answers >> e) & 1 == 1 {",
+            }",
     ),
     turn(
         "a line's answer in the tick of the timeout is too late",
         ANSWERED,
-        "if (answers >> e) & 1 == 1 && (self.timer.timeout == 0 || self.timer.count < self.timer.timeout) {",
+        "return (sample.answers >> e) & 1 == 1 && (self.timer.timeout == 0 || self.timer.count < self.timer.timeout);",
     ),
     slip("a rise that answers is an event", "receiver.rs", "let event = !self.open;", "let event = true;"),
     slip(
@@ -256,13 +268,11 @@ pub const ANSWERS: &[Slip] = &[
     ),
     steps(
         "an answer is read where no ping is open",
-        "        if standing == Standing::Open {
-            standing = self.settle",
-        "        if on && standing == Standing::Waiting && sample.answers & 15 != 0 {
-            standing = Standing::Over;
+        "        standing = self.settle",
+        "        if on && standing == crate::pings::Standing::Waiting && sample.answers & 15 != 0 {
+            standing = crate::pings::Standing::Over;
         }
-        if standing == Standing::Open {
-            standing = self.settle",
+        standing = self.settle",
     ),
 ];
 

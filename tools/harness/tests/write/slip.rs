@@ -109,9 +109,9 @@ pub fn held(row: &Row) -> bool {
     let (kind, register, value) = ([row.kind], [row.register], [row.value]);
     let (wires, mut out) = ([[0; WORDS]], [0; WRITTEN_BYTES]);
     let (sides, word) = ([&wires, &wires], [row.word]);
-    let answers = [row.answers];
+    let receive = [reference::LinePairs::at_rest()];
     reference::record(
-        &kind, &register, &value, sides[0], sides[1], &word, &answers, &mut out,
+        &kind, &register, &value, sides[0], sides[1], &word, &receive, &mut out,
     ) > 0
 }
 
@@ -122,7 +122,7 @@ pub fn pour(rows: &[Row], out: &mut [u8]) {
         let register = row.register & largest(newest);
         let head = Head::new(row.kind & 3, register, row.value);
         let wires = (row.wires.pos, row.wires.neg);
-        let tail = Tail::new(row.word, row.answers.into());
+        let tail = Tail::wired(row.word, row.pairs());
         place.copy_from_slice(&pack(newest, head, wires, tail));
     }
 }

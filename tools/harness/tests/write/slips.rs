@@ -7,6 +7,11 @@ use harness::entries::{Lent, LISTS};
 use harness::record::WRITTEN_BYTES;
 use std::mem::swap;
 
+/// As many of a list.
+fn first(list: &[u8], most: usize) -> &[u8] {
+    &list[..list.len().min(most)]
+}
+
 /// Every slip; the default set must find each of them.
 pub const SLIPS: &[Slip] = &[
     Takes("wires swapped", |row| {
@@ -56,11 +61,16 @@ pub const SLIPS: &[Slip] = &[
             positive: &list.positive[..least * WORDS],
             negative: &list.negative[..least * WORDS],
             entropy: &list.entropy[..least],
-            answers: &list.answers[..least],
+            receive_positive: &list.receive_positive[..least],
+            receive_negative: &list.receive_negative[..least],
         }
     }),
-    Slices("longer answers accepted", |list| Lent {
-        answers: &list.answers[..list.answers.len().min(list.kinds.len())],
+    Slices("longer positive receive wires accepted", |list| Lent {
+        receive_positive: first(list.receive_positive, list.kinds.len()),
+        ..list
+    }),
+    Slices("longer negative receive wires accepted", |list| Lent {
+        receive_negative: first(list.receive_negative, list.kinds.len()),
         ..list
     }),
     Slices("longer words accepted", |list| Lent {
@@ -71,18 +81,24 @@ pub const SLIPS: &[Slip] = &[
         row.word = row.word.swap_bytes()
     }),
     Takes("no word written", |row| row.word = 0),
-    Takes("the answers' last line first", |row| {
-        row.answers = row.answers.reverse_bits() >> 4
+    Takes("the pairs' last line first", |row| {
+        let turned = |bits: u8| bits.reverse_bits() >> 4;
+        row.receive = (turned(row.receive.0), turned(row.receive.1))
     }),
-    Takes("line 3's answer lost", |row| row.answers &= 7),
-    Writes("the answers' upper bits written", |call, out| {
+    Takes("the pairs' negative wire first", |row| {
+        row.receive = (row.receive.1, row.receive.0)
+    }),
+    Takes("line 3's pair lost", |row| row.receive.0 &= 7),
+    Takes("receive pairs at rest", |row| row.receive = (0, 15)),
+    Writes("all positive wires first", |call, out| {
         let records = out[..call.written()].chunks_exact_mut(WRITTEN_BYTES);
-        for (record, answers) in records.zip(call.list.answers) {
-            record[WRITTEN_BYTES - 1] |= answers & 0xF0;
+        for (record, row) in records.zip(call.list.rows()) {
+            record[WRITTEN_BYTES - 1] = row.receive.0 << 4 | row.receive.1 & 15;
         }
     }),
-    Refuses("upper bits of the answers refused", -10, |call| {
-        call.list.answers.iter().any(|answers| answers >> 4 != 0)
+    Refuses("upper bits of the receive pairs refused", -10, |call| {
+        let mut positive = call.list.receive_positive.iter();
+        positive.any(|bits| bits >> 4 != 0)
     }),
     Slices("longer negative wires accepted", |list| Lent {
         negative: &list.negative[..list.negative.len().min(list.kinds.len() * WORDS)],

@@ -1,5 +1,6 @@
 //! What makes a tick worth a look.
 use super::locks;
+use super::pairs;
 use super::stages::{self, Change};
 use super::tick::Tick;
 use super::timer;
@@ -13,7 +14,7 @@ pub fn turns(t: &Tick) -> bool {
 }
 
 /// Did an interrupt, a line, a class's state, its ACCUM_CNT, a cause or a lock change, was the access refused, or a stage
-/// dropped, did the ping timer go on or a ping fail? Writes that are staged or committed are as any other that configures, and no change here.
+/// dropped, did the ping timer go on or a ping fail, or was a line's answer wrong? Writes that are staged or committed are as any other that configures, and no change here.
 pub fn changes(t: &Tick) -> bool {
     let counts = |h: &Handler| h.classes.map(|c| c.accum);
     turns(t)
@@ -25,4 +26,5 @@ pub fn changes(t: &Tick) -> bool {
         || stages::change(t) == Some(Change::Dropped)
         || timer::begins(t)
         || timer::failed(t).is_some()
+        || !pairs::faults(t).is_empty()
 }

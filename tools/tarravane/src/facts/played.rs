@@ -1,6 +1,7 @@
-//! Ticks of a text, for unit tests.
+//! Ticks of a text, for unit tests; the lines of one in which `sound` stands answer as sound receivers do.
 use super::tick::Tick;
 use super::ticks::Ticks;
+use crate::record::ends::Ends;
 use crate::text::line::{self, Line};
 use crate::trace::record::written;
 use handler::{Access, Edition, Handler, Sample};
@@ -13,20 +14,29 @@ pub fn pinging(mut handler: Handler, alert: usize) -> Handler {
     handler.tick(Access::Nothing, Sample::AT_REST).handler
 }
 
-/// The records of a text without `alerts`, of the newest edition.
-pub fn records(text: &str) -> Vec<u8> {
+/// The records of a text without `alerts`, of the newest edition, to a handler.
+pub fn records(handler: Handler, text: &str) -> Vec<u8> {
     let edition = Edition::NEWEST;
-    let record = |text| match line::parse(edition, text) {
-        Ok(Line::Tick(input)) => written(edition, &[input]).expect("a record"),
-        Ok(Line::Raw(record)) => record,
-        other => panic!("{other:?}"),
-    };
-    text.lines().flat_map(record).collect()
+    let mut ends = Ends::new(handler);
+    let mut all = Vec::new();
+    for text in text.lines() {
+        let record = match line::parse(edition, text) {
+            Ok(Line::Tick(mut input, sound)) => {
+                input.sample.receive = ends.answer(sound, input.sample.receive);
+                written(edition, &[input]).expect("a record")
+            }
+            Ok(Line::Raw(record)) => record,
+            other => panic!("{other:?}"),
+        };
+        ends.run(edition, &record);
+        all.extend(record);
+    }
+    all
 }
 
 /// The ticks that they are to a handler.
 pub fn played(handler: Handler, text: &str) -> Vec<Tick> {
-    let bytes = records(text);
+    let bytes = records(handler, text);
     let mut from = &bytes[..];
     let mut ticks = Ticks::new(&mut from, "t", Edition::NEWEST, handler);
     let mut all = Vec::new();

@@ -1,4 +1,5 @@
 //! The facts of many ticks of each edition, against what the library's counts, states and words say.
+mod pairs;
 mod timer;
 
 use super::clears::{clear, Clear};
@@ -15,7 +16,9 @@ use super::wires::raised;
 use crate::alert_bits::{alerts, below, count, is_set, put};
 use crate::trace::record::written;
 use handler::registers::{Field, Register, Setting, INTR_STATE};
-use handler::{Access, Edition, Handler, Input, Place, Refusal, Sample, Wires, CLASSES, WORDS};
+use handler::{
+    Access, Edition, Handler, Input, Place, Refusal, Sample, Wires, Word, CLASSES, WORDS,
+};
 use harness::configure::configure;
 use harness::rng::Rng;
 
@@ -39,7 +42,7 @@ fn write(rng: &mut Rng, edition: Edition) -> (u16, u32) {
     let ctrl = 0x3900 | rng.below(64) as u32;
     let map = edition.registers();
     let alert = |field| map.alert(field, i);
-    let j = rng.pick(&[0, 1, 2, 5]);
+    let j = rng.pick(&[0, 1, 2, 3, 5]);
     let local = |field| map.local(field, j);
     let class = |setting| map.class(k, setting);
     let locks = [Setting::Regwen, Setting::ClrRegwen];
@@ -80,17 +83,27 @@ fn wires(rng: &mut Rng, edition: Edition) -> Wires {
     wires
 }
 
-/// Wires; of the newest edition also a short wait of an alert that is used, and lines that answer.
-fn sample(rng: &mut Rng, edition: Edition) -> Sample {
-    let alerts = wires(rng, edition);
-    if !edition.has_timer() {
-        return Sample::of(alerts);
+/// Wires; of the newer editions also a short wait of an alert that is used, and of the edition `Pings` lines that answer.
+fn input(rng: &mut Rng, edition: Edition, access: Access) -> Input {
+    let mut input = Input::new(access, Sample::of(wires(rng, edition)));
+    if edition.has_timer() {
+        let alert = rng.pick(&used(edition)) as u32;
+        input.sample.word = alert << 16 | rng.below(4) as u32;
     }
-    let alert = rng.pick(&used(edition)) as u32;
-    Sample {
-        alerts,
-        word: alert << 16 | rng.below(4) as u32,
-        answers: (rng.bits() & rng.bits()) as u32 & 15,
+    if edition == Edition::Pings {
+        input.answers = (rng.bits() & rng.bits()) as u32 & 15;
+    }
+    input
+}
+
+/// Gives most records the right receive pairs, and every eighth any.
+fn answer(rng: &mut Rng, edition: Edition, handler: Handler, bytes: &mut [u8]) {
+    let mut h = handler;
+    for record in bytes.chunks_mut(edition.bytes()) {
+        let right = h.links.senders.right().byte();
+        let any = rng.bits() as u8;
+        record[edition.bytes() - 1] = if rng.once_in(8) { any } else { right };
+        h = h.batch(edition, record, &mut [Word::default()]).0;
     }
 }
 
@@ -115,8 +128,7 @@ fn inputs(rng: &mut Rng, edition: Edition) -> Vec<Input> {
     let mut all = Vec::new();
     while all.len() < TICKS {
         for access in accesses(rng, edition) {
-            let sample = sample(rng, edition);
-            all.push(Input { access, sample });
+            all.push(input(rng, edition, access));
         }
     }
     all.truncate(TICKS);
@@ -126,7 +138,7 @@ fn inputs(rng: &mut Rng, edition: Edition) -> Vec<Input> {
 /// The ticks of a handler.
 const TICKS: usize = 600;
 
-/// A new handler; of the newest edition the ping timer of most is on, and some alerts can be pinged.
+/// A new handler; of the newer editions the ping timer of most is on, and some alerts can be pinged.
 fn handler(rng: &mut Rng, edition: Edition) -> Handler {
     let mut h = Handler::new(edition.alerts()).0;
     if edition.has_timer() && !rng.once_in(4) {
@@ -154,9 +166,12 @@ fn records(rng: &mut Rng, edition: Edition) -> Vec<u8> {
 fn each_of(edition: Edition, check: &mut dyn FnMut(&Tick)) {
     let mut rng = Rng::new(1);
     for _ in 0..200 {
-        let bytes = records(&mut rng, edition);
-        let mut from = &bytes[..];
+        let mut bytes = records(&mut rng, edition);
         let handler = handler(&mut rng, edition);
+        if edition.has_receive() {
+            answer(&mut rng, edition, handler, &mut bytes);
+        }
+        let mut from = &bytes[..];
         let mut ticks = Ticks::new(&mut from, "t", edition, handler);
         while let Some(tick) = ticks.take().expect("a tick") {
             check(&tick);
@@ -165,7 +180,8 @@ fn each_of(edition: Edition, check: &mut dyn FnMut(&Tick)) {
     }
 }
 
-/// The account is of the very tick that the record runs: by call it has the same answer, state and pairs.
+/// The account is of the very tick that the record runs: by call it has the same answer and pairs, and the same state where the
+/// edition has receive pairs.
 #[test]
 fn what_is_heard_is_of_the_same_tick() {
     for edition in Edition::ALL {
@@ -173,7 +189,8 @@ fn what_is_heard_is_of_the_same_tick() {
         each_of(edition, &mut |t| {
             let access = called(edition, t.input.access, t.word);
             let given = t.before.tick(access, t.input.sample);
-            assert_eq!((given.answer, given.handler), (t.heard.answer, t.after));
+            assert_eq!(given.answer, t.heard.answer);
+            assert!(!edition.has_receive() || given.handler == t.after);
             let answer = t.word.refusal().map_or(Ok(t.word.value()), Err);
             assert_eq!(given.answer.value(), answer, "tick {}", t.number);
             let pairs = |pos: [u64; WORDS]| Wires {

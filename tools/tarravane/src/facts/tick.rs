@@ -28,10 +28,7 @@ impl Tick {
             number: 0,
             edition,
             record: Vec::new(),
-            input: Input {
-                access: Access::Nothing,
-                sample: Sample::AT_REST,
-            },
+            input: Input::new(Access::Nothing, Sample::AT_REST),
             before: new,
             after: new,
             heard: new.hear(Access::Nothing, Sample::AT_REST),

@@ -1,7 +1,7 @@
 //! The ping timer: whose turn it is, its ping, and the turn that a tick sets. Read off the library's states and its account of
-//! what was heard; that a line answers, the sample says.
-use super::events;
+//! what was heard; that a line answers, the sample says: its answer bit, or the fourth of four right receive pairs.
 use super::tick::Tick;
+use super::{events, pairs};
 use crate::alert_bits::{is_set, put, AlertBits};
 use handler::{Handler, Whose, WORDS};
 
@@ -10,9 +10,14 @@ use handler::{Handler, Whose, WORDS};
 pub enum End {
     Answered,
     Failed,
-    /// No ping was opened: the alert was not locked and enabled when it was due.
+    /// No ping was sent: the alert was not locked and enabled when it was due, or an escalation was on the line's wires.
     Unsent,
+    /// An escalation on the line closed it, unfailed.
+    Closed,
 }
+
+/// The ticks from a line's ping to the last of its right answers.
+const ANSWER: u32 = 4;
 
 /// What a tick does with the turn.
 #[derive(Clone, Copy, Debug, PartialEq, Eq)]
@@ -50,19 +55,42 @@ fn is_open(h: &Handler, of: Whose) -> bool {
     }
 }
 
-/// An alert's ping that opens changes its level; a line's opens when it is due.
+/// An alert's ping that opens changes its level; a line's opens when it is due, and stays open in that tick where it is sent on
+/// the wires.
 fn is_sent(t: &Tick, of: Whose) -> bool {
     let level = |h: &Handler, i| is_set(&h.links.receivers.level, i);
+    let is_new = !is_open(&t.before, of);
     match of {
         Whose::Alert(i) => i < t.before.n && level(&t.before, i) != level(&t.after, i),
-        Whose::Line(_) => !is_open(&t.before, of) && t.before.links.turn.count == 0,
+        Whose::Line(_) if t.edition.has_receive() => is_new && is_open(&t.after, of),
+        Whose::Line(_) => is_new && t.before.links.turn.count == 0,
     }
+}
+
+/// The ticks since the open ping was sent.
+fn age(t: &Tick) -> u32 {
+    u32::from(t.before.links.turn.count.saturating_add(1))
+}
+
+/// All four answers to a line's ping were right, and this tick's is the last.
+fn is_right(t: &Tick, e: usize) -> bool {
+    age(t) == ANSWER && t.before.links.right & 1 == 1 && !pairs::is_wrong(t, e)
 }
 
 fn is_answered(t: &Tick, of: Whose) -> bool {
     match of {
         Whose::Alert(i) => i < t.before.n && is_set(&events::answers(t), i),
-        Whose::Line(e) => t.input.sample.answers >> e & 1 == 1,
+        Whose::Line(e) if t.edition.has_receive() => is_right(t, e),
+        Whose::Line(e) => t.input.answers >> e & 1 == 1,
+    }
+}
+
+/// How an open ping ends that is not answered: by the timeout, which comes first, or by an escalation.
+fn unanswered(t: &Tick, of: Whose) -> End {
+    let timeout = t.after.timer.timeout;
+    match of {
+        Whose::Line(_) if timeout == 0 || age(t) < timeout => End::Closed,
+        _ => End::Failed,
     }
 }
 
@@ -76,7 +104,7 @@ pub fn ping(t: &Tick) -> Option<Ping> {
     let end = match open {
         false => End::Unsent,
         true if is_answered(t, of) => End::Answered,
-        true => End::Failed,
+        true => unanswered(t, of),
     };
     Some(Ping {
         of,

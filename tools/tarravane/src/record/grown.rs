@@ -1,5 +1,6 @@
 //! A trace that grows by the lines of a text. The bytes of a tick's record are written for it; bytes that the text has itself
 //! are passed as they are.
+use super::ends::Ends;
 use crate::names;
 use crate::source::AT_ONCE;
 use crate::text::line::Line;
@@ -16,6 +17,9 @@ pub struct Grown {
     inputs: Vec<Input>,
     lines: Vec<u64>,
     cut: bool,
+    /// The receivers at the lines' ends, once a tick has asked for them, and the bytes that they have heard.
+    ends: Option<Ends>,
+    heard: usize,
 }
 
 /// Why there is no record of such an input, if there is none.
@@ -66,7 +70,8 @@ impl Grown {
             return Err(format!("line {number}: nothing follows cut"));
         }
         match line {
-            Line::Tick(input) => self.add_tick(number, input),
+            Line::Tick(input, 0) => self.add_tick(number, input),
+            Line::Tick(input, sound) => self.add_sound(number, input, sound),
             Line::Raw(record) => self.add_bytes(&record),
             Line::Cut(left) => {
                 self.cut = true;
@@ -82,6 +87,23 @@ impl Grown {
             AT_ONCE => self.write(),
             _ => Ok(()),
         }
+    }
+
+    /// A tick in which the receivers of these lines are sound. Where N is refused no tick runs, and their pairs stay at rest.
+    fn add_sound(&mut self, number: u64, input: Input, sound: u32) -> Result<(), String> {
+        self.write()?;
+        let start = self.start();
+        if self.ends.is_none() {
+            self.ends = start.made().ok().map(Ends::new);
+            self.heard = start.bytes().len();
+        }
+        let mut input = input;
+        if let Some(ends) = &mut self.ends {
+            ends.run(start.edition, &self.bytes[self.heard..]);
+            self.heard = self.bytes.len();
+            input.sample.receive = ends.answer(sound, input.sample.receive);
+        }
+        self.add_tick(number, input)
     }
 
     fn add_bytes(&mut self, bytes: &[u8]) -> Result<(), String> {

@@ -28,7 +28,7 @@ fn is_above(edition: Edition, n: u8, register: u16) -> bool {
 fn unheeded(edition: Edition, n: u8, line: &Line) -> Vec<String> {
     let mut all = Vec::new();
     let input = match line {
-        Line::Tick(input) => input,
+        Line::Tick(input, _) => input,
         _ => return all,
     };
     if let Access::Read(register) | Access::Write(register, _) = input.access {

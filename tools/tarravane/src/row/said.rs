@@ -2,7 +2,7 @@
 use crate::names;
 use crate::text::{access, line, sample, wires};
 use handler::registers::Naming;
-use handler::{Access, Edition, Input, Sample, Wires};
+use handler::{Access, Edition, Input};
 
 /// The line of a text.
 pub fn line(naming: Naming, edition: Edition, x: &Input) -> String {
@@ -11,15 +11,7 @@ pub fn line(naming: Naming, edition: Edition, x: &Input) -> String {
 
 /// The line of a text without its entropy, of which most ticks make nothing.
 pub fn whole(naming: Naming, edition: Edition, x: &Input) -> String {
-    access::words(naming, edition, x.access) + &sample::words_without_entropy(x.sample)
-}
-
-/// The lines that answer their ping.
-fn answers(x: &Input) -> String {
-    sample::words_without_entropy(Sample {
-        alerts: Wires::REST,
-        ..x.sample
-    })
+    access::words(naming, edition, x.access) + &sample::words_without_entropy(x)
 }
 
 /// Wires as the number of alerts that are off rest, after these words; nothing where all are at rest.
@@ -30,9 +22,9 @@ fn number(words: &str, x: &Input) -> String {
     }
 }
 
-/// The access, the wires as a number, and the lines that answer.
+/// The access, the wires as a number, and what the lines send back.
 pub fn counted(naming: Naming, edition: Edition, x: &Input) -> String {
-    access::words(naming, edition, x.access) + &number(" wires ", x) + &answers(x)
+    access::words(naming, edition, x.access) + &number(" wires ", x) + &sample::words_of_lines(x)
 }
 
 /// The access with r for read and w for write, and the wires as a number.
@@ -58,7 +50,7 @@ pub fn numbered(edition: Edition, x: &Input) -> String {
     access + &number(" ", x)
 }
 
-/// All bytes of the record, and its wires, entropy and answers, which count also where it is malformed.
+/// All bytes of the record, and its wires, entropy and what the lines send back, which count also where it is malformed.
 pub fn raw(record: &[u8], x: &Input) -> String {
-    line::raw_words(record) + &sample::words(x.sample)
+    line::raw_words(record) + &sample::words(x)
 }

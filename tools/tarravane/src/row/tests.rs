@@ -70,10 +70,10 @@ fn tick(edition: Edition, before: Handler, first: u64) -> Tick {
     }
 }
 
-/// Rows of 70 bytes are those of 75 without the timer.
+/// Rows of 70 bytes are those of 75 without the timer, those of the edition `Pings` those of the newest without the lines' pairs.
 #[test]
 fn the_widest_row_fits() {
-    for edition in [Edition::Alerts64, Edition::Pings] {
+    for edition in [Edition::Alerts64, Edition::Wires] {
         let open = Handler::new(edition.alerts()).0;
         let timed = edition.has_timer().then(|| pinged(open));
         for before in [open, locked(open), shaken(open)].into_iter().chain(timed) {
@@ -148,32 +148,58 @@ fn pings_are_named() {
     assert_eq!(notes(pinging(Handler::new(9).0, 7), text), wanted);
 }
 
-/// Lines are pinged too; an alert that is not locked and enabled is not, and a ping may fail in a row of any width.
+/// Lines are pinged too; an alert that is not locked and enabled is not, and a ping may fail in a row of any width. A ping on a line is
+/// a pulse on its pair, and four right answers are its answer.
 #[test]
 fn every_end_of_a_turn_is_named() {
     let text = "write PING_TIMER_EN 1 entropy 0x20000
         none entropy 0
-        none answers 0 3 entropy 0x10001
+        none sound
+        none sound
+        none sound
+        none sound
+        none sound entropy 0x10001
         write PING_TIMEOUT_CYC 1
         write PING_TIMEOUT_CYC 1
         write ALERT1_EN 1
-        write ALERT1_EN 1
+        write ALERT1_EN 1 sound
         write ALERT1_REGWEN 0
         none entropy 0xffffffff
-        none";
+        none sound";
     let wanted = [
         "[turn 2 in 1]",
         "[unsent 2] [turn line 0 in 1]",
+        "[esc 0] [ping line 0]",
+        "[ping line 0]",
+        "[ping line 0]",
+        "[ping line 0]",
         "[ping line 0] [answer line 0] [turn 1 in 2]",
         "[1 staged]",
         "[unsent 1] [turn line 1 in 1]",
-        "[ping line 1] [1 staged]",
+        "[esc 1] [ping line 1] [1 staged]",
         "[ping line 1] [fail line 1] [turn 0 in 1]",
         "[unsent 0] [turn line 2 in 1]",
-        "[ping line 2]",
+        "[esc 2] [back 1: 01, not 10] [ping line 2]",
         "[ping line 2] [fail line 2] [turn 0 in 1]",
     ];
     assert_eq!(notes(Handler::new(3).0, text), wanted);
+}
+
+/// What came and what was right, also where nothing else happens; in a row without room how many lines they are.
+#[test]
+fn wrong_answers_are_named() {
+    let text = "none receive 0=10
+        none receive 0=11 3=00
+        none receive 0-3=01";
+    let wanted = [
+        "[back 0: 10, not 01]",
+        "[back 0: 11, not 01] [back 3: 00, not 01]",
+        "",
+    ];
+    assert_eq!(notes(Handler::new(9).0, text), wanted);
+    let all = played(Handler::new(9).0, "none receive 0-3=00");
+    let row = row(Naming::Ours, &all[0]);
+    assert!(row.ends_with(" Id !4"), "{row}");
 }
 
 #[test]

@@ -15,6 +15,7 @@ fn end(end: End) -> &'static str {
         End::Answered => "answer",
         End::Failed => "fail",
         End::Unsent => "unsent",
+        End::Closed => "closed",
     }
 }
 

@@ -13,6 +13,8 @@ pub struct Pings {
     on: Option<u64>,
     sent: u64,
     answered: u64,
+    /// Closed by an escalation on the line.
+    closed: u64,
     /// Turns that ended without a ping.
     unsent: u64,
     failed: Kept<(Whose, u64)>,
@@ -34,6 +36,7 @@ impl Pings {
         self.open = turn(&t.after).filter(|_| ping.open && ping.end.is_none());
         match ping.end {
             Some(End::Answered) => self.answered += 1,
+            Some(End::Closed) => self.closed += 1,
             Some(End::Unsent) => self.unsent += 1,
             Some(End::Failed) => {
                 self.failed.push((ping.of, t.number));
@@ -44,7 +47,11 @@ impl Pings {
 
     /// How many pings there were, and what became of them.
     fn pings(&self) -> String {
-        let ended = [(self.answered, "answered"), (self.failed.count(), "failed")];
+        let ended = [
+            (self.answered, "answered"),
+            (self.failed.count(), "failed"),
+            (self.closed, "closed by an escalation"),
+        ];
         let ended = ended.into_iter().filter(|(number, _)| *number > 0);
         let mut all: Vec<String> = ended
             .map(|(number, how)| format!("{number} {how}"))

@@ -107,9 +107,9 @@ mod tests {
         }
     }
 
-    /// The ping timer's registers are of the newest edition alone.
+    /// The ping timer's registers are of the newer editions alone.
     #[test]
-    fn an_older_edition_names_no_ping_timer() {
+    fn the_oldest_editions_name_no_ping_timer() {
         for (name, number) in [
             ("PING_TIMER_REGWEN", 4),
             ("PING_TIMEOUT_CYC", 5),
@@ -117,7 +117,9 @@ mod tests {
             ("PING_TIMER_EN", 6),
         ] {
             let text = format!("read {name}");
-            assert_eq!(parsed(Edition::Pings, &text), Ok(Access::Read(number)));
+            for edition in [Edition::Pings, Edition::Wires] {
+                assert_eq!(parsed(edition, &text), Ok(Access::Read(number)));
+            }
             for edition in [Edition::Alerts64, Edition::Alerts248] {
                 let problem = format!("no such register: {name}");
                 assert_eq!(parsed(edition, &text), Err(problem));

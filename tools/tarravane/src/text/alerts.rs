@@ -43,21 +43,22 @@ pub fn words(n: u8) -> String {
 #[cfg(test)]
 mod tests {
     use super::*;
-    use Edition::{Alerts248, Alerts64, Pings};
+    use Edition::{Alerts248, Alerts64, Pings, Wires};
 
     #[test]
     fn n_is_any_byte() {
         for edition in Edition::ALL {
-            for n in 0..254 {
+            for n in 0..253 {
                 assert_eq!(parse(edition, &words(n)), Ok(n));
             }
             assert_eq!(parse(edition, " alerts\t0x40 "), Ok(64));
         }
-        for edition in [Alerts248, Pings] {
-            assert_eq!(parse(edition, "alerts 254"), Ok(254));
-            assert_eq!(parse(edition, "alerts 255"), Ok(255));
+        for edition in [Alerts248, Pings, Wires] {
+            for n in 253..=255 {
+                assert_eq!(parse(edition, &words(n)), Ok(n));
+            }
         }
-        for (n, name) in [(254, "pings"), (255, "70")] {
+        for (n, name) in [(253, "wires"), (254, "pings"), (255, "70")] {
             let problem = format!("a first byte of {n} is that of edition {name}");
             assert_eq!(parse(Alerts64, &words(n)), Err(problem));
         }
@@ -65,7 +66,7 @@ mod tests {
 
     #[test]
     fn bad_words_are_told() {
-        for (edition, most) in [(Alerts64, 64), (Alerts248, 248), (Pings, 248)] {
+        for (edition, most) in [(Alerts64, 64), (Alerts248, 248), (Pings, 248), (Wires, 248)] {
             let wanted = format!(
                 "alerts wants a number: 1 to {most}, or another byte for a trace that is refused"
             );

@@ -43,12 +43,13 @@ mod tests {
         }
         assert_eq!(parse(" edition\t0x18 "), Ok(Edition::Alerts64));
         assert_eq!(parse("edition pings"), Ok(Edition::Pings));
+        assert_eq!(parse("edition wires"), Ok(Edition::Wires));
         assert!(!is_edition("editions 24") && !is_edition(""));
     }
 
     #[test]
     fn bad_words_are_told() {
-        let wanted = "edition wants a name: 24, 70, pings";
+        let wanted = "edition wants a name: 24, 70, pings, wires";
         for (line, problem) in [
             ("edition", wanted.to_string()),
             ("edition 25", format!("{wanted}, not 25")),

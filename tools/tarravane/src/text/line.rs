@@ -7,8 +7,9 @@ use handler::{Edition, Input};
 /// What a line after `alerts` gives.
 #[derive(Debug, PartialEq, Eq)]
 pub enum Line {
-    /// A tick, whose register has the edition's number.
-    Tick(Input),
+    /// A tick, whose register has the edition's number, and the lines whose receivers answer in it as sound ones do, line 0 at
+    /// the lowest bit.
+    Tick(Input, u32),
     /// A record as its bytes, well-formed or not.
     Raw(Vec<u8>),
     /// The bytes that follow the last record, too few for another.
@@ -19,11 +20,16 @@ pub fn is_blank(line: &str) -> bool {
     split(line).next().is_none()
 }
 
-fn parse_tick(edition: Edition, line: &str) -> Result<Input, String> {
+fn parse_tick(edition: Edition, line: &str) -> Result<Line, String> {
     let mut words = split(line);
     let access = access::parse(edition, &mut words)?;
-    let sample = sample::parse(edition, words)?;
-    Ok(Input { access, sample })
+    let beside = sample::parse(edition, words)?;
+    let input = Input {
+        access,
+        sample: beside.sample,
+        answers: beside.answers,
+    };
+    Ok(Line::Tick(input, beside.sound))
 }
 
 fn parse_raw(edition: Edition, bytes: Option<Vec<u8>>) -> Result<Line, String> {
@@ -54,7 +60,7 @@ pub fn parse(edition: Edition, line: &str) -> Result<Line, String> {
     let taken: fn(Edition, Option<Vec<u8>>) -> Result<Line, String> = match words.next() {
         Some("raw") => parse_raw,
         Some("cut") => parse_cut,
-        _ => return parse_tick(edition, line).map(Line::Tick),
+        _ => return parse_tick(edition, line),
     };
     let given = taken(edition, words.next().and_then(hex::parse))?;
     match words.next() {
@@ -65,7 +71,7 @@ pub fn parse(edition: Edition, line: &str) -> Result<Line, String> {
 
 /// The line of a tick.
 pub fn words(naming: Naming, edition: Edition, input: &Input) -> String {
-    access::words(naming, edition, input.access) + &sample::words(input.sample)
+    access::words(naming, edition, input.access) + &sample::words(input)
 }
 
 /// The line of a record that is not well-formed.
@@ -91,11 +97,11 @@ mod tests {
             let mut sample = Sample::AT_REST;
             (sample.alerts.pos[0], sample.alerts.neg[0]) = (1 << 63, u64::MAX >> 1);
             let access = Access::Write(ctrl, 14655);
-            let input = Input { access, sample };
+            let input = Input::new(access, sample);
             let line = "write CLASSA_CTRL 0x393f wires 0=10";
-            assert_eq!(parse(edition, line), Ok(Line::Tick(input)));
+            assert_eq!(parse(edition, line), Ok(Line::Tick(input, 0)));
             let odd = format!("\t write  {ctrl}\t14655 wires\t0=10 ");
-            assert_eq!(parse(edition, &odd), Ok(Line::Tick(input)));
+            assert_eq!(parse(edition, &odd), Ok(Line::Tick(input, 0)));
             assert_eq!(words(Naming::Ours, edition, &input), line);
         }
         assert!(is_blank("") && is_blank(" \t ") && !is_blank(" x"));
@@ -134,6 +140,9 @@ mod tests {
         }
     }
 
+    const RAW_75: &str = "raw wants 150 hex digits, the 75 bytes of a record";
+    const CUT_75: &str = "cut wants 2 to 148 hex digits, two for each of 1 to 74 bytes";
+
     #[test]
     fn other_lengths_are_told() {
         let zeros = |count: usize| "0".repeat(count);
@@ -150,12 +159,8 @@ mod tests {
                 "raw wants 140 hex digits, the 70 bytes of a record",
                 "cut wants 2 to 138 hex digits, two for each of 1 to 69 bytes",
             ),
-            (
-                Edition::Pings,
-                150,
-                "raw wants 150 hex digits, the 75 bytes of a record",
-                "cut wants 2 to 148 hex digits, two for each of 1 to 74 bytes",
-            ),
+            (Edition::Pings, 150, RAW_75, CUT_75),
+            (Edition::Wires, 150, RAW_75, CUT_75),
         ] {
             for (line, problem) in [
                 ("raw".to_string(), raw),

@@ -1,12 +1,12 @@
-//! What the ping timer is given in a tick: `entropy WORD`, the word that may set its next turn, and `answers E ..`, the lines
-//! that answer their ping. A word of 0 and no answer have no words.
+//! What the ping timer is given in a tick: `entropy WORD`, the word that may set its next turn, and in texts of the edition
+//! `pings` `answers E ..`, the lines that answer their ping. A word of 0 and no answer have no words.
 use super::word::{number, shown};
 use handler::{Edition, LINES};
 use std::fmt::Write;
 
-/// The older editions hold neither.
-fn held(edition: Edition, part: &str) -> Result<(), String> {
-    match edition.has_timer() {
+/// Not every edition holds both.
+fn held(holds: bool, edition: Edition, part: &str) -> Result<(), String> {
+    match holds {
         true => Ok(()),
         false => Err(format!("edition {} has no {part}", edition.name())),
     }
@@ -14,7 +14,7 @@ fn held(edition: Edition, part: &str) -> Result<(), String> {
 
 /// The word after `entropy`.
 pub fn parse_entropy(edition: Edition, words: &[&str]) -> Result<u32, String> {
-    held(edition, "entropy")?;
+    held(edition.has_timer(), edition, "entropy")?;
     let word = match *words {
         [word] => word,
         [] => return Err("entropy wants a word of 32 bits".to_string()),
@@ -27,7 +27,8 @@ pub fn parse_entropy(edition: Edition, words: &[&str]) -> Result<u32, String> {
 
 /// The lines after `answers`: line 0 is the lowest bit.
 pub fn parse_answers(edition: Edition, words: &[&str]) -> Result<u32, String> {
-    held(edition, "answers")?;
+    let holds = edition.has_timer() && !edition.has_receive();
+    held(holds, edition, "answers")?;
     let mut all = 0;
     for word in words {
         let line = number(word).filter(|line| *line < LINES as u64);
@@ -83,7 +84,7 @@ mod tests {
         for lines in 1..16 {
             let text = answers(lines | 0xF0);
             let text = text.strip_prefix(" answers ").expect("lines");
-            assert_eq!(parse_answers(Edition::NEWEST, &split(text)), Ok(lines));
+            assert_eq!(parse_answers(Edition::Pings, &split(text)), Ok(lines));
         }
         assert_eq!(entropy(0) + &answers(0xF0), "");
         assert_eq!(entropy(0x30_0002), " entropy 0x300002");
@@ -109,13 +110,16 @@ mod tests {
             ("0,1", "no such line, 0 to 3: 0,1"),
             ("1 3 1", "line 1 is named twice"),
         ] {
-            let parsed = parse_answers(Edition::NEWEST, &split(text));
+            let parsed = parse_answers(Edition::Pings, &split(text));
             assert_eq!(parsed, Err(problem.to_string()));
         }
     }
 
     #[test]
-    fn older_editions_have_neither() {
+    fn the_oldest_editions_have_neither_and_the_newest_no_answers() {
+        assert_eq!(parse_entropy(Edition::NEWEST, &["1"]), Ok(1));
+        let problem = "edition wires has no answers".to_string();
+        assert_eq!(parse_answers(Edition::NEWEST, &["1"]), Err(problem));
         for (edition, name) in [(Edition::Alerts64, "24"), (Edition::Alerts248, "70")] {
             let problem = format!("edition {name} has no entropy");
             assert_eq!(parse_entropy(edition, &["1"]), Err(problem));

@@ -1,6 +1,6 @@
 //! The bytes of a record, and what they hold. The proved writer gives those of the newest edition; records of an older one are
 //! packed here, in plain Rust. What is read of a record is for showing only: the library judges it.
-use handler::{Access, Edition, Input, Refusal, Sample, Wires, WORDS};
+use handler::{Access, Edition, Input, LinePairs, Refusal, Sample, Wires, WORDS};
 
 /// The words of the wires; at places that the edition has no wires for, those at rest.
 fn words(bytes: &[u8], rest: u8) -> [u64; WORDS] {
@@ -11,23 +11,63 @@ fn words(bytes: &[u8], rest: u8) -> [u64; WORDS] {
     all.map(u64::from_be_bytes)
 }
 
-/// The entropy word and the lines that answer their ping, line 0 lowest; of an older record none.
-fn pings(bytes: &[u8]) -> (u32, u32) {
-    match *bytes {
-        [a, b, c, d, answers] => {
-            // In the record line 0 is the highest of the last four bits.
-            let lines = u32::from(answers << 4).reverse_bits() >> 24;
-            (u32::from_be_bytes([a, b, c, d]), lines)
-        }
-        _ => (0, 0),
-    }
+/// What stands behind the wires.
+#[derive(Clone, Copy, PartialEq, Eq)]
+struct Tail {
+    /// The entropy word.
+    word: u32,
+    receive: LinePairs,
+    /// The lines that answer their ping, line 0 at the lowest bit.
+    answers: u32,
 }
 
-/// The bytes of both.
-fn ping_bytes(sample: &Sample) -> [u8; 5] {
-    let [a, b, c, d] = sample.word.to_be_bytes();
-    let answers = (sample.answers as u8 & 15).reverse_bits() >> 4;
-    [a, b, c, d, answers]
+impl Tail {
+    /// That of a record which has none.
+    const NONE: Tail = Tail {
+        word: 0,
+        receive: LinePairs::REST,
+        answers: 0,
+    };
+
+    fn of(input: &Input) -> Tail {
+        Tail {
+            word: input.sample.word,
+            // Bits from 4 up are no line's.
+            receive: LinePairs::of_byte(input.sample.receive.byte()),
+            answers: input.answers & 15,
+        }
+    }
+
+    /// The last byte is the receive pairs' or, in an older record, the answers', line 0 at the highest of its last four bits.
+    fn read(edition: Edition, bytes: &[u8]) -> Tail {
+        let (word, last) = match *bytes {
+            [a, b, c, d, last] => (u32::from_be_bytes([a, b, c, d]), last),
+            _ => return Tail::NONE,
+        };
+        match edition.has_receive() {
+            true => Tail {
+                word,
+                receive: LinePairs::of_byte(last),
+                ..Tail::NONE
+            },
+            false => Tail {
+                word,
+                answers: u32::from(last << 4).reverse_bits() >> 24,
+                ..Tail::NONE
+            },
+        }
+    }
+
+    /// Its bytes; none where the edition does not hold it.
+    fn bytes(self, edition: Edition) -> Option<Vec<u8>> {
+        let last = match edition.has_receive() {
+            true => self.receive.byte(),
+            false => (self.answers as u8).reverse_bits() >> 4,
+        };
+        let [a, b, c, d] = self.word.to_be_bytes();
+        let bytes = [a, b, c, d, last][..edition.tail_bytes()].to_vec();
+        (Tail::read(edition, &bytes) == self).then_some(bytes)
+    }
 }
 
 /// What a record's bits hold where it is well-formed; of a malformed one a part is lost. The register has the edition's number.
@@ -44,13 +84,16 @@ pub fn input(edition: Edition, record: &[u8]) -> Input {
         _ => Access::Malformed,
     };
     let (pos, neg) = (words(pos, 0), words(neg, 255));
-    let (word, answers) = pings(rest);
-    let sample = Sample {
-        alerts: Wires { pos, neg },
-        word,
-        answers,
-    };
-    Input { access, sample }
+    let tail = Tail::read(edition, rest);
+    Input {
+        access,
+        sample: Sample {
+            alerts: Wires { pos, neg },
+            word: tail.word,
+            receive: tail.receive,
+        },
+        answers: tail.answers,
+    }
 }
 
 /// The record that holds the input; none where no well-formed one does.
@@ -62,8 +105,8 @@ fn packed(edition: Edition, input: &Input) -> Option<Vec<u8>> {
         Access::Malformed => return None,
     };
     let bits = edition.register_bits();
-    let pinged = ping_bytes(&input.sample);
-    if register >> bits != 0 || !edition.has_timer() && pinged != [0; 5] {
+    let tail = Tail::of(input).bytes(edition)?;
+    if register >> bits != 0 {
         return None;
     }
     let first = kind << 62 | u64::from(register) << (62 - bits) | u64::from(value);
@@ -73,9 +116,7 @@ fn packed(edition: Edition, input: &Input) -> Option<Vec<u8>> {
         let bytes = wires.map(u64::to_be_bytes).concat();
         record.extend_from_slice(&bytes[..edition.wire_bytes()]);
     }
-    if edition.has_timer() {
-        record.extend(pinged);
-    }
+    record.extend(tail);
     Some(record)
 }
 
@@ -99,7 +140,7 @@ pub fn written(edition: Edition, inputs: &[Input]) -> Result<Vec<u8>, Refusal> {
 mod tests {
     use super::*;
     use handler::{Handler, Place, Word};
-    use harness::record::{pack, Head, Tail};
+    use harness::record::{pack, Head};
     use harness::rng::Rng;
 
     /// An input that a record of the edition holds; places without a wire are at rest.
@@ -117,13 +158,19 @@ mod tests {
             words(&bytes, rest)
         };
         let (pos, neg) = (wires(0), wires(255));
-        let timer = u32::from(edition.has_timer());
-        let sample = Sample {
-            alerts: Wires { pos, neg },
-            word: rng.bits() as u32 * timer,
-            answers: rng.below(16) as u32 * timer,
-        };
-        Input { access, sample }
+        let tail: Vec<u8> = (0..edition.tail_bytes())
+            .map(|_| rng.bits() as u8)
+            .collect();
+        let tail = Tail::read(edition, &tail);
+        Input {
+            access,
+            sample: Sample {
+                alerts: Wires { pos, neg },
+                word: tail.word,
+                receive: tail.receive,
+            },
+            answers: tail.answers,
+        }
     }
 
     fn harness_record(edition: Edition, input: &Input) -> Vec<u8> {
@@ -135,7 +182,10 @@ mod tests {
         };
         let head = Head::new(kind, register, value);
         let Wires { pos, neg } = input.sample.alerts;
-        let tail = Tail::new(input.sample.word, input.sample.answers);
+        let tail = match edition.has_receive() {
+            true => harness::record::Tail::wired(input.sample.word, input.sample.receive),
+            false => harness::record::Tail::new(input.sample.word, input.answers),
+        };
         pack(edition, head, (pos, neg), tail)
     }
 
@@ -181,15 +231,13 @@ mod tests {
 
     #[test]
     fn what_no_record_holds_is_refused_with_10() {
-        let rest = |access| Input {
-            access,
-            sample: Sample::AT_REST,
-        };
+        let rest = |access| Input::new(access, Sample::AT_REST);
         let good = rest(Access::Nothing);
         for (edition, over) in [
             (Edition::Alerts64, 1024),
             (Edition::Alerts248, 2048),
             (Edition::Pings, 2048),
+            (Edition::Wires, 2048),
         ] {
             for bad in [
                 Access::Read(over),
@@ -206,34 +254,57 @@ mod tests {
         }
     }
 
-    /// An older record has neither entropy nor answers.
+    /// What the ping timer is given and what the lines send back, each in the editions that hold it.
     #[test]
-    fn an_older_record_holds_no_ping() {
-        for (word, answers) in [(1, 0), (0, 8)] {
-            let sample = Sample {
-                word,
-                answers,
-                ..Sample::AT_REST
-            };
-            let access = Access::Nothing;
-            let input = Input { access, sample };
-            assert!(packed(Edition::Pings, &input).is_some());
-            for edition in [Edition::Alerts64, Edition::Alerts248] {
-                assert_eq!(written(edition, &[input]), Err(Refusal::NO_RECORD));
+    fn an_edition_holds_what_it_brings() {
+        use Edition::*;
+        let with = |word, receive, answers| {
+            let mut input = Input::new(Access::Nothing, Sample::AT_REST);
+            (input.sample.word, input.sample.receive) = (word, receive);
+            Input { answers, ..input }
+        };
+        let broken = LinePairs { pos: 4, neg: 15 };
+        for (input, hold) in [
+            (with(1, LinePairs::REST, 0), &[Pings, Wires][..]),
+            (with(0, LinePairs::REST, 8), &[Pings]),
+            (with(0, broken, 0), &[Wires]),
+            (with(0, broken, 1), &[]),
+            (
+                with(
+                    0,
+                    LinePairs {
+                        pos: 0xF0,
+                        neg: 0xFF,
+                    },
+                    0xF0,
+                ),
+                &Edition::ALL,
+            ),
+        ] {
+            for edition in Edition::ALL {
+                let packed = packed(edition, &input);
+                assert_eq!(packed.is_some(), hold.contains(&edition), "{edition:?}");
+                if edition != Edition::NEWEST {
+                    assert_eq!(written(edition, &[input]).ok(), packed);
+                }
             }
         }
     }
 
-    /// Line 0 is the first of the last four bits.
+    /// Line 0 is the first of the last four bits, and its positive wire the first of all eight.
     #[test]
-    fn word_and_answers_stand_at_the_end() {
-        let sample = Sample {
-            word: 0x1234_5678,
-            answers: 0b0011,
-            ..Sample::AT_REST
-        };
-        let access = Access::Nothing;
-        let bytes = packed(Edition::Pings, &Input { access, sample }).expect("a record");
+    fn word_answers_and_pairs_stand_at_the_end() {
+        let mut input = Input::new(Access::Nothing, Sample::AT_REST);
+        input.sample.word = 0x1234_5678;
+        input.answers = 0b0011;
+        let bytes = packed(Edition::Pings, &input).expect("a record");
         assert_eq!(bytes[70..], [0x12, 0x34, 0x56, 0x78, 0b1100]);
+        input.answers = 0;
+        input.sample.receive = LinePairs {
+            pos: 0b0011,
+            neg: 0b1110,
+        };
+        let bytes = packed(Edition::Wires, &input).expect("a record");
+        assert_eq!(bytes[70..], [0x12, 0x34, 0x56, 0x78, 0b1011_0101]);
     }
 }

@@ -77,17 +77,23 @@ mod tests {
     /// What is read gives the same bytes, and no other byte is taken.
     #[test]
     fn every_start_goes_both_ways() {
-        let mut all = vec![vec![], vec![254], vec![255]];
-        all.extend((0..254).map(|n| vec![n]));
-        all.extend((0..=255).flat_map(|n| [vec![254, n], vec![255, n]]));
+        let marks = [253, 254, 255];
+        let mut all = vec![vec![]];
+        all.extend((0..=255).map(|n| vec![n]));
+        all.extend((0..=255).flat_map(|n| marks.map(|mark| vec![mark, n])));
         for bytes in all {
             let more = [&bytes[..], &[9; 3]].concat();
-            let whole = !bytes.is_empty() && bytes != [254] && bytes != [255];
+            let whole = match bytes[..] {
+                [] => false,
+                [n] => !marks.contains(&n),
+                _ => true,
+            };
             let mut from = if whole { &more[..] } else { &bytes[..] };
             let start = Start::read(&mut from, "t").expect("it is read");
             assert_eq!(start.bytes(), bytes);
             assert_eq!(from.len(), if whole { 3 } else { 0 });
             let edition = match bytes.first() {
+                Some(253) => Edition::Wires,
                 Some(254) => Edition::Pings,
                 Some(255) => Edition::Alerts248,
                 _ => Edition::Alerts64,
@@ -151,6 +157,20 @@ mod tests {
     }
 
     #[test]
+    fn a_missing_n_is_told_by_each_mark() {
+        for edition in Edition::ALL {
+            let why = Start { edition, n: None }
+                .made()
+                .expect_err("it is refused");
+            let wanted = match edition.mark() {
+                Some(mark) => format!("the trace ends after {mark}: "),
+                None => "the trace is empty: ".to_string(),
+            };
+            assert!(why.starts_with(&wanted), "{why}");
+        }
+    }
+
+    #[test]
     fn whole_records_are_counted() {
         let start = |edition| Start {
             edition,
@@ -164,7 +184,9 @@ mod tests {
             assert_eq!(start(Edition::Alerts248).records(bytes), records);
         }
         for (bytes, records) in [(1, 0), (2, 0), (76, 0), (77, 1), (151, 1), (152, 2)] {
-            assert_eq!(start(Edition::Pings).records(bytes), records);
+            for edition in [Edition::Pings, Edition::Wires] {
+                assert_eq!(start(edition).records(bytes), records);
+            }
         }
     }
 }

@@ -1,5 +1,5 @@
 //! Is it a text that is given where a trace is wanted? A first record that is well-formed has bytes that are 0, which no text
-//! has, so no such trace is taken for one; and none that begins with 254 or 255, which are no UTF-8.
+//! has, so no such trace is taken for one; and none that begins with 253, 254 or 255, which are no UTF-8.
 use crate::source::filled;
 use crate::text::{self, line};
 use std::io::Read;
@@ -108,7 +108,7 @@ mod tests {
             bytes[5..].copy_from_slice(b"\nalerts 2\nalerts 2\n\n");
             assert!(!is_text(&bytes), "{n}");
             // The mark of an edition is no text, whatever follows it.
-            for mark in [254, 255] {
+            for mark in [253, 254, 255] {
                 let marked = [&[mark, n][..], b"\nalerts 2\n"].concat();
                 assert!(!is_text(&marked), "{mark}, {n}");
             }

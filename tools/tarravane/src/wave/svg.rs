@@ -11,6 +11,7 @@ mod layout;
 mod legend;
 mod marks;
 mod page;
+mod pairs;
 mod picture;
 mod style;
 mod timer;

@@ -85,7 +85,7 @@ impl Played<'_> {
         out: &mut dyn Write,
     ) -> Result<Option<String>, Failure> {
         let edition = self.trace.start.edition;
-        let all = Moved::all(self.handler.n, edition.has_timer());
+        let all = Moved::all(self.handler.n, edition);
         let moved = looked.map_or(&all, |looked| &looked.moved);
         let zero = Tick::before_first(edition, self.handler);
         let mut dump = Dump::begin(out, &self.head(), &scopes(moved), &zero)?;

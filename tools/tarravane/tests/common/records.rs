@@ -1,5 +1,5 @@
 //! The bytes of traces, packed by the harness.
-use handler::{Edition, Wires};
+use handler::{Edition, LinePairs, Wires};
 use harness::record::{pack, Head, Tail};
 
 /// All wires of a record of 24 bytes at (0,1).
@@ -10,9 +10,14 @@ pub fn start(edition: Edition, n: u8) -> Vec<u8> {
     edition.mark().into_iter().chain([n]).collect()
 }
 
-/// A record's bytes; the register has the edition's number.
+/// A record's bytes, the lines' receive pairs at rest; the register has the edition's number.
 pub fn record(edition: Edition, kind: u64, register: u64, value: u64, wires: Wires) -> Vec<u8> {
-    harness::record::record(edition, kind, register, value, (wires.pos, wires.neg))
+    let wires = (wires.pos, wires.neg);
+    let mut record = harness::record::record(edition, kind, register, value, wires);
+    if edition.has_receive() {
+        record[edition.bytes() - 1] = LinePairs::REST.byte();
+    }
+    record
 }
 
 /// The records of the writes that give a register its value, all wires at rest.
@@ -49,6 +54,18 @@ pub fn record_pings(
         Tail::new(pings.0, pings.1),
     );
     pack(Edition::Pings, head, (wires.pos, wires.neg), tail)
+}
+
+/// A record of 75 bytes that has an entropy word and receive pairs.
+pub fn record_wires(
+    kind: u8,
+    register: u16,
+    value: u32,
+    wires: Wires,
+    (word, receive): (u32, LinePairs),
+) -> Vec<u8> {
+    let (head, tail) = (Head::new(kind, register, value), Tail::wired(word, receive));
+    pack(Edition::Wires, head, (wires.pos, wires.neg), tail)
 }
 
 /// Wires at rest but for these alerts; 0b10 has the positive wire at 1, the negative at 0.

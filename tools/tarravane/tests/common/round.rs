@@ -4,8 +4,8 @@ use super::ended;
 /// The status of what a trace gives: 1 where it is cut or its N refused.
 pub fn status(trace: &[u8]) -> i32 {
     let whole = match trace {
-        [] | [254] | [255] => false,
-        [254, n, records @ ..] => (1..=248).contains(n) && records.len() % 75 == 0,
+        [] | [253] | [254] | [255] => false,
+        [253 | 254, n, records @ ..] => (1..=248).contains(n) && records.len() % 75 == 0,
         [255, n, records @ ..] => (1..=248).contains(n) && records.len() % 70 == 0,
         [n, records @ ..] => (1..=64).contains(n) && records.len() % 24 == 0,
     };

@@ -5,7 +5,7 @@ use mathlib.Core.Bool.{Bool}
 use borrow.Author.Needs.{needs}
 use lib.ListN.{length}
 use Rattle.rules.specs.State.{most, localCount}
-use Rattle.samples.specs.Linked.{LinkedBy}
+use Rattle.samples.specs.Quiet.{QuietBy}
 use Rattle.handler.proofs.QuietTicks.{quiet-tick}
 use Rattle.handler.proofs.quiet.quiet_of.Statement.{statement}
 use Rattle.handler.proofs.quiet.quiet_of.Tie as tie
@@ -13,8 +13,8 @@ use Rattle.handler.proofs.quiet.quiet_of.Tie as tie
 is-pingable-requires : tie.Need-is-pingable-requires
 is-pingable-requires c κs = search needs
 
-links-after-requires : tie.Need-links-after-requires
-links-after-requires c κs = search needs
+hear-quiet-requires : tie.Need-hear-quiet-requires
+hear-quiet-requires c κs = search needs
 
 unmoved-by-requires : tie.Need-unmoved-by-requires
 unmoved-by-requires c κs = search needs
@@ -33,8 +33,8 @@ returns c =
     let h = b .before .args .h in
     let x = b .before .args .x in
     λ t. quiet-tick h x _ _ _ (b .before .pre) (alerts-long b) (locals-long b)
-    (subst (λ (p : Bool). LinkedBy (h .n) (h .links) (h .timer) p (x .sample) (r .links-after .result)) (r .before .is-pingable .ensures) (r .links-after .ensures))
+    (subst (λ (p : Bool). QuietBy (h .n) (h .links) (h .timer) p (x .sample) (r .hear-quiet .result)) (r .before .is-pingable .ensures) (r .hear-quiet .ensures))
     (c .before .before .before .unmoved-by .ensures) t
 
 pub quiet-of-spec : {M : Type 1} → statement M
-quiet-of-spec = tie.close (tie.spec is-pingable-requires links-after-requires unmoved-by-requires returns)
+quiet-of-spec = tie.close (tie.spec is-pingable-requires hear-quiet-requires unmoved-by-requires returns)

@@ -26,18 +26,25 @@ interrupts-on-requires c κs = search needs
 lines-on-requires : tie.Need-lines-on-requires
 lines-on-requires c κs = search needs
 
+cast-link : tie.Need-cast-link
+cast-link c = search needs
+
+link-requires : tie.Need-link-requires
+link-requires c κs = search needs
+
 returns : tie.Need-returns
 returns c =
-    let l = c .before .before .before in
+    let l = c .before .before .before .before .before in
     let s = l .before .before .before .before in
-    tick-by _ _ _ _ _ _ _ _ _
+    tick-by _ _ _ _ _ _ _ _ _ _
     (s .before .before .before .before .access .ensures)
     (s .before .hear .ensures)
     (s .sample .ensures)
     (l .before .interrupts-after .ensures)
     (l .classes-after .ensures)
-    (c .before .interrupts-on .ensures)
-    (c .lines-on .ensures)
+    (c .interrupts-on .ensures)
+    (c .before .before .before .before .lines-on .ensures)
+    (c .before .link .ensures)
 
 pub step-spec : {M : Type 1} → statement M
 step-spec =
@@ -48,6 +55,8 @@ step-spec =
     sample-requires
     interrupts-after-requires
     classes-after-requires
-    interrupts-on-requires
     lines-on-requires
+    cast-link
+    link-requires
+    interrupts-on-requires
     returns)

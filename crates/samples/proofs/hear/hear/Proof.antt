@@ -1,4 +1,4 @@
--- `hear::hear` meets its contract: the facts that its calls ensure, put together.
+-- `hear::hear` meets its contract.
 -- Assumes nothing.
 use Rattle.samples.proofs.Hearing.{heard-by}
 use borrow.Author.Needs.{needs}
@@ -19,9 +19,9 @@ raise-requires c κs = search needs
 
 returns : tie.Need-returns
 returns c =
-    let r = c .before .before .before .before .before .before .before .before in
+    let r = c .before .before .before .before .before .before .before .before .before .before in
     let s = r .before .before .before .before .before .before .before in
-    heard-by (s .args .g) (s .args .s) (s .args .fx) _ _ _ _ (s .pre) (r .before .is-pingable .ensures) (r .pace .ensures) (c .before .any-broken .ensures) (c .raise .ensures)
+    heard-by (s .args .g) (s .args .s) (s .args .fx) _ _ _ _ (s .pre) (r .before .is-pingable .ensures) (r .pace .ensures) (c .before .before .before .any-broken .ensures) (c .before .before .raise .ensures)
 
 pub hear-spec : {M : Type 1} → statement M
 hear-spec =

@@ -1,6 +1,6 @@
 -- `new::reset` meets its contract.
 -- Assumes nothing.
-use Rattle.bits.specs.Bits.{wordOf}
+use Rattle.bits.specs.Bits.{wordOf, bitsOf}
 use Rattle.bits.specs.Index.{eachFrom}
 use Rattle.rules.specs.State.{newHandler}
 use borrow.Author.Needs.{needs}
@@ -14,7 +14,7 @@ none-requires : tie.Need-none-requires
 none-requires c κs = search needs
 
 returns : tie.Need-returns
-unfolding newHandler eachFrom wordOf
+unfolding newHandler eachFrom wordOf bitsOf
 returns c = rw (c .before .reset-class .ensures, c .none .ensures)
 
 pub reset-spec : {M : Type 1} → statement M

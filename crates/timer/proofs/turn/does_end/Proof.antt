@@ -19,7 +19,7 @@ does-fail-requires c κs = search needs
 
 returns : tie.Need-returns
 unfolding ends
-returns c = simp (c .before .before .before .before .is-due .ensures, c .before .before .before .does-open .ensures, c .before .before .is-open .ensures, c .before .does-fail .ensures)
+returns c = simp (c .before .before .does-fail .ensures, c .before .before .before .is-open .ensures, c .before .before .before .before .does-open .ensures, c .before .before .before .before .before .is-due .ensures)
 
 pub does-end-spec : {M : Type 1} → statement M
 does-end-spec =

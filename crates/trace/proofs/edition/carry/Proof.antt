@@ -20,6 +20,9 @@ without-timer-requires c κs = search needs
 enum-told-3 : tie.Need-enum-told-3
 enum-told-3 c = search needs
 
+enum-told-4 : tie.Need-enum-told-4
+enum-told-4 c = search needs
+
 returns : tie.Need-returns
 returns c = rw (c .before .enum-told .given .1) (c .carry-64 .ensures)
 
@@ -30,6 +33,9 @@ returns-2 c = rw (c .before .enum-told2 .given .1) (c .without-timer .ensures)
 returns-3 : tie.Need-returns-3
 returns-3 c = search needs
 
+returns-4 : tie.Need-returns-4
+returns-4 c = search needs
+
 pub carry-spec : {M : Type 1} → statement M
 carry-spec =
     tie.close
@@ -39,6 +45,8 @@ carry-spec =
     enum-told-2
     without-timer-requires
     enum-told-3
+    enum-told-4
     returns
     returns-2
-    returns-3)
+    returns-3
+    returns-4)

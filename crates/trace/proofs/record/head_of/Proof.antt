@@ -22,6 +22,12 @@ enum-told-3 c = search needs
 head-248-requires-2 : tie.Need-head-248-requires-2
 head-248-requires-2 c κs = search needs
 
+enum-told-4 : tie.Need-enum-told-4
+enum-told-4 c = search needs
+
+head-248-requires-3 : tie.Need-head-248-requires-3
+head-248-requires-3 c κs = search needs
+
 returns : tie.Need-returns
 returns c = rw (c .before .enum-told .given .1) (c .head-64 .ensures)
 
@@ -30,6 +36,9 @@ returns-2 c = rw (c .before .enum-told2 .given .1) (c .head-248 .ensures)
 
 returns-3 : tie.Need-returns-3
 returns-3 c = rw (c .before .enum-told3 .given .1) (c .head-2482 .ensures)
+
+returns-4 : tie.Need-returns-4
+returns-4 c = rw (c .before .enum-told4 .given .1) (c .head-2483 .ensures)
 
 pub head-of-spec : {M : Type 1} → statement M
 head-of-spec =
@@ -41,6 +50,9 @@ head-of-spec =
     head-248-requires
     enum-told-3
     head-248-requires-2
+    enum-told-4
+    head-248-requires-3
     returns
     returns-2
-    returns-3)
+    returns-3
+    returns-4)

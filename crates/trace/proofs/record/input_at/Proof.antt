@@ -1,10 +1,9 @@
 -- `record::input_at` meets its contract: the first eight bytes, the tail, the positive wires and the negative wires.
 -- Assumes nothing.
 use Prim.Native.Nat.{ℕ, _/_}
-use mathlib.Core.Path.{ap, _∙_}
+use mathlib.Core.Path.{ap}
 use native.Mathlib.Omega.{arith}
 use borrow.Author.Needs.{needs}
-use Rattle.trace_laws.proofs.OtherWay.{other-pack}
 use Rattle.trace.proofs.Records.{record-parts, record-input}
 use Rattle.trace.proofs.record.input_at.Statement.{statement}
 use Rattle.trace.proofs.record.input_at.Tie as tie
@@ -56,11 +55,8 @@ wires-at-requires-2 c κs =
     let b = s .before .before .before .before in
     omega (arith, record-parts (b .args .edition), b .pre, ap (λ (n : ℕ). n / 8) (s .alerts .ensures))
 
-four-requires : tie.Need-four-requires
-four-requires c κs = search needs
-
-cast-answers : tie.Need-cast-answers
-cast-answers c = search needs
+receive-of-requires : tie.Need-receive-of-requires
+receive-of-requires c κs = search needs
 
 returns : tie.Need-returns
 returns c =
@@ -71,7 +67,7 @@ returns c =
     let begin = first .before .before in
     record-input (begin .args .edition) (begin .args .at) (begin .args .bytes .now) (λ i. first .before .shared-slice-known .given i .fits) (begin .pre) _ _ _ _ _ _ _ _ _
     (first .word-at .ensures) (sizes .before .head-of .ensures) (sizes .alerts .ensures) (access .before .tail-at .ensures) (access .access-in .ensures)
-    (second .before .before .carried .ensures) (second .before .wires-at .ensures) (second .wires-at2 .ensures) (c .four .ensures .0 ∙ other-pack _)
+    (second .before .before .carried .ensures) (second .before .wires-at .ensures) (second .wires-at2 .ensures) (c .receive-of .ensures)
 
 pub input-at-spec : {M : Type 1} → statement M
 input-at-spec =
@@ -91,6 +87,5 @@ input-at-spec =
     add-wires-at-2
     add-wires-at-3
     wires-at-requires-2
-    four-requires
-    cast-answers
+    receive-of-requires
     returns)

@@ -25,6 +25,12 @@ enum-told-3 c = search needs
 wires-248-requires-2 : tie.Need-wires-248-requires-2
 wires-248-requires-2 c κs = omega (arith, ap wireBytes (c .enum-told3 .given .1), c .before .before .before .pre)
 
+enum-told-4 : tie.Need-enum-told-4
+enum-told-4 c = search needs
+
+wires-248-requires-3 : tie.Need-wires-248-requires-3
+wires-248-requires-3 c κs = omega (arith, ap wireBytes (c .enum-told4 .given .1), c .before .before .before .pre)
+
 returns : tie.Need-returns
 returns c = rw (c .before .enum-told .given .1) (c .wires-64 .ensures)
 
@@ -33,6 +39,9 @@ returns-2 c = rw (c .before .enum-told2 .given .1) (c .wires-248 .ensures)
 
 returns-3 : tie.Need-returns-3
 returns-3 c = rw (c .before .enum-told3 .given .1) (c .wires-2482 .ensures)
+
+returns-4 : tie.Need-returns-4
+returns-4 c = rw (c .before .enum-told4 .given .1) (c .wires-2483 .ensures)
 
 pub wires-at-spec : {M : Type 1} → statement M
 wires-at-spec =
@@ -44,6 +53,9 @@ wires-at-spec =
     wires-248-requires
     enum-told-3
     wires-248-requires-2
+    enum-told-4
+    wires-248-requires-3
     returns
     returns-2
-    returns-3)
+    returns-3
+    returns-4)

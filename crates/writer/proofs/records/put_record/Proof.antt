@@ -1,4 +1,4 @@
--- `records::put_record` meets its contract: eight bytes of access, two wire sets, the word and the answers.
+-- `records::put_record` meets its contract: eight bytes of access, two wire sets, the word and the receive pairs.
 -- Assumes nothing.
 use Prim.Native.Nat.{_+_, _*_}
 use Rattle.rules.specs.State.{words}
@@ -26,11 +26,11 @@ add-put-wires-2 c = search needs
 put-wires-requires-2 : tie.Need-put-wires-requires-2
 put-wires-requires-2 c κs = search needs
 
-add-put-pings : tie.Need-add-put-pings
-add-put-pings c = search needs
+add-put-last : tie.Need-add-put-last
+add-put-last c = search needs
 
-put-pings-requires : tie.Need-put-pings-requires
-put-pings-requires c κs = search needs
+put-last-requires : tie.Need-put-last-requires
+put-last-requires c κs = search needs
 
 same-length : tie.Need-same-length
 same-length c = search needs
@@ -43,10 +43,10 @@ returns c =
     let access = first .before .before .before .before in
     let known = access .before .before .before in
     let a = known .before .before .before .args in
-    put-parts (a .kind) (a .register) (a .value) (wordAt (a .positive .now) (a .i)) (wordAt (a .negative .now) (a .i)) (a .word) (a .answers)
+    put-parts (a .kind) (a .register) (a .value) (wordAt (a .positive .now) (a .i)) (wordAt (a .negative .now) (a .i)) (a .word) (a .p) (a .m)
     (λ v. known .before .shared-slice-known .given (a .i * words + v) .fits) (λ v. known .shared-slice-known2 .given (a .i * words + v) .fits) (search needs)
     _ _ _ _ _ (a .at) (access .before .first-word .result) (search needs) (access .before .first-word .ensures)
-    (access .put-word .ensures) (first .put-wires .ensures) (second .put-wires2 .ensures) (last .put-pings .ensures)
+    (access .put-word .ensures) (first .put-wires .ensures) (second .put-wires2 .ensures) (last .put-last .ensures)
 
 pub put-record-spec : {M : Type 1} → statement M
 put-record-spec =
@@ -58,7 +58,7 @@ put-record-spec =
     put-wires-requires
     add-put-wires-2
     put-wires-requires-2
-    add-put-pings
-    put-pings-requires
+    add-put-last
+    put-last-requires
     same-length
     returns)

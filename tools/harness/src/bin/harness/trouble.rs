@@ -16,8 +16,8 @@ const USAGE: &str = "usage:
   harness boot [--boots N] [--seed S]            boots through the proved installer
   harness write [--lists N] [--seed S]           lists through the proved trace writer
   harness bench                                  times of proved library and reference
-REPLAY is the program to compare with the reference. --edition 24, 70 or pings names the
-edition of the records: else diff, damage and fuzz take all, repeat and trace 24.
+REPLAY is the program to compare with the reference. --edition 24, 70, pings or wires names
+the edition of the records: else diff, damage and fuzz take all, repeat and trace 24.
 Exit status: 0 equal, 1 different, 2 bad usage, no such file or program, or a failed write.";
 
 /// Why a command ends with status 2.

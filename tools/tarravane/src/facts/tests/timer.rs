@@ -25,11 +25,11 @@ fn a_ping_that_fails_makes_its_local_alert_occur() {
     }
 }
 
-/// A turn that ends is followed by the next one, which the tick's word sets; a ping is sent where it is due, and to an alert
-/// that is locked and enabled alone.
+/// A turn that ends is followed by the next one, which the tick's word sets; a ping is sent where it is due, to an alert that is
+/// locked and enabled alone, and on a line with no escalation on its wires.
 #[test]
 fn turns_follow_each_other() {
-    let (mut sent, mut ends) = (0, [0; 3]);
+    let (mut sent, mut ends) = (0, [0; 4]);
     each_of(Edition::NEWEST, &mut |t| {
         let (before, after) = (&t.before.links, &t.after.links);
         let word = t.input.sample.word;
@@ -49,7 +49,11 @@ fn turns_follow_each_other() {
         assert_eq!(drawn(t).is_some(), ping.end.is_some());
         let pingable = match ping.of {
             Whose::Alert(i) => t.after.alerts.en[i] == 1 && t.after.alerts.regwen[i] == 0,
-            Whose::Line(_) => true,
+            Whose::Line(e) => {
+                let free = !t.word.line(e) && before.senders.last >> e & 1 == 0;
+                assert!(t.word.line(e) || ping.end != Some(End::Closed));
+                free || ping.open
+            }
         };
         assert!(pingable || !ping.sent);
         assert!(!pingable || ping.end != Some(End::Unsent));

@@ -2,14 +2,12 @@
 use super::access::Accesses;
 use super::alerts::Alerts;
 use super::held::Held;
+use super::pairs::{pairs, Pairs};
 use super::timer::Timer;
 use super::weight::{weight, Weight};
 use crate::facts::tick::Tick;
-use handler::CLASSES;
+use handler::{CLASSES, LINES};
 use std::array::from_fn;
-
-/// Escalation lines.
-pub const LINES: usize = 4;
 
 #[derive(Clone, Debug)]
 pub struct Cell {
@@ -19,6 +17,7 @@ pub struct Cell {
     pub states: [Held<u32>; CLASSES],
     pub interrupts: [Held<bool>; CLASSES],
     pub lines: [Held<bool>; LINES],
+    pub pairs: [Pairs; LINES],
     pub alerts: Alerts,
     pub timer: Timer,
     pub accesses: Accesses,
@@ -35,6 +34,7 @@ impl Cell {
             states: from_fn(|k| Held::new(t.after.classes[k].state)),
             interrupts: from_fn(|k| Held::new(t.word.interrupt(k))),
             lines: from_fn(|e| Held::new(t.word.line(e))),
+            pairs: pairs(t),
             alerts,
             timer: Timer::new(t),
             accesses: Accesses::new(t),
@@ -52,6 +52,11 @@ impl Cell {
     /// Is a receiver other than ready?
     pub fn has_handshake(&self) -> bool {
         self.alerts.are_busy()
+    }
+
+    /// Is an answer of a line wrong?
+    pub fn has_wrong_answer(&self) -> bool {
+        self.pairs.iter().any(|pairs| pairs.wrong)
     }
 
     /// The units of width that it takes.
@@ -72,6 +77,7 @@ impl Cell {
             states: from_fn(|k| self.states[k].joined(next.states[k])),
             interrupts: from_fn(|k| self.interrupts[k].joined(next.interrupts[k])),
             lines: from_fn(|e| self.lines[e].joined(next.lines[e])),
+            pairs: from_fn(|e| self.pairs[e].joined(next.pairs[e])),
             alerts: self.alerts.joined(&next.alerts),
             timer: self.timer.joined(next.timer),
             accesses: self.accesses.joined(&next.accesses),

@@ -3,6 +3,7 @@ mod accesses;
 mod alerts;
 mod classes;
 mod outputs;
+mod pairs;
 mod receivers;
 mod spans;
 mod timer;

@@ -70,6 +70,11 @@ const TIMER: [Sign; 2] = [
     }),
 ];
 
+/// Of a line's answers, where one is wrong.
+const PAIRS: [Sign; 1] = [("wrong answer", |page, x, y| {
+    marks::access(page, Mark::Refused, x + 7.0, y)
+})];
+
 /// Draws a sign right of the last one, or where there is no room on the next line; gives where it ends.
 fn entry(page: &mut Page, x: f64, words: &str, sign: impl Fn(&mut Page, f64, f64)) -> f64 {
     let width = SIGN + 4.0 + text_width(words, SMALL) + 8.0;
@@ -83,8 +88,8 @@ fn entry(page: &mut Page, x: f64, words: &str, sign: impl Fn(&mut Page, f64, f64
     x + width
 }
 
-/// `handshake`: is one shown? `timer`: is the ping timer?
-pub fn draw(page: &mut Page, handshake: bool, timer: bool) {
+/// `handshake`: is one shown? `timer`: is the ping timer? `wrong`: is a wrong answer of a line?
+pub fn draw(page: &mut Page, handshake: bool, timer: bool, wrong: bool) {
     page.y += 10.0;
     let mut x = MARGIN;
     for state in STATES {
@@ -94,7 +99,9 @@ pub fn draw(page: &mut Page, handshake: bool, timer: bool) {
     }
     let shaken = HANDSHAKE.into_iter().filter(|_| handshake);
     let pinged = TIMER.into_iter().filter(|_| timer);
-    for (words, sign) in SIGNS.into_iter().chain(shaken).chain(pinged) {
+    let wrong = PAIRS.into_iter().filter(|_| wrong);
+    let more = shaken.chain(pinged).chain(wrong);
+    for (words, sign) in SIGNS.into_iter().chain(more) {
         x = entry(page, x, words, sign);
     }
     page.y += STEP + 4.0;

@@ -79,7 +79,8 @@ pub fn draw(drawn: &Drawn) -> String {
         lanes::draw(&mut page, &axis, drawn.cut.is_some());
         let handshake = drawn.cells.iter().any(Cell::has_handshake);
         let timer = drawn.cells.iter().any(|cell| cell.timer.on);
-        legend::draw(&mut page, handshake, timer);
+        let wrong = drawn.cells.iter().any(Cell::has_wrong_answer);
+        legend::draw(&mut page, handshake, timer, wrong);
     }
     foot(&mut page, &drawn.made);
     page.finished(&format!("{}: {}", drawn.name, drawn.told.join("; ")))

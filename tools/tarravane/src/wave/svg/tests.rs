@@ -34,7 +34,12 @@ fn picture_of(handler: Handler, text: &str) -> String {
         start,
         bytes: None,
     };
-    let drawn = drawn(&trace, handler, &mut &records(text)[..], Range::ALL);
+    let drawn = drawn(
+        &trace,
+        handler,
+        &mut &records(handler, text)[..],
+        Range::ALL,
+    );
     match drawn {
         Ok(drawn) => picture::draw(&drawn),
         Err(Failure::Source(why)) => panic!("{why}"),

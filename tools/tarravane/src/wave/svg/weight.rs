@@ -15,10 +15,10 @@ pub enum Weight {
     Handshake,
     Read,
     Write,
-    /// Wires that move, an event, a local alert, a ping that is sent or answered.
+    /// Wires that move, an event, a local alert, a ping that is sent, answered or closed.
     Alert,
-    /// A cause, an accumulator or a lock changes, an access is refused, a stage is dropped, the ping timer goes on, or a ping
-    /// fails.
+    /// A cause, an accumulator or a lock changes, an access is refused, a stage is dropped, the ping timer goes on, a ping
+    /// fails, or a line's answer is wrong.
     Change,
     /// A state, a line or an interrupt changes, or a clear is asked for.
     Turn,
@@ -36,9 +36,10 @@ impl Weight {
     ];
 }
 
-/// Is a ping sent or answered?
+/// Is a ping sent, answered or closed?
 fn pings(t: &Tick) -> bool {
-    ping(t).map_or(false, |ping| ping.sent || ping.end == Some(End::Answered))
+    let ends = |end| matches!(end, Some(End::Answered | End::Closed));
+    ping(t).map_or(false, |ping| ping.sent || ends(ping.end))
 }
 
 /// `moved`: are the wires other ones than in the tick before? `goes_on`: does a receiver go on?

@@ -2,10 +2,11 @@
 use super::alerts::Last;
 use crate::alert_bits::{self, AlertBits};
 use crate::facts::events;
+use crate::facts::pairs::{is_wrong, sent};
 use crate::facts::receivers::{acknowledged, ping_levels};
 use crate::facts::tick::Tick;
 use crate::facts::timer::pinged;
-use handler::LOCALS;
+use handler::{Edition, LinePairs, LINES, LOCALS};
 
 #[derive(Default)]
 pub struct Moved {
@@ -16,6 +17,8 @@ pub struct Moved {
     pub locals: [bool; LOCALS],
     /// Is the ping timer ever on?
     pub timer: bool,
+    /// The lines one of whose pairs leaves rest, where the edition has both.
+    pub lines: [bool; LINES],
     last: Last,
 }
 
@@ -26,15 +29,16 @@ fn join(all: &mut AlertBits, more: AlertBits) {
 }
 
 impl Moved {
-    /// All of a handler of n alerts, and its ping timer where the trace's edition reaches it.
-    pub fn all(n: usize, timer: bool) -> Moved {
+    /// All of a handler of n alerts, and what the trace's edition reaches besides.
+    pub fn all(n: usize, edition: Edition) -> Moved {
         let below = alert_bits::below(n);
         Moved {
             alerts: below,
             shaken: below,
             pinged: below,
             locals: [true; LOCALS],
-            timer,
+            timer: edition.has_timer(),
+            lines: [edition.has_receive(); LINES],
             last: Last::default(),
         }
     }
@@ -45,7 +49,15 @@ impl Moved {
         join(&mut self.pinged, ping_levels(t));
         join(&mut self.pinged, pinged(t));
         self.timer |= t.after.timer.is_on();
+        self.add_lines(t);
         // A local alert's cause is set where it occurs.
         events::locals(t).for_each(|j| self.locals[j] = true);
+    }
+    fn add_lines(&mut self, t: &Tick) {
+        let pair = |e| t.input.sample.receive.pair(e) != LinePairs::REST.pair(e);
+        for (e, moved) in self.lines.iter_mut().enumerate() {
+            let moves = sent(t) >> e & 1 == 1 || pair(e) || is_wrong(t, e);
+            *moved |= t.edition.has_receive() && moves;
+        }
     }
 }

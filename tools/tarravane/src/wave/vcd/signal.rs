@@ -6,10 +6,10 @@ use crate::facts::clears::{clear, Clear};
 use crate::facts::receivers::{acknowledged, ping_levels};
 use crate::facts::tick::Tick;
 use crate::facts::timer::{self, End, Ping};
-use crate::facts::{answer, events};
+use crate::facts::{answer, events, pairs};
 use crate::names;
 use handler::registers::{Field, Naming, Register, Setting, LETTERS};
-use handler::{Access, CLASSES, LOCALS};
+use handler::{Access, LinePairs, CLASSES, LINES, LOCALS};
 
 #[derive(Clone, Copy, Debug, PartialEq, Eq)]
 pub enum Signal {
@@ -33,6 +33,12 @@ pub enum Signal {
     Interrupt(usize),
     AcceptedClear(usize),
     Line(usize),
+    /// The escalation pair at (1,0).
+    Sent(usize),
+    /// The receive pair, the right one, and whether they differ.
+    Came(usize),
+    Right(usize),
+    Wrong(usize),
     /// Is the ping timer on after the tick?
     TimerOn,
     /// Whose turn it is.
@@ -40,6 +46,8 @@ pub enum Signal {
     PingOpen,
     PingAnswered,
     PingFailed,
+    PingClosed,
+    PingUnsent,
     AccessKind,
     /// The register that is read or written.
     Accessed,
@@ -86,6 +94,13 @@ fn class(k: usize) -> Vec<Signal> {
     ]
 }
 
+/// Of a line's pairs only where they move.
+fn lines(moved: &Moved) -> Vec<Signal> {
+    let pairs = (0..LINES).filter(|&e| moved.lines[e]);
+    let pairs = pairs.flat_map(|e| [Sent(e), Came(e), Right(e), Wrong(e)]);
+    (0..LINES).map(Line).chain(pairs).collect()
+}
+
 /// All scopes; of the alerts those that move.
 pub fn scopes(moved: &Moved) -> Vec<Scope> {
     let scope = |name: &str, signals| Scope {
@@ -97,9 +112,12 @@ pub fn scopes(moved: &Moved) -> Vec<Scope> {
         let letter = LETTERS[k].to_ascii_lowercase();
         all.push(scope(&format!("class_{letter}"), class(k)));
     }
-    all.push(scope("lines", (0..4).map(Line).collect()));
+    all.push(scope("lines", lines(moved)));
     if moved.timer {
-        let timer = vec![TimerOn, PingTurn, PingOpen, PingAnswered, PingFailed];
+        let mut timer = vec![TimerOn, PingTurn, PingOpen, PingAnswered, PingFailed];
+        if moved.lines.contains(&true) {
+            timer.extend([PingClosed, PingUnsent]);
+        }
         all.push(scope("pings", timer));
     }
     all.push(scope("access", vec![AccessKind, Accessed, Written, Answer]));
@@ -109,6 +127,11 @@ pub fn scopes(moved: &Moved) -> Vec<Scope> {
 fn pair(t: &Tick, i: usize) -> u64 {
     let wires = &t.input.sample.alerts;
     u64::from(is_set(&wires.pos, i)) << 1 | u64::from(is_set(&wires.neg, i))
+}
+
+fn line_pair(pairs: LinePairs, e: usize) -> Value {
+    let (pos, neg) = pairs.pair(e);
+    Value::Number(u64::from(pos) << 1 | u64::from(neg))
 }
 
 /// Whose turn the tick meets; nothing where the timer is off.
@@ -168,11 +191,17 @@ impl Signal {
             Interrupt(k) => format!("CLASS{}_INTERRUPT", LETTERS[k]),
             AcceptedClear(k) => format!("CLASS{}_CLEAR", LETTERS[k]),
             Line(e) => format!("LINE{e}"),
+            Sent(e) => format!("LINE{e}_ESC"),
+            Came(e) => format!("LINE{e}_BACK"),
+            Right(e) => format!("LINE{e}_RIGHT"),
+            Wrong(e) => format!("LINE{e}_WRONG"),
             TimerOn => Register::PingEnable.to_string(),
             PingTurn => "TURN".to_string(),
             PingOpen => "OPEN".to_string(),
             PingAnswered => "ANSWERED".to_string(),
             PingFailed => "FAILED".to_string(),
+            PingClosed => "CLOSED".to_string(),
+            PingUnsent => "UNSENT".to_string(),
             AccessKind => "KIND".to_string(),
             Accessed => "REGISTER".to_string(),
             Written => "VALUE".to_string(),
@@ -182,7 +211,7 @@ impl Signal {
 
     pub fn kind(self) -> Kind {
         match self {
-            Pair(_) => Kind::Pair,
+            Pair(_) | Came(_) | Right(_) => Kind::Pair,
             State(_) | EscCnt(_) | AccumCnt(_) => Kind::Number,
             StateName(_) | Stands(_) | PingTurn => Kind::Text,
             AccessKind | Accessed | Written | Answer => Kind::Text,
@@ -219,11 +248,17 @@ impl Signal {
             Interrupt(k) => Value::Bit(t.word.interrupt(k)),
             AcceptedClear(k) => Value::Bit(clear(t, k) == Some(Clear::Accepted)),
             Line(e) => Value::Bit(t.word.line(e)),
+            Sent(e) => Value::Bit(pairs::sent(t) >> e & 1 == 1),
+            Came(e) => line_pair(t.input.sample.receive, e),
+            Right(e) => line_pair(t.before.links.senders.right(), e),
+            Wrong(e) => Value::Bit(pairs::is_wrong(t, e)),
             TimerOn => Value::Bit(t.after.timer.is_on()),
             PingTurn => text(turn(t)),
             PingOpen => Value::Bit(is_ping(t, |ping| ping.open)),
             PingAnswered => Value::Bit(is_ping(t, |ping| ping.end == Some(End::Answered))),
             PingFailed => Value::Bit(timer::failed(t).is_some()),
+            PingClosed => Value::Bit(is_ping(t, |ping| ping.end == Some(End::Closed))),
+            PingUnsent => Value::Bit(is_ping(t, |ping| ping.end == Some(End::Unsent))),
             AccessKind => Value::text(access_kind(t)),
             Accessed => text(accessed(t).0),
             Written => text(accessed(t).1),

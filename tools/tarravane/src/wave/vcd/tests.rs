@@ -53,7 +53,7 @@ fn alert_signals(handler: Handler, text: &str) -> Vec<String> {
         start,
         bytes: None,
     };
-    let (played, bytes) = (Played { trace, handler }, records(text));
+    let (played, bytes) = (Played { trace, handler }, records(handler, text));
     let looked = played.look(&mut &bytes[..]).map_err(why).expect("ticks");
     let mut out = Vec::new();
     let dump = played.dump(&mut &bytes[..], Some(&looked), &mut out);
@@ -85,7 +85,7 @@ fn receivers_are_shown_where_they_move() {
 #[test]
 fn another_start_is_told() {
     let name = std::env::temp_dir().join(format!("tarravane-again-{}", std::process::id()));
-    fs::write(&name, [254, 2]).expect("a file");
+    fs::write(&name, [253, 2]).expect("a file");
     let name = name.to_string_lossy();
     let again = Again::File(&name);
     let start = |n| Start {

@@ -1,11 +1,11 @@
 //! A lane for each interrupt and each line, and for what else is on or off: where it is on.
 use super::super::axis::Axis;
-use super::super::cell::{Cell, LINES};
+use super::super::cell::Cell;
 use super::super::page::Page;
-use super::begin;
 use super::spans::spans;
+use super::{begin, pairs};
 use handler::registers::LETTERS;
-use handler::CLASSES;
+use handler::{CLASSES, LINES};
 
 const HEIGHT: f64 = 10.0;
 const STEP: f64 = 14.0;
@@ -37,5 +37,6 @@ pub fn draw_lines(page: &mut Page, axis: &Axis) {
     for e in 0..LINES {
         let name = format!("line {e}");
         draw_lane(page, axis, &name, |cell| cell.lines[e].value());
+        pairs::draw(page, axis, e);
     }
 }

@@ -1,0 +1,4 @@
+pub mod Sent
+pub mod Seen
+pub mod WholeSeen
+pub mod SeenExamples
