@@ -2,10 +2,11 @@
  * System V ABI), as the kit's back end gives it.
  * It needs of the C library: memcpy, memset.
  *
- * Every function answers one signed 64-bit number: a read gives 0 to 4294967295, the writer the bytes written, a boot that
- * stops where a register does not read what was written what it reads, anything else accepted gives 0, and a refusal gives
- * the negated refusal number. No function has a precondition on the state: any bytes are a state, and refusal 7 judges them.
- * No function keeps anything between calls, allocates, or fails in another way.
+ * Every function but tarravane_receive, which refuses nothing, answers one signed 64-bit number: a read gives 0 to 4294967295,
+ * the writer the bytes written, a calm call the number of changes, a boot that stops where a register does not read what was
+ * written what it reads, anything else accepted gives 0, and a refusal gives the negated refusal number. No function has a
+ * precondition on the state: any bytes are a state, and refusal 7 judges them. No function keeps anything between calls,
+ * allocates, or fails in another way.
  *
  * No struct has padding: equal states are equal bytes, memcmp tells them apart, and nothing else of a caller's memory leaves
  * in one.
@@ -14,15 +15,16 @@
  *
  * The stack that a call takes below its caller's frame, argument and result included, whatever the lengths of its lists:
  *   tarravane_new 3208 bytes
- *   tarravane_tick 41304 bytes
+ *   tarravane_tick 41704 bytes
  *   tarravane_hear 22680 bytes
- *   tarravane_batch_24 44472 bytes
- *   tarravane_batch_70 44472 bytes
- *   tarravane_batch_pings 44472 bytes
- *   tarravane_batch_wires 44472 bytes
+ *   tarravane_batch_24 45112 bytes
+ *   tarravane_batch_70 45112 bytes
+ *   tarravane_batch_pings 45112 bytes
+ *   tarravane_batch_wires 45112 bytes
  *   tarravane_receive 64 bytes
  *   tarravane_record 152 bytes
- *   tarravane_install 73160 bytes
+ *   tarravane_install 73560 bytes
+ *   tarravane_calm 54456 bytes
  * Measured, not proved (tests/stack, the gate): each call ran on a stack filled with a pattern, with accesses of every kind
  * and lists of 0 to 300 entries, linked with -z now. Else the dynamic loader binds memcpy within the first call and takes
  * stack there: with it the first tarravane_new took 6344 bytes on the machine that was measured, the other calls no more. */
@@ -57,6 +59,7 @@ extern "C" {
 #define tarravane_receive TARRAVANE_NAMED(tarravane_receive, TARRAVANE_LAYOUT)
 #define tarravane_record TARRAVANE_NAMED(tarravane_record, TARRAVANE_LAYOUT)
 #define tarravane_install TARRAVANE_NAMED(tarravane_install, TARRAVANE_LAYOUT)
+#define tarravane_calm TARRAVANE_NAMED(tarravane_calm, TARRAVANE_LAYOUT)
 
 /* A result that is dropped gives a warning: the state after a call is in it. */
 #if (defined(__cplusplus) && __cplusplus >= 201703L) || (defined(__STDC_VERSION__) && __STDC_VERSION__ > 201710L)
@@ -77,6 +80,7 @@ extern "C" {
 #define TARRAVANE_CLASSES 4
 #define TARRAVANE_PHASES 4
 #define TARRAVANE_LINES 4
+#define TARRAVANE_CHANGES 20     /* entries that the list of a calm call needs, five for each class */
 
 /* Bytes of a trace record: of the first edition, of the one for 248 alerts, of the one with what the ping timer is handed,
  * and of the newest, with the lines' receive pairs; the newest is the one that is written. */
@@ -291,6 +295,12 @@ struct tarravane_installed {
     uint8_t spare[6];         /* 0 */
 };
 
+struct tarravane_calmed {
+    struct tarravane_handler handler; /* after the last tick */
+    int64_t answer;                   /* the number of changes */
+    struct tarravane_output output;   /* of the last tick */
+};
+
 /* The receivers at the ends of the four lines, one for each: see tarravane_receive. Line 0 is the lowest bit of each; bits from
  * 4 up count for nothing, and 0 in all are new receivers. */
 struct tarravane_line_receivers {
@@ -326,6 +336,8 @@ struct tarravane_listened {
 #define TARRAVANE_DIFFERS 12      /* second write differs from the first; the stage is dropped, local 5 occurs if enabled */
 #define TARRAVANE_FEW_ALERTS 13   /* n under 58, too few for a boot */
 #define TARRAVANE_THRESHOLD 14    /* a 0 to a class REGWEN that is still 1, while EN is 1 and ACCUM_THRESH 65535 */
+#define TARRAVANE_TIMER_ON 15     /* a calm call where PING_TIMER_EN is 1 */
+#define TARRAVANE_FEW_ENTRIES 18  /* list of changes shorter than 20 entries */
 
 /* ---- Kinds of access ---- */
 
@@ -417,11 +429,17 @@ struct tarravane_listened {
 #define TARRAVANE_WORD_REFUSAL(word) ((unsigned)((uint64_t)(word) >> 52 & 15))
 #define TARRAVANE_WORD_VALUE(word) ((uint32_t)(word))
 
+/* ---- A change of a calm call: the lines as they are from that tick on, and the tick, of which the first is 1 ---- */
+
+#define TARRAVANE_CHANGE_LINE(change, e) ((unsigned)((uint64_t)(change) >> (63 - (e)) & 1))
+#define TARRAVANE_CHANGE_TICK(change) ((uint32_t)(change))
+
 /* ---- The functions ---- */
 
 /* Makes a handler for n alerts, 1 to 248: all REGWEN and CLR_REGWEN at 1, all CTRL at 0x393C, every other register at 0,
  * classes Idle, receivers ready, their ping pairs at (0,1) and no ping open, senders at rest, the ping timer off, no stage, and
- * so the entries at n and above; answers 0.
+ * so the entries at n and above; answers 0. What is proved of what the receivers at the lines' ends see is of receivers that
+ * are new with the handler.
  * -6: n is 0 or over 248. It leaves a handler of no alerts, otherwise as new. */
 TARRAVANE_RESULT
 struct tarravane_made tarravane_new(size_t n);
@@ -451,8 +469,9 @@ struct tarravane_made tarravane_new(size_t n);
  * and (0,1) in turn, and 1010, one tick each, after a ping alone; a line that comes on within those four goes on with them in
  * turn. So the receive pair that is right in a tick is known from what was sent up to the tick before. Equal wires, or another
  * answer than the right one, of any of the four make local alert 3 occur, if it is enabled, once in a tick, whether the timer
- * or the line is on or not; the answers that are right afterwards stay the same. A cut or shorted cable of a line shows so in
- * the first tick after its pair comes on, pings too; a pinged line that is cut also lets local alert 1 occur at the timeout.
+ * or the line is on or not; the answers that are right afterwards stay the same. A cable of a line that is cut or shorted by the
+ * time its pair comes on, for a ping too, shows so in the first tick after at the latest; a pinged line that is cut also lets
+ * local alert 1 occur at the timeout.
  * A line that is on closes its open ping unfailed, the turn ends there. A ping that is due in a tick in which its line is on, or
  * in the tick after a pair that was on for the line, is not sent, and the turn ends. A timeout reached in the same tick comes
  * first: local alert 1 occurs.
@@ -579,6 +598,25 @@ static inline int tarravane_all_installed(const struct tarravane_installed *boot
     return boot->answer == 0 && boot->register_number == 0;
 }
 
+/* Runs so many calm ticks, 0 to 4294967295, in one go: it gives what as many calls of tarravane_tick give, each on the state
+ * that the last one left, with no access, these wires of the alerts, the entropy word 0, and the receive pairs that sound
+ * receivers send, which answer without fault what the senders have sent, before the call too: local alert 3 does not occur.
+ * The time that it takes does not grow with the ticks. The wires may be any: a receiver that is ready takes a rise and
+ * acknowledges it from the next tick on, and equal wires of an enabled alert make local alert 2 occur in every tick, if it is
+ * enabled.
+ * It writes a word for each tick in which a line changed, one where several did, in order from the start of list: bits 63 to
+ * 60 the lines as they are from that tick on (line 0 first), then 28 zeros and the 32 bits of the tick, of which the first is
+ * 1. Before it the lines are those that the classes of h drive, whatever its senders hold. It answers how many words these
+ * are, 0 to TARRAVANE_CHANGES; later entries stay as they were. The outputs are those of the last tick; of 0 ticks interrupts
+ * and lines of h, all pairs (0,1).
+ * Two calls, of m and of n ticks, give the state and the changes of one call of m + n, those of the second m ticks later.
+ * -7: the state breaks its rule. -15: the ping timer is on, PING_TIMER_EN being 1. -18: length is under TARRAVANE_CHANGES, with
+ * 0 ticks too. In this order; each leaves state and list unchanged, interrupts and lines 0, all pairs (0,1).
+ * The caller owes: list points to length writable words, aligned, and is not null, also where length is 0. */
+TARRAVANE_RESULT
+struct tarravane_calmed tarravane_calm(struct tarravane_handler h, struct tarravane_wires wires, uint32_t ticks, uint64_t *list,
+                                       size_t length);
+
 /* ---- The layout that the library has: each size is the sum of its fields ---- */
 
 #ifdef __cplusplus
@@ -686,6 +724,9 @@ TARRAVANE_ASSERT(sizeof(struct tarravane_installed) == 2112);
 TARRAVANE_ASSERT(offsetof(struct tarravane_installed, answer) == 2096);
 TARRAVANE_ASSERT(offsetof(struct tarravane_installed, register_number) == 2104);
 TARRAVANE_ASSERT(offsetof(struct tarravane_installed, spare) == 2106);
+TARRAVANE_ASSERT(sizeof(struct tarravane_calmed) == 2248);
+TARRAVANE_ASSERT(offsetof(struct tarravane_calmed, answer) == 2096);
+TARRAVANE_ASSERT(offsetof(struct tarravane_calmed, output) == 2104);
 TARRAVANE_ASSERT(sizeof(struct tarravane_line_receivers) == 16);
 TARRAVANE_ASSERT(offsetof(struct tarravane_line_receivers, deep) == 4);
 TARRAVANE_ASSERT(offsetof(struct tarravane_line_receivers, answer) == 8);
@@ -742,6 +783,8 @@ TARRAVANE_ASSERT(sizeof(struct tarravane_batched) == TARRAVANE_SIZE(batched, han
 TARRAVANE_ASSERT(sizeof(struct tarravane_installed) == TARRAVANE_SIZE(installed, handler) +
                  TARRAVANE_SIZE(installed, answer) + TARRAVANE_SIZE(installed, register_number) +
                  TARRAVANE_SIZE(installed, spare));
+TARRAVANE_ASSERT(sizeof(struct tarravane_calmed) == TARRAVANE_SIZE(calmed, handler) + TARRAVANE_SIZE(calmed, answer) +
+                 TARRAVANE_SIZE(calmed, output));
 TARRAVANE_ASSERT(sizeof(struct tarravane_line_receivers) == TARRAVANE_SIZE(line_receivers, last) +
                  TARRAVANE_SIZE(line_receivers, deep) + TARRAVANE_SIZE(line_receivers, answer) +
                  TARRAVANE_SIZE(line_receivers, broken));

@@ -108,6 +108,12 @@ static void call_install(void)
     state = tarravane_install(state, (uint8_t)(entries % 8)).handler;
 }
 
+static void call_calm(void)
+{
+    NOTE_FRAME();
+    state = tarravane_calm(state, sample.alerts, values[0], words, RECORDS).handler;
+}
+
 static const unsigned char *lowest_changed(void)
 {
     size_t low = 0;
@@ -235,6 +241,27 @@ static void pack_24(void)
     }
 }
 
+/* Classes in every state, all alerts and local alert 2 enabled, and as many ticks as any 32 bits say. */
+static void run_classes(void)
+{
+    static const uint32_t states[] = {TARRAVANE_IDLE, TARRAVANE_TIMEOUT, TARRAVANE_TERMINAL, TARRAVANE_PHASE(0),
+                                      TARRAVANE_PHASE(1), TARRAVANE_PHASE(2), TARRAVANE_PHASE(3)};
+    for (int k = 0; k < TARRAVANE_CLASSES; k++) {
+        struct tarravane_class *c = &state.classes[k];
+        c->ctrl = 0x393D;
+        c->state = states[next_random() % 7];
+        c->count = c->state == TARRAVANE_IDLE || c->state == TARRAVANE_TERMINAL ? 0 : 1;
+        c->thresh = (uint16_t)next_random();
+        c->timeout = draw_value();
+        for (int p = 0; p < TARRAVANE_PHASES; p++)
+            c->lengths[p] = draw_value();
+    }
+    memset(state.alerts.en, 1, sizeof state.alerts.en);
+    state.locals.en[2] = 1;
+    state.interrupts.state = next_random() % 16;
+    values[0] = draw_value();
+}
+
 static const struct call calls[] = {
     {"tarravane_new", call_new, call_record, TARRAVANE_ALERTS, true},
     {"tarravane_tick", call_tick, call_record, TARRAVANE_ALERTS, true},
@@ -246,6 +273,7 @@ static const struct call calls[] = {
     {"tarravane_receive", call_receive, call_record, TARRAVANE_ALERTS, true},
     {"tarravane_record", call_record, call_record, TARRAVANE_ALERTS, true},
     {"tarravane_install", call_install, call_record, TARRAVANE_ALERTS, true},
+    {"tarravane_calm", call_calm, run_classes, TARRAVANE_ALERTS, false},
 };
 
 static size_t most_of(const struct call *c)

@@ -1,7 +1,7 @@
 //! The refusals and the signed number that every call answers.
 
-/// Why an access, a batch, the making of a handler, the writing of a trace or a
-/// boot was refused.
+/// Why an access, a batch, the making of a handler, the writing of a trace, a
+/// boot or a skip was refused.
 #[derive(Clone, Copy, Debug, PartialEq, Eq)]
 pub enum Refusal {
     /// No such register.
@@ -33,6 +33,10 @@ pub enum Refusal {
     TooFewAlerts = 13,
     /// A class that waits for 65,536 events is not to be locked so.
     SillyThreshold = 14,
+    /// The ping timer is on, so its ticks are not calm.
+    TimerOn = 15,
+    /// The list of changes has fewer than 20 entries.
+    ShortChanges = 18,
 }
 
 impl Refusal {

@@ -49,10 +49,11 @@ pub enum Access {
     Malformed,
 }
 
-/// What a tick gives.
+/// What a tick gives, and what a skipped stretch of ticks does.
 #[derive(Clone, Copy, Debug, PartialEq, Eq)]
 pub struct Ticked {
-    /// The access's value, or minus its refusal number.
+    /// The access's value, after a skip the number of changes, or minus the
+    /// refusal number.
     pub answer: i64,
     /// The interrupts, class 0 lowest.
     pub interrupts: u8,
@@ -67,6 +68,28 @@ pub struct Ticked {
 }
 
 impl Ticked {
+    /// What a refusal gives where no tick runs: interrupts and lines 0, and
+    /// every pair at (0,1).
+    pub(crate) fn refused(refusal: Refusal) -> Ticked {
+        Ticked::at_rest(Outcome {
+            answer: refusal.answer(),
+            interrupts: 0,
+            lines: 0,
+        })
+    }
+
+    /// This outcome with every pair at (0,1).
+    pub(crate) fn at_rest(outcome: Outcome) -> Ticked {
+        Ticked {
+            answer: outcome.answer,
+            interrupts: outcome.interrupts,
+            lines: outcome.lines,
+            acknowledge: Pairs::at_rest(),
+            ping: Pairs::at_rest(),
+            escalation: LinePairs::at_rest(),
+        }
+    }
+
     /// What a word of a trace holds of the tick.
     pub fn outcome(&self) -> Outcome {
         Outcome {
@@ -208,14 +231,7 @@ impl Handler {
     /// pair at (0,1) whatever receivers and senders hold.
     pub fn tick(&mut self, access: Access, sample: &Sample) -> Ticked {
         if !self.valid() {
-            return Ticked {
-                answer: Refusal::BrokenState.answer(),
-                interrupts: 0,
-                lines: 0,
-                acknowledge: Pairs::at_rest(),
-                ping: Pairs::at_rest(),
-                escalation: LinePairs::at_rest(),
-            };
+            return Ticked::refused(Refusal::BrokenState);
         }
         // What this tick's wires change is acknowledged in the next tick, but
         // the ping that this tick opens shows at once, and so do its lines.
@@ -250,7 +266,7 @@ impl Handler {
         self.end_turn(on, standing, sample.word);
         Outcome {
             answer,
-            interrupts: self.intr_state & self.intr_enable,
+            interrupts: self.interrupts(),
             lines,
         }
     }
@@ -315,8 +331,13 @@ impl Handler {
         }
     }
 
+    /// The interrupts that go out, class 0 lowest.
+    pub(crate) fn interrupts(&self) -> u8 {
+        self.intr_state & self.intr_enable
+    }
+
     /// A line is on if any class drives it.
-    fn lines(&self) -> u8 {
+    pub(crate) fn lines(&self) -> u8 {
         let mut lines = 0;
         for class in &self.classes {
             lines |= class.lines();

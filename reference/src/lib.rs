@@ -5,6 +5,14 @@
 //! wires and entropy go in; an answer, four interrupts, four escalation lines,
 //! the acknowledge and ping pairs of the alerts and the pairs of the escalation
 //! lines come out.
+//!
+//! The calls:
+//!
+//! * [`Handler::new`] makes a handler, [`Handler::tick`] runs one tick of it.
+//! * [`batch`] runs the records of a trace, [`record`] writes such records.
+//! * [`install`] sets a handler up at boot.
+//! * [`skip()`] runs many ticks without access on steady wires, one by one, and
+//!   lists the ticks at which a line changed.
 
 mod access;
 pub mod answer;
@@ -22,6 +30,7 @@ pub mod policy;
 pub mod receiver;
 pub mod register;
 pub mod sender;
+pub mod skip;
 pub mod stages;
 pub mod timer;
 pub mod trace;
@@ -39,6 +48,7 @@ pub use installer::{install, Installed};
 pub use line_pairs::LinePairs;
 pub use receiver::{Place, Receiver};
 pub use sender::Sender;
+pub use skip::skip;
 pub use stages::Stages;
 pub use timer::Timer;
 pub use trace::batch;

@@ -2,6 +2,7 @@
 use answers::signed;
 use handler::quiet::moved_by;
 use handler::quiet::quiet_of;
+use handler::rest::rest_of;
 use handler::tick::step;
 use rules::Answer;
 use rules::Handler;
@@ -35,8 +36,8 @@ pub struct Batched {
     pub answer: i64,
 }
 
-// The ticks of all records, one after another, each with its word at its place. The first state is valid, so each state is. A quiet tick
-// writes what it moves into the state where it stands: `step` hands the state on by copies, most of the time of such a tick.
+// The ticks of all records, one after another, each with its word at its place. The first state is valid, so each state is. A tick in which all rests
+// moves the ping timer's turn at most, and a quiet tick writes what it moves into the state where it stands: `step` hands the state on by copies.
 fn run_records(edition: Edition, h: Handler, bytes: &[u8], out: &mut [u64], count: usize) -> Handler
     requires { ⌜ (valid h ≡ true) × (count ≡ recordCount edition (now bytes)) × (count ≤ length (now out)) ⌝ }
     ensures { λ r. ⌜ (r ≡ run h (inputsOf edition (now (bytes .entry)))) × (now (out .exit) ≡ map wordOf (ticks h (inputsOf edition (now (bytes .entry)))) ++ drop count (now (out .entry))) ⌝ }
@@ -46,6 +47,14 @@ fn run_records(edition: Edition, h: Handler, bytes: &[u8], out: &mut [u64], coun
     let mut i = 0;
     while i < count {
         let x = input_at(edition, bytes, i * size);
+        let rest = rest_of(g, x);
+        if rest.holds {
+            let answer = rest.answer;
+            out[i] = word(rest.interrupts, 0, answer);
+            g.links.turn.count = rest.count;
+            i += 1;
+            continue;
+        }
         let quiet = quiet_of(g, x);
         if quiet.holds {
             let before = g.classes;

@@ -1,6 +1,9 @@
-// The handler for callers in C and Rust: making one, one tick and what it hears, a batch, the trace writer, and the boot policy. Any state may come in, and any bytes are one.
+// The handler for callers in C and Rust: making one, one tick and what it hears, a batch, calm ticks in one go, the trace writer, and the boot policy. Any state may
+// come in, and any bytes are one.
 use batch::Batched;
 use batch::batch;
+use calm::call::calm;
+use calm_rules::Calmed;
 use handler::account::Account;
 use handler::account::account_of;
 use handler::tick::Answered;
@@ -26,6 +29,7 @@ ghost use mathlib.Core.Path.{_≡_};
 ghost use mathlib.Core.Bool.{true};
 ghost use Rattle.batch.specs.BatchedBy.{BatchedBy};
 ghost use Rattle.bits.specs.Bits.{bit};
+ghost use Rattle.calm.specs.CalmedBy.{CalmedBy};
 ghost use Rattle.boundary.specs.Input.{accessBy, sampleBy, inputBy};
 ghost use Rattle.escalation.specs.Escalation.{Demand3};
 ghost use Rattle.handler.specs.Account.{account};
@@ -147,6 +151,14 @@ pub extern "C" fn tarravane_batch_wires(h: Handler, bytes: &[u8], out: &mut [u64
     ensures demand3 { λ r. ⌜ (valid h ≡ true → Demand3 h (batchInputs Edition.Wires (batchVerdict Edition.Wires h (now (bytes .entry)) (now (out .entry))) (now (bytes .entry)))) ⌝ }
 {
     batch(Edition::Wires, h, bytes, out)
+}
+
+// Calm ticks in one go: as many, without access and on these wires; a word for each tick at which a line changed.
+#[no_mangle]
+pub extern "C" fn tarravane_calm(h: Handler, wires: Wires, ticks: u32, out: &mut [u64]) -> Calmed
+    ensures { λ r. ⌜ CalmedBy h wires ticks (now (out .entry)) r (now (out .exit)) ⌝ }
+{
+    calm(h, wires, ticks, out)
 }
 
 // A record for each entry of the lent lists, into the lent buffer.

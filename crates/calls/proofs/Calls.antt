@@ -1,15 +1,24 @@
 -- Demand 3 across calls, of every sequence of calls from every state that refusal 7 does not meet.
 -- Assumes nothing.
-use Prim.Native.Nat.{ℕ, zero, suc, _-_, _<_}
+use Prim.Native.Nat.{ℕ, zero, suc, _+_, _-_, _≤_, _<_}
 use mathlib.Core.Path.{_≡_, refl, sym, ap, subst, _∙_}
 use mathlib.Core.Logic.{_≢_}
 use mathlib.Core.Bool.{Bool, true, false, false≢true, true≢false}
 use mathlib.Core.List.{List, [], _∷_, _++_, map, append-assoc}
-use native.Mathlib.Nat.{le-of-suc-le-suc, not-suc-le-zero}
+use native.Mathlib.Nat.{le-of-suc-le-suc, not-suc-le-zero, add-zero, add-suc, suc-add, zero-add}
 use native.Mathlib.Omega.{arith}
 use lib.ListN.{getD, length, take, drop, replicate, length-append, length-map}
 use lib.Seq.{take-at, take-append-add}
 use Rattle.bits.specs.Bits.{bit}
+use Rattle.bits.specs.Index.{each, eachFrom}
+use Rattle.calm_laws.proofs.CalmRuns.{calm-is-run, length-inputs}
+use Rattle.calm_laws.proofs.CalmTicks.{calm-output-at}
+use Rattle.calm_laws.proofs.Tells.{tells}
+use Rattle.calm_laws.specs.Tells.{linesBy}
+use Rattle.calm_rules.specs.Call.{calmVerdict, inputsBy, calmedBy, listBy, calmed, calmedList, callInputs}
+use Rattle.calm_rules.specs.Ticks.{calmInputs, calmChanges}
+use Rattle.calm_rules.specs.declared.Verdict.{Verdict}
+use Rattle.calm_rules.specs.declared.Verdict.the-variants.{Runs, Barred}
 use Rattle.escalation.proofs.Demand3.{demand3}
 use Rattle.escalation.specs.List.{IsTick, givenAt, noInput, noTick}
 use Rattle.laws.proofs.Valid.KeepsValid.{run-valid}
@@ -17,18 +26,20 @@ use Rattle.laws.proofs.Valid.Refusal7.{seven}
 use Rattle.laws.proofs.Tick.Runs.{run-append, ticks-append, ticks-at, length-ticks}
 use Rattle.trace_rules.specs.Batch.{batch, batchOf, batchVerdict, batchInputs}
 use Rattle.rules.specs.Run.{run, ticks}
-use Rattle.rules.specs.Tick.{ticked}
+use Rattle.rules.specs.Tick.{lines, ticked}
 use Rattle.rules.specs.Valid.{valid}
 use Rattle.trace_rules.specs.Word.{wordOf}
 use Rattle.rules.specs.declared.Answer.{Answer}
 use Rattle.rules.specs.declared.Handler.{Handler}
 use Rattle.rules.specs.declared.Input.{Input}
 use Rattle.rules.specs.declared.Refusal.the-variants.{BadState}
+use Rattle.rules.specs.declared.Output.{Output}
 use Rattle.rules.specs.declared.Ticked.{Ticked}
+use Rattle.rules.specs.declared.Wires.{Wires}
 use Rattle.trace_laws.proofs.WordFields.{line-bit}
 use Rattle.trace_laws.proofs.ReadValues.{read-fits}
 use Rattle.calls.specs.BootTicks.{bootInputs}
-use Rattle.calls.specs.Calls.{Call, Tick, Batch, Boot, leaves, inputs, shows, lineIn, Seen, Shown, Unseen, seen, leavesAll, inTurn, inputsAll, seenAll, showsAll, AcrossCalls}
+use Rattle.calls.specs.Calls.{Call, Tick, Batch, Boot, Calm, leaves, inputs, shows, lineIn, Seen, Shown, Unseen, wordCount, seen, leavesAll, inTurn, inputsAll, seenAll, showsAll, AcrossCalls}
 use Rattle.calls.proofs.BootTicks.{boot-run}
 
 -- ── what is seen of a list of ticks ──
@@ -81,12 +92,19 @@ seen-at (shows-none a) b d n (suc i) l = seen-at a b d n i (le-of-suc-le-suc l)
 
 -- ── one call ──
 
+-- a calm call that runs, and one that is refused
+calm-leaves : (h : Handler) (w : Wires) (n : ℕ) (d : Verdict) → calmedBy d h w n .handler ≡ run h (inputsBy d h w n)
+unfolding run
+calm-leaves h w n Runs = calm-is-run h w n
+calm-leaves h w n (Barred b) = refl
+
 -- it leaves the state after its ticks
 leaves-run : (h : Handler) (c : Call) → leaves h c ≡ run h (inputs h c)
-unfolding run batch batchOf
+unfolding run batch batchOf calmed callInputs
 leaves-run h (Tick x) = refl
 leaves-run h (Batch v bytes out) = refl
 leaves-run h (Boot l) = boot-run l h
+leaves-run h (Calm w n small list) = calm-leaves h w n (calmVerdict h list)
 
 -- the lines of a tick are in its word
 words-seen : (h : Handler) (xs : List Input) → valid h ≡ true
@@ -101,8 +119,42 @@ unfolding ticks
 none-seen h [] = none
 none-seen h (x ∷ xs) = shows-none (none-seen (ticked h x .handler) xs)
 
+-- a list of ticks whose lines are these
+by-index : (f : ℕ → ℕ → Bool) (ts : List Ticked) (first : ℕ)
+    → ((i : ℕ) → i < length ts → (e : ℕ) → e < 4 → f (first + i) e ≡ bit (getD ts i noTick .output .lines) e)
+    → SeenOf (replicate (length ts) true) (eachFrom first (length ts) (λ i. Shown (f i))) ts
+unfolding eachFrom
+by-index f [] first s = none
+by-index f (t ∷ ts) first s =
+    shows-lines (λ e l. ap (λ (i : ℕ). f i e) (sym (add-zero first)) ∙ s 0 (omega arith) e l)
+    (by-index f ts (suc first) (λ i l e m. ap (λ (j : ℕ). f j e) (suc-add first i ∙ sym (add-suc first i)) ∙ s (suc i) (omega arith) e m))
+
+-- the words of a calm call tell the lines of its ticks
+calm-seen : (h : Handler) (w : Wires) (n : ℕ) (list : List ℕ) (d : Verdict) → valid h ≡ true → n ≤ 4294967295
+    → SeenOf (replicate (length (inputsBy d h w n)) true)
+    (each (length (inputsBy d h w n)) (λ i. Shown (bit (linesBy (lines h) (take (wordCount (calmedBy d h w n .answer)) (listBy d h w n list)) (suc i)))))
+    (ticks h (inputsBy d h w n))
+unfolding ticks eachFrom
+calm-seen h w n list Runs v small =
+    subst (λ (k : ℕ). SeenOf (replicate k true) (each k (λ i. Shown (bit (linesBy (lines h) ws (suc i))))) (ticks h xs)) (length-ticks h xs)
+    (by-index (λ i. bit (linesBy (lines h) ws (suc i))) (ticks h xs) 0
+    (λ i l e m. ap (λ (j : ℕ). bit (linesBy (lines h) ws (suc j)) e) (zero-add i) ∙ ap (λ (o : ℕ). bit o e) (told i (omega (arith, l, length-ticks h xs, length-inputs h w n)))))
+  where
+    xs : List Input
+    xs = calmInputs h w n
+
+    ws : List ℕ
+    ws = take (length (calmChanges h w n)) (calmChanges h w n ++ drop (length (calmChanges h w n)) list)
+
+    told : (i : ℕ) → i < n → linesBy (lines h) ws (suc i) ≡ getD (ticks h xs) i noTick .output .lines
+    told i l =
+        ap (λ (us : List ℕ). linesBy (lines h) us (suc i)) (take-at (calmChanges h w n) (drop (length (calmChanges h w n)) list) (length (calmChanges h w n)) refl)
+        ∙ tells h w n v (omega arith) .each-tick (suc i) l
+        ∙ ap (λ (o : Output). o .lines) (sym (calm-output-at h w n i noInput noTick l))
+calm-seen h w n list (Barred b) v small = none
+
 seen-ticks : (h : Handler) (c : Call) → valid h ≡ true → SeenOf (replicate (length (inputs h c)) (shows c)) (seen h c) (ticks h (inputs h c))
-unfolding ticks batch batchOf
+unfolding ticks batch batchOf calmed calmedList callInputs
 seen-ticks h (Tick x) v = shows-lines (λ e l. refl) none
 seen-ticks h (Batch v bytes out) ok =
     let xs = batchInputs v (batchVerdict v h bytes out) bytes in
@@ -110,6 +162,7 @@ seen-ticks h (Batch v bytes out) ok =
     (sym (take-at (map wordOf (ticks h xs)) (drop (length xs) out) (length xs) (length-map (ticks h xs) wordOf ∙ length-ticks h xs)))
     (words-seen h xs ok)
 seen-ticks h (Boot l) v = none-seen h (bootInputs l h)
+seen-ticks h (Calm w n small list) v = calm-seen h w n list (calmVerdict h list) v small
 
 -- ── calls one after another ──
 

@@ -3,6 +3,9 @@ pub mod Calls
 pub mod CallExamples
 pub mod BootCallExamples
 pub mod WholeCalls
+pub mod WholeCalmCalls
+pub mod CalmSays
+pub mod CalmCallExamples
 pub mod SeenCalls
 pub mod SeenCallExamples
 pub mod WholeSeenCalls

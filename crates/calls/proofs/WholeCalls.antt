@@ -150,7 +150,7 @@ module _ (h : Handler) (v : valid h ≡ true) (us : List Call) (c : Call) (bs : 
         ∙ ap (λ (ys : List Seen). getD ys (n + j) Unseen) (turn-append seen h us (c ∷ bs))
         ∙ middle (seenAll h us) (seen g c) (seenAll (leaves g c) bs) n j Unseen (seen-places h us v) in-call
 
-    -- shown by a tick call and a batch, by a boot not
+    -- shown by a tick call, a batch and a calm call, by a boot not
     pub every-shown : shows c ≡ true → (f : ℕ → Bool) × (getD (seen g c) j Unseen ≡ Shown f)
     every-shown s = let u = claim .shown first t of-list (shows-here ∙ s) in (u .0, sym seen-here ∙ u .1)
 

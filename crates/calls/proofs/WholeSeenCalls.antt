@@ -1,7 +1,7 @@
 -- The second statement across calls once more, taken from the theorem over every new handler, sequence of calls, line and tick, and said of what each call
 -- is given and gives back by itself. A claim that says less, or asks for more (fewer calls, a first number, one more hypothesis), does not give it.
 -- Assumes nothing.
-use Prim.Native.Nat.{ℕ, _+_, _-_, _≤_, _<_}
+use Prim.Native.Nat.{ℕ, suc, _+_, _-_, _≤_, _<_}
 use mathlib.Core.Path.{_≡_, refl, sym, ap, ap₂, subst, _∙_}
 use mathlib.Core.Logic.{_⊎_}
 use mathlib.Core.Bool.{Bool, true, false, not}
@@ -10,6 +10,7 @@ use native.Mathlib.Omega.{arith}
 use lib.ListN.{getD, length, take, length-append, List·getD-append}
 use lib.Seq.{take-at, take-append-add, take-append-le, getD-append-add}
 use Rattle.bits.specs.Bits.{bit}
+use Rattle.calm_rules.specs.Call.{calmed}
 use Rattle.class_rules.specs.Class.{lineEnable, lineMap}
 use Rattle.escalation.specs.Escalation.{OfPhase, Starts, DrivenByOther}
 use Rattle.escalation.specs.List.{IsTick, before, inputAt, givenAt, noInput, noTick, classRead}
@@ -17,16 +18,20 @@ use Rattle.laws.proofs.Tick.Runs.{run-append}
 use Rattle.link_rules.specs.Codes.{responseOf}
 use Rattle.link_rules.specs.EscalationReceiver.{respondsPositive, respondsNegative}
 use Rattle.rules.specs.Run.{run, ticks}
-use Rattle.rules.specs.State.{newHandler, made, sender}
+use Rattle.rules.specs.State.{newHandler, made, isOn, sender}
 use Rattle.rules.specs.Tick.{ticked}
 use Rattle.rules.specs.declared.Handler.{Handler}
 use Rattle.rules.specs.declared.Input.{Input}
+use Rattle.rules.specs.declared.Wires.{Wires}
+use Rattle.seen.proofs.Seen.{new-senders}
 use Rattle.seen.specs.Seen.{SeenSoon, Second}
 use Rattle.seen.specs.Wires.{loneBefore, receiverAt, seenIn, Sound}
-use Rattle.calls.specs.Calls.{Call, Tick, leaves, inputs, leavesAll, inTurn, inputsAll}
+use Rattle.calls.specs.Calls.{Call, Tick, Calm, leaves, inputs, leavesAll, inTurn, inputsAll}
 use Rattle.calls.specs.SeenCalls.{SeenAcrossCalls}
 use Rattle.calls.proofs.Calls.{all-run, turn-append}
 use Rattle.calls.proofs.SeenCalls.{seen-from-made, seen-from-new}
+use Rattle.calls.proofs.WholeCalls.{every-good}
+use Rattle.calls.proofs.WholeCalmCalls.{calm-runs}
 
 -- ── a new handler of n alerts, 0 to 248; calls us, then the call c, then calls bs ──
 
@@ -139,6 +144,16 @@ pub every-pairs : (n : ℕ) → n ≤ 248 → (us : List Call) (x : Input) (bs :
     → ticked (leavesAll (newHandler n) us) x .output .escalation
     ≡ getD (ticks (newHandler n) (inputsAll (newHandler n) (us ++ Tick x ∷ bs))) (length (inputsAll (newHandler n) us)) noTick .output .escalation
 every-pairs n small us x bs = seen-from-new n (us ++ Tick x ∷ bs) small .pairs us bs x refl
+
+-- ── a calm call with the timer off and 20 entries gives back the pairs of the last of its m + 1 ticks ──
+
+pub every-calm-pairs : (n : ℕ) → n ≤ 248 → (us : List Call) (w : Wires) (m : ℕ) (few : suc m ≤ 4294967295) (list : List ℕ) (bs : List Call)
+    → isOn (leavesAll (newHandler n) us) ≡ false → 20 ≤ length list
+    → calmed (leavesAll (newHandler n) us) w (suc m) list .output .escalation
+    ≡ getD (ticks (newHandler n) (inputsAll (newHandler n) (us ++ Calm w (suc m) few list ∷ bs))) (length (inputsAll (newHandler n) us) + m) noTick .output .escalation
+every-calm-pairs n small us w m few list bs off l =
+    seen-from-new n (us ++ Calm w (suc m) few list ∷ bs) small .calm-pairs us bs w m few list refl
+    (calm-runs (leavesAll (newHandler n) us) list (every-good (newHandler n) (new-senders n small .accepted) us (Calm w (suc m) few list) bs) off l)
 
 -- ── whatever is made, for any n: where it is 0 or over 248 the handler has no alerts ──
 

@@ -1,1 +1,1 @@
-// Demand 3 and the second statement across calls: the claims about any sequence of tick, batch and boot calls in specs/, their proofs in proofs/.
+// Demand 3 and the second statement across calls: the claims about any sequence of tick, batch, boot and calm calls in specs/, their proofs in proofs/.

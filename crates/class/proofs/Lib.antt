@@ -1,1 +1,2 @@
 pub mod TimeoutRoom
+pub mod StillClasses

@@ -1,6 +1,7 @@
 // One class in code: its states, steps 3 and 4 of its tick, and the lines that it drives.
-mod state; // state.rt: the states and STATE's numbers
+pub mod state; // state.rt: the states and STATE's numbers
 pub mod step; // step.rt: steps 3 and 4
+pub mod still; // still.rt: a class that a tick without an event leaves as it is
 pub mod lines; // lines.rt: step 5
 mod ctrl; // ctrl.rt: the fields of CTRL
-mod moves; // moves.rt: the moves of step 4
+pub mod moves; // moves.rt: the moves of step 4

@@ -18,7 +18,7 @@ fn trigger(s: Signals, c: Class) -> bool
 }
 
 // EN is 1, the interrupt bit is now 1 and TIMEOUT_CYC is above 0.
-fn due(s: Signals, c: Class) -> bool
+pub fn due(s: Signals, c: Class) -> bool
     ensures { λ r. ⌜ r ≡ due s c ⌝ }
 {
     enabled(c) & (s.interrupt & (0 < c.timeout))

@@ -5,3 +5,4 @@ pub mod PairLaws
 pub mod Answers
 pub mod Accounts
 pub mod QuietTicks
+pub mod RestTicks

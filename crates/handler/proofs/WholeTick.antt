@@ -24,7 +24,7 @@ use Rattle.samples.specs.declared.Sampled.{Sampled}
 use Rattle.samples.specs.declared.pace.Met.{Met}
 use Rattle.handler.specs.Answered.{steppedOf}
 use Rattle.handler.specs.Classes.{classesBy, interruptsBy}
-use Rattle.handler.specs.OutputMasks.{interruptsOn, linesOn}
+use Rattle.laws.specs.OutputMasks.{interruptsOn, linesOn}
 use Rattle.handler.specs.declared.tick.Stepped.{Stepped}
 use Rattle.handler.proofs.ClassSteps.{withStepped, joined, stepped-by}
 

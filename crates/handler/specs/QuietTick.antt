@@ -10,7 +10,7 @@ use Rattle.rules.specs.declared.Links.{Links}
 use Rattle.samples.specs.Linked.{linkedBy}
 use Rattle.samples.specs.declared.pace.Met.{Met}
 use Rattle.handler.specs.Classes.{classesBy, interruptsBy}
-use Rattle.handler.specs.OutputMasks.{interruptsOn, linesOn}
+use Rattle.laws.specs.OutputMasks.{interruptsOn, linesOn}
 use Rattle.handler.specs.declared.quiet.Moved.{Moved}
 use Rattle.handler.specs.declared.tick.Stepped.{Stepped}
 

@@ -1,7 +1,8 @@
 // One tick of the handler in code: the access, the samples, the four classes and the outputs.
 pub mod tick; // tick.rt: the whole tick
+pub mod rest; // rest.rt: a tick in which all rests
 pub mod quiet; // quiet.rt: a tick without an event
 mod classes; // classes.rt: steps 3 and 4 of the four classes
-mod output; // output.rt: step 5, interrupts and lines
+pub mod output; // output.rt: step 5, interrupts and lines
 mod pairs; // pairs.rt: step 5, acknowledge and ping pairs
 pub mod account; // account.rt: what a tick hears

@@ -2,7 +2,7 @@
 use class::lines::lines;
 use class_rules::Class;
 ghost use mathlib.Core.Path.{_≡_};
-ghost use Rattle.handler.specs.OutputMasks.{interruptsOn, linesOn};
+ghost use Rattle.laws.specs.OutputMasks.{interruptsOn, linesOn};
 
 // Interrupts are INTR_STATE and INTR_ENABLE, bit by bit.
 pub fn interrupts_on(state: u16, enable: u16) -> u8

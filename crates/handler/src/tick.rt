@@ -89,7 +89,7 @@ pub fn step(h: Handler, x: Input) -> Stepped
 }
 
 // The outputs on refusal 7: interrupts and lines 0, all pairs (0,1).
-fn no_output() -> Output
+pub fn no_output() -> Output
     ensures { λ r. ⌜ r ≡ noOutput ⌝ }
 {
     let low = Wires {

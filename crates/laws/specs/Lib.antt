@@ -12,3 +12,4 @@ pub mod Columns
 pub mod Quiet
 pub mod Pinging
 pub mod Sending
+pub mod OutputMasks

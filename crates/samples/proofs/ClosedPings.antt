@@ -16,7 +16,7 @@ use Rattle.rules.specs.State.{words, receiversBy}
 use Rattle.samples.specs.Paced.{closedBy}
 
 -- rules that agree have the same words
-words-ext : (n : ℕ) (f g : ℕ → Bool) → ((i : ℕ) → i < n * 64 → f i ≡ g i) → wordsBy n f ≡ wordsBy n g
+pub words-ext : (n : ℕ) (f g : ℕ → Bool) → ((i : ℕ) → i < n * 64 → f i ≡ g i) → wordsBy n f ≡ wordsBy n g
 words-ext n f g e =
     each-ext n (λ v. wordOf 64 (λ b. f (v * 64 + b))) (λ v. wordOf 64 (λ b. g (v * 64 + b))) 0
     (λ v h.

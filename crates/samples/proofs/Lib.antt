@@ -11,3 +11,5 @@ pub mod Hearing
 pub mod SampleSteps
 pub mod LocalMasks
 pub mod QuietSamples
+pub mod RestingWords
+pub mod RestingLinks

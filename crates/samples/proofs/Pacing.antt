@@ -48,7 +48,7 @@ module _ (n : ℕ) (k : Links) (c : Timer) (begins pingable : Bool) (word : ℕ)
 -- ── step 2 ──
 
 -- a mask of lines is not 0 exactly if some line is in it
-mask-any : (f : ℕ → Bool) → not (eqb (bitsOf lineCount f) 0) ≡ anyTo f lineCount
+pub mask-any : (f : ℕ → Bool) → not (eqb (bitsOf lineCount f) 0) ≡ anyTo f lineCount
 unfolding bitsOf anyTo
 mask-any f =
     by4 (λ a b c d. not (eqb (num a + 2 * (num b + 2 * (num c + 2 * (num d + 2 * 0)))) 0)) (λ a b c d. ((false || a) || b) || (c || d)) tt (f 0) (f 1) (f 2) (f 3)

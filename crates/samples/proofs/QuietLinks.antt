@@ -1,6 +1,6 @@
 -- A step 2 of which nothing comes but for the links, by the words of what `pace` tells: where none has a place set, no alert has what they tell.
 -- Assumes nothing.
-use Prim.Native.Nat.{ℕ, zero, suc, _/_, _%_, _-_, _<_}
+use Prim.Native.Nat.{ℕ, zero, suc, _/_, _%_, _-_, _*_, _<_}
 use mathlib.Core.Path.{_≡_, refl, sym, ap, _∙_}
 use mathlib.Core.Bool.{Bool, true, false, false≢true, not, _&&_, _||_}
 use mathlib.Core.List.{List}
@@ -34,14 +34,14 @@ module _ (ws : List ℕ) (e : noneSet ws ≡ true) where
       eqb-true _ _ (and-true (eqb (getD ws 2 0) 0) _ (and-true (eqb (getD ws 1 0) 0) _ (and-true (eqb (getD ws 0 0) 0) _ e .1) .1) .1)
   word-none (suc (suc (suc (suc v)))) l = absurd (omega arith)
 
-  place-none : (i : ℕ) → i < most → placeIn ws i ≡ false
+  pub place-none : (i : ℕ) → i < words * 64 → placeIn ws i ≡ false
   place-none i l =
       let d : i / 64 < words = omega arith in
       ap (λ (x : ℕ). place x (i % 64)) (word-none (i / 64) d) ∙ bit-none (63 - i % 64)
 
   -- a rule whose words they are holds of no alert
   rule-none : (f : ℕ → Bool) → ws ≡ wordsBy words f → (i : ℕ) → i < most → f i ≡ false
-  rule-none f z i l = sym (placeIn-each words f i (omega arith)) ∙ ap (λ (xs : List ℕ). placeIn xs i) (sym z) ∙ place-none i l
+  rule-none f z i l = sym (placeIn-each words f i (omega arith)) ∙ ap (λ (xs : List ℕ). placeIn xs i) (sym z) ∙ place-none i (omega arith)
 
 -- ── pings ──
 

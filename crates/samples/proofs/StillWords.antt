@@ -26,7 +26,7 @@ pub record Still (l a b v o k p q : Bool) : Type 0 where
   pub answer : false ≡ (l && gives a b v o k p q .answer)
   pub equals : false ≡ (l && equal p q)
 
-still-at : (l a b v o k p q : Bool) → (((((p || not q) || a) || b) || k) && l) ≡ false → Still l a b v o k p q
+pub still-at : (l a b v o k p q : Bool) → (((((p || not q) || a) || b) || k) && l) ≡ false → Still l a b v o k p q
 unfolding received askedFor standsAfter
 still-at false a b v o k p q e = record { receiver = refl; event = refl; answer = refl; equals = refl }
 still-at true false false v true false false true e = record { receiver = refl; event = refl; answer = refl; equals = refl }

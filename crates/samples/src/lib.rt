@@ -4,6 +4,7 @@ mod back; // back.rt: what comes back from the lines
 pub mod pace; // pace.rt: the ping timer among the receivers and the lines
 pub mod hear; // hear.rt: what is heard: receivers, events, local alerts raised
 pub mod links; // links.rt: a step 2 of which nothing comes but for the links
+pub mod rest; // rest.rt: a step 2 that leaves the links as they are
 pub mod link; // link.rt: the links after the tick, by the lines of step 5
 pub mod locals; // locals.rt: the local alerts
 

@@ -16,7 +16,7 @@ pub struct Quiet {
 }
 
 // No place is set.
-fn none_set(w: [u64; WORDS]) -> bool
+pub fn none_set(w: [u64; WORDS]) -> bool
     ensures { λ r. ⌜ r ≡ noneSet w ⌝ }
 {
     (w[0] == 0) & ((w[1] == 0) & ((w[2] == 0) & (w[3] == 0)))

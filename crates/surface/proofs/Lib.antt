@@ -1,4 +1,5 @@
 pub mod TickParts
 pub mod HearParts
 pub mod BatchParts
+pub mod CalmParts
 pub mod WriteParts

@@ -5,10 +5,12 @@ use mathlib.Core.Path.{_≡_}
 use mathlib.Core.Bool.{true}
 use mathlib.Core.List.{List, _++_, map}
 use lib.ListN.{getD, length, take, drop}
+use Rattle.calm_rules.specs.Call.{callWords}
 use Rattle.rules.specs.Run.{ticks}
 use Rattle.rules.specs.declared.Handler.{Handler}
 use Rattle.rules.specs.declared.Input.{Input}
 use Rattle.rules.specs.declared.Verdict.{Verdict}
+use Rattle.rules.specs.declared.Wires.{Wires}
 use Rattle.trace_rules.specs.Batch.{batchVerdict, batchInputs}
 use Rattle.trace_rules.specs.Edition.{newest, recordBytes}
 use Rattle.trace_rules.specs.Record.{kindOf, registerOf, valueOf, inputsOf}
@@ -29,6 +31,14 @@ Words e h bytes out left = take (length (ranBy e h bytes out)) left ≡ map word
 
 abbrev pub LaterWords : Edition → Handler → List ℕ → List ℕ → List ℕ → Type 0
 LaterWords e h bytes out left = drop (length (ranBy e h bytes out)) left ≡ drop (length (ranBy e h bytes out)) out
+
+-- ── a calm call, from the state, the wires, the ticks and the lent list at entry ──
+
+abbrev pub CalmWords : Handler → Wires → ℕ → List ℕ → List ℕ → Type 0
+CalmWords h w n list left = take (length (callWords h w n list)) left ≡ callWords h w n list
+
+abbrev pub CalmLater : Handler → Wires → ℕ → List ℕ → List ℕ → Type 0
+CalmLater h w n list left = drop (length (callWords h w n list)) left ≡ drop (length (callWords h w n list)) list
 
 -- ── the writer, of a list that is not refused ──
 

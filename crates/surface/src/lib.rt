@@ -6,12 +6,14 @@ use boundary::tarravane_batch_24;
 use boundary::tarravane_batch_70;
 use boundary::tarravane_batch_pings;
 use boundary::tarravane_batch_wires;
+use boundary::tarravane_calm;
 use boundary::tarravane_hear;
 use boundary::tarravane_install;
 use boundary::tarravane_new;
 use boundary::tarravane_receive;
 use boundary::tarravane_record;
 use boundary::tarravane_tick;
+use calm_rules::Calmed;
 use handler::account::Account;
 use handler::tick::Answered;
 use link_rules::LineReceivers;
@@ -19,11 +21,13 @@ use link_rules::Listened;
 use policy::Installed;
 use rules::Handler;
 use rules::Made;
+use rules::Wires;
 use trace_rules::Edition;
 ghost use mathlib.Core.Path.{_≡_};
 ghost use mathlib.Core.Bool.{true};
 ghost use Rattle.bits.specs.Bits.{bit, bitsOf};
 ghost use Rattle.boundary.specs.Input.{inputBy};
+ghost use Rattle.calm_rules.specs.Call.{calmed, callInputs};
 ghost use Rattle.escalation.specs.Escalation.{Demand3};
 ghost use Rattle.handler.specs.Account.{account};
 ghost use Rattle.link_rules.specs.EscalationReceiver.{respondsPositive, respondsNegative, escalates, listened};
@@ -35,7 +39,7 @@ ghost use Rattle.rules.specs.Run.{run};
 ghost use Rattle.rules.specs.State.{made};
 ghost use Rattle.rules.specs.Tick.{ticked};
 ghost use Rattle.rules.specs.Valid.{valid};
-ghost use Rattle.surface.specs.CallParts.{ranBy, Words, LaterWords, SameInputs, SameNumbers, SameBytes};
+ghost use Rattle.surface.specs.CallParts.{ranBy, Words, LaterWords, CalmWords, CalmLater, SameInputs, SameNumbers, SameBytes};
 ghost use Rattle.trace_rules.specs.Batch.{batchAnswer, batchVerdict};
 ghost use Rattle.writer.specs.Lent.{lent, writeLent};
 
@@ -101,6 +105,17 @@ pub fn batch_wires(h: Handler, bytes: &[u8], out: &mut [u64]) -> Batched
     ensures demand3 { λ r. ⌜ (valid h ≡ true → Demand3 h (ranBy Edition.Wires h (now (bytes .entry)) (now (out .entry)))) ⌝ }
 {
     tarravane_batch_wires(h, bytes, out)
+}
+
+pub fn calm(h: Handler, wires: Wires, ticks: u32, out: &mut [u64]) -> Calmed
+    ensures { λ r. ⌜ r .handler ≡ run h (callInputs h wires ticks (now (out .entry))) ⌝ }
+    ensures answer { λ r. ⌜ r .answer ≡ calmed h wires ticks (now (out .entry)) .answer ⌝ }
+    ensures outputs { λ r. ⌜ r .output ≡ calmed h wires ticks (now (out .entry)) .output ⌝ }
+    ensures words { λ r. ⌜ CalmWords h wires ticks (now (out .entry)) (now (out .exit)) ⌝ }
+    ensures later { λ r. ⌜ CalmLater h wires ticks (now (out .entry)) (now (out .exit)) ⌝ }
+    ensures demand3 { λ r. ⌜ (valid h ≡ true → Demand3 h (callInputs h wires ticks (now (out .entry)))) ⌝ }
+{
+    tarravane_calm(h, wires, ticks, out)
 }
 
 pub fn write(

@@ -21,7 +21,8 @@ use Rattle.trace_rules.specs.declared.Edition.{Edition}
 use Rattle.trace_rules.specs.declared.Edition.the-variants.{Alerts64, Alerts248, Pings, Wires}
 use Rattle.rules.specs.declared.Input.{Input}
 use Rattle.rules.specs.declared.Receive.{Receive}
-use Rattle.trace.specs.RecordParts.{wireBytes, tailBytes, headOf, fieldsOf, tailOf, behindOf}
+use Rattle.rules.specs.declared.Wires as wire
+use Rattle.trace.specs.RecordParts.{wireBytes, wiresFrom, tailBytes, headOf, fieldsOf, tailOf, behindOf}
 use Rattle.trace.specs.declared.record.Head.{Head}
 use Rattle.trace.specs.declared.record.Tail.{Tail}
 
@@ -163,16 +164,15 @@ module _ (e : Edition) (at : ℕ) (xs : List ℕ) (b : (i : ℕ) → getD xs i 0
       ∙ ap (inputOfFields e) (unpack-append (head e) (wires e ++ tail e) first behind f (one p (one q (unpack-fits (tail e) rest))))
 
   -- and its access and sample, as the code reads them one after another
-  pub record-input : (f n : ℕ) (h : Head) (t : Tail) (a r : Access) (p q : List ℕ) (m : Receive) → f ≡ first → h ≡ headOf e f → n ≡ alerts e
+  pub record-input : (f n : ℕ) (h : Head) (t : Tail) (a r : Access) (ws : wire.Wires) (m : Receive) → f ≡ first → h ≡ headOf e f → n ≡ alerts e
       → t ≡ tailOf e (ofBytes (take (tailBytes e) (drop (at + 8 + n / 8 + n / 8) xs))) → a ≡ accessIn (fieldsOf h) (behindOf t) → r ≡ carried e a
-      → p ≡ wireWords (alerts e) pos → q ≡ wireWords (alerts e) (ofBytes (take (wireBytes e) (drop (at + 8 + n / 8) xs))) → m ≡ receiveOf e (t .lines)
-      → record { access = r; sample = record { alerts = record { pos = p; neg = q }; word = t .word; receive = m } } ≡ inputOf e (take (recordBytes e) (drop at xs))
+      → ws ≡ wiresFrom (alerts e) (wireBytes e) (at + 8) xs → m ≡ receiveOf e (t .lines)
+      → record { access = r; sample = record { alerts = ws; word = t .word; receive = m } } ≡ inputOf e (take (recordBytes e) (drop at xs))
   unfolding inputOf unpack
-  record-input f n h t a r p q m ef eh en et ea er ep eq em =
+  record-input f n h t a r ws m ef eh en et ea er ew em =
       let k : t ≡ tailOf e rest = et ∙ ap (λ (i : ℕ). tailOf e (ofBytes (take (tailBytes e) (drop (at + 8 + i / 8 + i / 8) xs)))) en in
       let z : r ≡ carried e (accessIn (fieldsOf (headOf e first)) (behindOf (tailOf e rest))) =
       er ∙ ap (carried e) (ea ∙ ap₂ (λ (g : Head) (s : Tail). accessIn (fieldsOf g) (behindOf s)) (eh ∙ ap (headOf e) ef) k) in
-      let y : q ≡ wireWords (alerts e) neg = eq ∙ ap (λ (i : ℕ). wireWords (alerts e) (ofBytes (take (wireBytes e) (drop (at + 8 + i / 8) xs)))) en in
       let w : t .word ≡ tailOf e rest .word = ap (λ (s : Tail). s .word) k in
       let o : m ≡ receiveOf e (tailOf e rest .lines) = em ∙ ap (λ (s : Tail). receiveOf e (s .lines)) k in
-      rw (z, ep, y, w, o) (sym (ap (λ (i : Input). record { access = carried e (i .access); sample = i .sample }) record-held))
+      rw (z, ew, w, o) (sym (ap (λ (i : Input). record { access = carried e (i .access); sample = i .sample }) record-held))

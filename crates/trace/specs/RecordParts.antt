@@ -1,11 +1,12 @@
 -- The parts of a record that the code reads one after another.
 -- Assumes nothing.
-use Prim.Native.Nat.{ℕ, _/_}
+use Prim.Native.Nat.{ℕ, _+_, _/_}
 use mathlib.Core.List.{List, [], _∷_}
-use lib.ListN.{getD}
-use Rattle.bits.specs.Fields.{total, unpack}
+use lib.ListN.{getD, take, drop}
+use Rattle.bits.specs.Fields.{total, unpack, ofBytes}
 use Rattle.trace_rules.specs.Edition.{alerts, tail}
-use Rattle.trace_rules.specs.Record.{head}
+use Rattle.rules.specs.declared.Wires.{Wires}
+use Rattle.trace_rules.specs.Record.{head, wireWords}
 use Rattle.trace_rules.specs.declared.Edition.{Edition}
 use Rattle.trace.specs.declared.record.Head.{Head}
 use Rattle.trace.specs.declared.record.Tail.{Tail}
@@ -13,6 +14,10 @@ use Rattle.trace.specs.declared.record.Tail.{Tail}
 -- the bytes of the positive wires, and of the negative ones
 abbrev pub wireBytes : Edition → ℕ
 wireBytes e = alerts e / 8
+
+-- n positive wires in m bytes from a place on, and the negative ones behind them
+abbrev pub wiresFrom : ℕ → ℕ → ℕ → List ℕ → Wires
+wiresFrom n m at xs = record { pos = wireWords n (ofBytes (take m (drop at xs))); neg = wireWords n (ofBytes (take m (drop (at + m) xs))) }
 
 -- the bytes behind the wires
 abbrev pub tailBytes : Edition → ℕ

@@ -9,7 +9,6 @@ use crate::lines::receive_of;
 use rules::Access;
 use rules::Input;
 use rules::Sample;
-use rules::WORDS;
 use rules::Wires;
 use trace_rules::Edition;
 ghost use mathlib.Core.Path.{_≡_};
@@ -18,8 +17,8 @@ ghost use lib.ListN.{length, take, drop};
 ghost use Rattle.bits.specs.Fields.{ofBytes};
 ghost use Rattle.trace_rules.specs.Edition.{recordBytes, alerts};
 ghost use Rattle.trace_rules.specs.Record as rules;
-ghost use Rattle.trace_rules.specs.Record.{accessOf, clear, accessIn, wireWords, inputOf};
-ghost use Rattle.trace.specs.RecordParts.{wireBytes, tailBytes, headOf, fieldsOf, tailOf, behindOf};
+ghost use Rattle.trace_rules.specs.Record.{accessOf, clear, accessIn, inputOf};
+ghost use Rattle.trace.specs.RecordParts.{wireBytes, wiresFrom, tailBytes, headOf, fieldsOf, tailOf, behindOf};
 
 // Four bytes as one number.
 fn half_at(bytes: &[u8], at: usize) -> u32
@@ -168,31 +167,43 @@ fn seven_at(bytes: &[u8], at: usize) -> u64
     (high << 32) + (e << 24) + (f << 16) + (g << 8)
 }
 
-// 64 wires, of alerts 0 to 63.
-fn wires_64(bytes: &[u8], at: usize) -> [u64; WORDS]
-    requires { ⌜ at + 8 ≤ length (now bytes) ⌝ }
-    ensures { λ r. ⌜ r ≡ wireWords 64 (ofBytes (take 8 (drop at (now (bytes .entry))))) ⌝ }
+// 64 positive and 64 negative wires, of alerts 0 to 63.
+fn wires_64(bytes: &[u8], at: usize) -> Wires
+    requires { ⌜ at + 16 ≤ length (now bytes) ⌝ }
+    ensures { λ r. ⌜ r ≡ wiresFrom 64 8 at (now (bytes .entry)) ⌝ }
 {
     let a = word_at(bytes, at);
-    [a, 0, 0, 0]
+    let b = word_at(bytes, at + 8);
+    Wires {
+        pos: [a, 0, 0, 0],
+        neg: [b, 0, 0, 0],
+    }
 }
 
-// 248 wires.
-fn wires_248(bytes: &[u8], at: usize) -> [u64; WORDS]
-    requires { ⌜ at + 31 ≤ length (now bytes) ⌝ }
-    ensures { λ r. ⌜ r ≡ wireWords 248 (ofBytes (take 31 (drop at (now (bytes .entry))))) ⌝ }
+// 248 of each. All eight words are read here: wires that were put together from two arrays would be copied right after they are written.
+fn wires_248(bytes: &[u8], at: usize) -> Wires
+    requires { ⌜ at + 62 ≤ length (now bytes) ⌝ }
+    ensures { λ r. ⌜ r ≡ wiresFrom 248 31 at (now (bytes .entry)) ⌝ }
 {
     let a = word_at(bytes, at);
     let b = word_at(bytes, at + 8);
     let c = word_at(bytes, at + 16);
     let d = seven_at(bytes, at + 24);
-    [a, b, c, d]
+    let next = at + 31;
+    let e = word_at(bytes, next);
+    let f = word_at(bytes, next + 8);
+    let g = word_at(bytes, next + 16);
+    let h = seven_at(bytes, next + 24);
+    Wires {
+        pos: [a, b, c, d],
+        neg: [e, f, g, h],
+    }
 }
 
 // The wires of a record that begin at a place, the first one at the highest bit of the first word.
-fn wires_at(edition: Edition, bytes: &[u8], at: usize) -> [u64; WORDS]
-    requires { ⌜ at + wireBytes edition ≤ length (now bytes) ⌝ }
-    ensures { λ r. ⌜ r ≡ wireWords (alerts edition) (ofBytes (take (wireBytes edition) (drop at (now (bytes .entry))))) ⌝ }
+fn wires_at(edition: Edition, bytes: &[u8], at: usize) -> Wires
+    requires { ⌜ at + wireBytes edition + wireBytes edition ≤ length (now bytes) ⌝ }
+    ensures { λ r. ⌜ r ≡ wiresFrom (alerts edition) (wireBytes edition) at (now (bytes .entry)) ⌝ }
 {
     match edition {
         Edition::Alerts64 => wires_64(bytes, at),
@@ -261,13 +272,12 @@ pub fn input_at(edition: Edition, bytes: &[u8], at: usize) -> Input
     let wires = edition::alerts(edition) / 8;
     let tail = tail_at(edition, bytes, at + 8 + wires + wires);
     let access = carried(edition, access_in(head, tail));
-    let pos = wires_at(edition, bytes, at + 8);
-    let neg = wires_at(edition, bytes, at + 8 + wires);
+    let alerts = wires_at(edition, bytes, at + 8);
     let receive = receive_of(edition, tail.lines);
     Input {
         access,
         sample: Sample {
-            alerts: Wires { pos, neg },
+            alerts,
             word: tail.word,
             receive,
         },

@@ -2,6 +2,7 @@
 //! numbers, and wires.
 #![allow(dead_code)] // no test file uses all of it
 
+pub mod calm;
 pub mod driven;
 pub mod escalation;
 pub mod pinged;

@@ -17,9 +17,14 @@ impl Refusal {
     pub const FEW_ALERTS: Refusal = Refusal(13);
     /// A class with EN that waits for 65,536 events is not locked so. Nothing is changed.
     pub const THRESHOLD: Refusal = Refusal(14);
+    /// The ping timer is on, so that no tick is calm. Nothing is changed.
+    pub const TIMER_ON: Refusal = Refusal(15);
+    /// A list of changes that has fewer entries than there may be changes. Nothing is changed.
+    pub const FEW_ENTRIES: Refusal = Refusal(18);
 }
 
-/// A read gives 0 to 4294967295, writing records the bytes written, anything else accepted 0, a refusal its negated number.
+/// A read gives 0 to 4294967295, writing records the bytes written, calm ticks the number of changes, anything else accepted 0,
+/// a refusal its negated number.
 #[derive(Clone, Copy, Debug, PartialEq, Eq)]
 pub struct Answer(pub i64);
 

@@ -7,6 +7,7 @@
 mod alert_names;
 mod answer;
 pub mod boot;
+mod calm;
 mod edition;
 mod heard;
 mod input;
@@ -27,6 +28,7 @@ mod writer;
 
 pub use alert_names::ALERT_NAMES;
 pub use answer::{Answer, Refusal};
+pub use calm::{Calmed, Change, CHANGES};
 pub use edition::Edition;
 pub use heard::Heard;
 pub use input::{Access, Input, Sample, Wires};
@@ -114,6 +116,19 @@ impl Handler {
     pub fn batch(self, edition: Edition, bytes: &[u8], out: &mut [Word]) -> (Handler, Answer) {
         let given = library::batch(self, edition, bytes, out);
         (given.handler, Answer(given.answer))
+    }
+
+    /// So many calm ticks in one go: no access, these wires of the alerts, the word 0, and receivers at the lines' ends that
+    /// answer without fault. A word for each tick in which a line changed stands at the start of the list, and the answer is
+    /// how many they are; later entries stay. The time does not grow with the ticks. Refusals 7, 15 (the ping timer is on) and
+    /// 18 (the list has fewer than 20 entries), in this order: state and list unchanged, outputs at rest.
+    pub fn calm(self, wires: Wires, ticks: u32, list: &mut [Change]) -> Calmed {
+        let given = library::calm(self, wires, ticks, list);
+        Calmed {
+            handler: given.handler,
+            answer: Answer(given.answer),
+            output: given.output,
+        }
     }
 
     /// Boots: installs document 002's classification of alerts 0 to 57 and its class settings, one access a tick with every

@@ -1,7 +1,8 @@
 //! The functions of `libtarravane.a`. The only unsafe lines of the tools. Their names there carry the layout's number: these
 //! structs are of layout 4, and a library of another one does not link.
+use crate::calm::Change;
 use crate::edition::Edition;
-use crate::input::{Sample, Wired};
+use crate::input::{Sample, Wired, Wires};
 use crate::line_receivers::LineReceivers;
 use crate::output::Output;
 use crate::state::{Handler, WORDS};
@@ -41,6 +42,13 @@ pub struct Installed {
     pub answer: i64,
     pub register: u16,
     pub _spare: [u8; 6],
+}
+
+#[repr(C)]
+pub struct Calmed {
+    pub handler: Handler,
+    pub answer: i64,
+    pub output: Output,
 }
 
 #[repr(C)]
@@ -113,6 +121,14 @@ extern "C" {
     ) -> i64;
     #[link_name = "tarravane_install_layout_4"]
     fn tarravane_install(h: Handler, lifecycle: u8) -> Installed;
+    #[link_name = "tarravane_calm_layout_4"]
+    fn tarravane_calm(
+        h: Handler,
+        wires: Wires,
+        ticks: u32,
+        list: *mut Change,
+        length: usize,
+    ) -> Calmed;
     #[link_name = "tarravane_receive_layout_4"]
     fn tarravane_receive(r: LineReceivers, positive: u32, negative: u32) -> Listened;
 }
@@ -135,6 +151,11 @@ pub fn hear(h: Handler, kind: u8, register: u16, value: u32, sample: Sample) -> 
 pub fn install(h: Handler, lifecycle: u8) -> Installed {
     // Safe: integers in, integers out, no precondition.
     unsafe { tarravane_install(h, lifecycle) }
+}
+
+pub fn calm(h: Handler, wires: Wires, ticks: u32, list: &mut [Change]) -> Calmed {
+    // Safe: the slice is as long as said, not null and aligned; a Change is a u64.
+    unsafe { tarravane_calm(h, wires, ticks, list.as_mut_ptr(), list.len()) }
 }
 
 pub fn receive(r: LineReceivers, positive: u32, negative: u32) -> Listened {
@@ -182,6 +203,7 @@ pub fn record(lists: Lists, out: &mut [u8]) -> i64 {
 }
 
 #[test]
-fn what_is_heard_has_the_size_that_the_header_has() {
+fn what_comes_back_has_the_size_that_the_header_has() {
     assert!(std::mem::size_of::<Heard>() == 80);
+    assert!(std::mem::size_of::<Calmed>() == 2248);
 }

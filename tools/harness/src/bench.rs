@@ -1,13 +1,16 @@
 //! The time of a tick and of a boot, proved library and reference side by side in one
-//! process. A timing is never a verdict; unequal words are one.
+//! process, and of calm ticks, in one go and one by one. A timing is never a verdict;
+//! unequal words are one.
 
 mod boot;
+mod calm;
 mod load;
 mod rounds;
 mod start;
 mod timed;
 
 pub use boot::{time_boot, BOOTS, BOOT_TITLE};
+pub use calm::{calms, time_calm, CALM_TICKS, CALM_TITLE};
 pub use load::{load, Load, LOADS};
 pub use rounds::time;
 pub use start::start;

@@ -13,7 +13,7 @@ pub use found::Found;
 pub use input::{access, aimed, answers, receive, record, register, sample, wires, word};
 pub use odd::Odd;
 pub use receivers::bit;
-pub use senders::{reference_pairs, settle};
+pub use senders::{handler_senders, reference_pairs, settle};
 pub use timer::told_apart;
 pub use twin::{
     handler_of, reference_access, reference_edition, reference_of, reference_sample, with_spare,

@@ -7,6 +7,7 @@
 pub mod bench;
 pub mod boot;
 pub mod calls;
+pub mod calm;
 pub mod compare;
 pub mod configure;
 pub mod entries;

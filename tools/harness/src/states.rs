@@ -9,6 +9,7 @@ mod run;
 mod subject;
 mod summary;
 
+pub use pool::{Pool, BLOCK};
 pub use run::{try_all, DEFAULT_STATES};
 pub use subject::{Subject, PROVED};
 pub use summary::Summary;

@@ -1,5 +1,6 @@
 //! The words after each command.
 pub mod boot;
+pub mod calm;
 pub mod explain;
 mod range;
 pub mod record;
@@ -42,6 +43,7 @@ mod tests {
             assert_eq!(parsed(explain::parse, line), Ok(Asked::Help), "{line}");
             assert_eq!(parsed(record::parse, line), Ok(Asked::Help), "{line}");
             assert_eq!(parsed(wave::parse, line), Ok(Asked::Help), "{line}");
+            assert_eq!(parsed(calm::parse, line), Ok(Asked::Help), "{line}");
         }
         for line in ["--help", "-h", "PROD --help", "--help --both"] {
             assert_eq!(parsed(boot::parse, line), Ok(Asked::Help), "{line}");

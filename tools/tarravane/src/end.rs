@@ -7,7 +7,7 @@ use std::process::ExitCode;
 pub enum End {
     /// Status 0. Also where the reader of the output went away: it asked for no more.
     Whole,
-    /// Status 1: the trace is cut, or its N missing or refused; a boot stopped or was refused.
+    /// Status 1: the trace is cut, or its N missing or refused; a boot stopped or was refused; calm ticks were refused.
     Damaged,
 }
 

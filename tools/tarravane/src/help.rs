@@ -2,6 +2,8 @@
 
 pub const BOOT: &str = include_str!("../../../launcher/help/boot.txt");
 
+pub const CALM: &str = include_str!("../../../launcher/help/calm.txt");
+
 pub const EXPLAIN: &str = include_str!("../../../launcher/help/explain.txt");
 
 pub const RECORD: &str = include_str!("../../../launcher/help/record.txt");

@@ -3,6 +3,7 @@ mod alert_bits;
 mod args;
 mod back;
 mod boot;
+mod calm;
 mod end;
 mod explain;
 mod facts;
@@ -40,6 +41,13 @@ fn boot(words: &[String]) -> Result<End, String> {
     }
 }
 
+fn calm(words: &[String]) -> Result<End, String> {
+    match args::calm::parse(words)? {
+        Asked::Help => helped(help::CALM),
+        Asked::Run(asked) => calm::run(&asked),
+    }
+}
+
 fn explain(words: &[String]) -> Result<End, String> {
     match args::explain::parse(words)? {
         Asked::Help => helped(help::EXPLAIN),
@@ -74,6 +82,7 @@ fn run(words: &[String]) -> Result<End, String> {
         .map(|(first, rest)| (first.as_str(), rest))
     {
         Some(("boot", rest)) => boot(rest),
+        Some(("calm", rest)) => calm(rest),
         Some(("explain", rest)) => explain(rest),
         Some(("record", rest)) => record(rest),
         Some(("wave", rest)) => wave(rest),

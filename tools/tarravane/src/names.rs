@@ -97,7 +97,7 @@ pub fn pinged(of: Whose) -> String {
     }
 }
 
-/// A refusal of an access or of the writer; `reads` tells which way 2 means.
+/// A refusal of an access, of the writer, of a boot or of calm ticks; `reads` tells which way 2 means.
 pub fn refusal(refusal: Refusal, reads: bool) -> &'static str {
     match refusal.0 {
         1 => "no register",
@@ -112,6 +112,8 @@ pub fn refusal(refusal: Refusal, reads: bool) -> &'static str {
         12 => "differs",
         13 => "too few alerts",
         14 => "threshold",
+        15 => "the ping timer is on",
+        18 => "list too short",
         _ => "refused",
     }
 }

@@ -11,7 +11,7 @@ mod pings;
 pub mod receive;
 pub mod sample;
 pub mod wires;
-mod word;
+pub mod word;
 
 /// Is it the first line of a text, good or bad?
 pub fn begins(line: &str) -> bool {

@@ -362,6 +362,8 @@ fn helps(command: &str, own: &[&str], other: &str) {
         own.iter()
             .for_each(|word| assert!(text.contains(word), "{word}"));
         assert!(!text.contains(other));
+        let widest = text.lines().max_by_key(|line| line.len()).expect("lines");
+        assert!(widest.len() <= 104, "{widest}");
     }
 }
 

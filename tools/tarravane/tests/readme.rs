@@ -48,6 +48,12 @@ fn boot_prints_what_readme_shows() {
     shows("boot PROD");
 }
 
+#[test]
+fn calm_prints_what_readme_shows() {
+    shows("calm --to 21 examples/far-alert.trace 4294967295");
+    shows("calm --to 15 examples/silly-threshold.trace 4294967295");
+}
+
 /// The waves that README shows are written as it says; its picture is the one that is stored.
 #[test]
 fn wave_writes_what_readme_names() {
@@ -83,4 +89,20 @@ fn record_takes_the_text_that_readme_shows() {
     let ticks = text.lines().filter(|line| !line.starts_with('#')).count() - 1;
     let trace = given("record", &["-"], text.as_bytes());
     assert_eq!(trace.len(), 2 + Edition::NEWEST.bytes() * ticks);
+}
+
+/// README's list of the crates has every one.
+#[test]
+fn every_crate_has_its_line() {
+    let crates = fs::read_to_string(repository("crates.txt")).expect("the crates");
+    let listed = block("## The crates");
+    // What stands behind a line's start or two spaces: a crate, or what it has.
+    let pieces = listed.lines().flat_map(|line| line.split("  "));
+    let firsts: Vec<&str> = pieces
+        .filter_map(|piece| piece.split_whitespace().next())
+        .collect();
+    for line in crates.lines().filter(|line| !line.starts_with('#')) {
+        let name = line.split(':').next().expect("a name");
+        assert!(firsts.contains(&name), "{name}");
+    }
 }

@@ -11,11 +11,12 @@ use std::io::{BufRead, BufReader};
 use std::process::{Command, Stdio};
 
 /// The commands that read a trace.
-const READERS: [(&str, &[&str]); 5] = [
+const READERS: [(&str, &[&str]); 6] = [
     ("explain", &["-"]),
     ("explain", &["-", "--only-changes"]),
     ("explain", &["-", "--wide"]),
     ("explain", &["-", "--summary"]),
+    ("calm", &["-", "9"]),
     ("record", &["-", "--back"]),
 ];
 
@@ -43,7 +44,7 @@ fn a_whole_trace_is_0() {
     }
 }
 
-/// Explain says it on standard output, at its end; the text of record --back is no place for it.
+/// Explain and calm say it on standard output, at its end; the text of record --back is no place for it.
 #[test]
 fn a_cut_trace_is_1() {
     let why = "cut: 5 bytes after tick 1, too few for a record";
@@ -54,7 +55,7 @@ fn a_cut_trace_is_1() {
         for (command, words) in READERS {
             let (written, said) = ended(command, words, &bytes, 1);
             match command {
-                "explain" => assert_eq!((&last_line(&written)[..], said), (why, vec![])),
+                "explain" | "calm" => assert_eq!((&last_line(&written)[..], said), (why, vec![])),
                 _ => assert_eq!(said, [why]),
             }
         }
@@ -94,7 +95,7 @@ fn a_refused_n_is_1() {
         for (command, words) in READERS {
             let (written, said) = ended(command, words, &bytes, 1);
             match command {
-                "explain" => {
+                "explain" | "calm" => {
                     assert_eq!(String::from_utf8_lossy(&written), format!("{why}\n"));
                     assert!(said.is_empty(), "{said:?}");
                 }
@@ -112,6 +113,8 @@ fn what_cannot_be_done_is_2() {
         ("record", &["missing.txt"]),
         ("record", &["--back", "missing.trace"]),
         ("record", &["-", "-o", "missing/a.trace"]),
+        ("calm", &["missing.trace", "1"]),
+        ("calm", &[]),
         ("explain", &[]),
         ("record", &[]),
         ("dance", &[]),
@@ -140,6 +143,8 @@ fn an_output_that_takes_nothing_is_2() {
         ("explain", &[&seal[..]][..]),
         ("explain", &["--summary", &seal]),
         ("explain", &["--help"]),
+        ("calm", &[&seal, "9"]),
+        ("calm", &["--help"]),
         ("record", &["--help"]),
         ("record", &["--back", &seal]),
         ("record", &[&text]),

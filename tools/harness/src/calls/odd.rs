@@ -41,9 +41,14 @@ impl Odd {
         Some(Odd::new(call, field, reference, got))
     }
 
-    /// The first field of the next state that differs.
+    /// The first field of the next state that differs, what no rule ever reads
+    /// apart.
     pub fn state(call: &'static str, wanted: &Handler, got: &Handler) -> Option<Odd> {
-        let [wanted, got] = &[wanted, got].map(|state| told_apart(*state));
+        Odd::exact(call, &told_apart(*wanted), &told_apart(*got))
+    }
+
+    /// The first field of the next state that differs, whatever it is.
+    pub fn exact(call: &'static str, wanted: &Handler, got: &Handler) -> Option<Odd> {
         if wanted == got {
             return None;
         }

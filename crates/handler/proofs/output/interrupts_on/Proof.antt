@@ -1,6 +1,6 @@
 -- `interrupts_on` is INTR_STATE and INTR_ENABLE, bit by bit.
 -- Assumes nothing.
-use Rattle.handler.specs.OutputMasks.{interruptsOn}
+use Rattle.laws.specs.OutputMasks.{interruptsOn}
 use Rattle.handler.proofs.ClassMasks.{and-four}
 use borrow.Author.Needs.{needs}
 use Rattle.handler.proofs.output.interrupts_on.Statement.{statement}

@@ -2,7 +2,7 @@
 -- Assumes nothing.
 use lib.ListN.{getD}
 use Rattle.class_rules.specs.Class.{drives, noClass}
-use Rattle.handler.specs.OutputMasks.{linesOn}
+use Rattle.laws.specs.OutputMasks.{linesOn}
 use Rattle.handler.proofs.ClassMasks.{or-four}
 use borrow.Author.Needs.{needs}
 use Rattle.handler.proofs.output.lines_on.Statement.{statement}

@@ -43,31 +43,19 @@ add-wires-at c = search needs
 wires-at-requires : tie.Need-wires-at-requires
 wires-at-requires c κs = let b = c .before .before .before .before .before .before .before in omega (arith, record-parts (b .args .edition), b .pre)
 
-add-wires-at-2 : tie.Need-add-wires-at-2
-add-wires-at-2 c = search needs
-
-add-wires-at-3 : tie.Need-add-wires-at-3
-add-wires-at-3 c = search needs
-
-wires-at-requires-2 : tie.Need-wires-at-requires-2
-wires-at-requires-2 c κs =
-    let s = c .before .before .before .before in
-    let b = s .before .before .before .before in
-    omega (arith, record-parts (b .args .edition), b .pre, ap (λ (n : ℕ). n / 8) (s .alerts .ensures))
-
 receive-of-requires : tie.Need-receive-of-requires
 receive-of-requires c κs = search needs
 
 returns : tie.Need-returns
 returns c =
-    let second = c .before in
-    let access = second .before .before .before in
+    let w = c .before in
+    let access = w .before .before in
     let sizes = access .before .before in
     let first = sizes .before .before in
     let begin = first .before .before in
-    record-input (begin .args .edition) (begin .args .at) (begin .args .bytes .now) (λ i. first .before .shared-slice-known .given i .fits) (begin .pre) _ _ _ _ _ _ _ _ _
+    record-input (begin .args .edition) (begin .args .at) (begin .args .bytes .now) (λ i. first .before .shared-slice-known .given i .fits) (begin .pre) _ _ _ _ _ _ _ _
     (first .word-at .ensures) (sizes .before .head-of .ensures) (sizes .alerts .ensures) (access .before .tail-at .ensures) (access .access-in .ensures)
-    (second .before .before .carried .ensures) (second .before .wires-at .ensures) (second .wires-at2 .ensures) (c .receive-of .ensures)
+    (w .before .carried .ensures) (w .wires-at .ensures) (c .receive-of .ensures)
 
 pub input-at-spec : {M : Type 1} → statement M
 input-at-spec =
@@ -84,8 +72,5 @@ input-at-spec =
     carried-requires
     add-wires-at
     wires-at-requires
-    add-wires-at-2
-    add-wires-at-3
-    wires-at-requires-2
     receive-of-requires
     returns)

@@ -2,6 +2,7 @@
 
 use crate::trouble::Trouble;
 use harness::boot::{self, try_boots};
+use harness::calm::{self, try_calms, DEFAULT_CALMS};
 use harness::compare::Case;
 use harness::report::{report, times, verdict};
 use harness::states::{self, try_all};
@@ -35,6 +36,30 @@ pub fn boots(seed: u64, boots: u64) -> Result<bool, Trouble> {
     tell(begin, &summary, found, |found| {
         format!("boot --boots 1 --seed {}", found.seed)
     })
+}
+
+/// Tries calm calls and prints what they met. The default set must meet every
+/// kind.
+pub fn calms(seed: u64, states: u64) -> Result<bool, Trouble> {
+    let begin = Instant::now();
+    let mut summary = calm::Summary::default();
+    let found = try_calms(calm::PROVED, seed, states, &mut summary);
+    let missed = match states >= DEFAULT_CALMS && found.is_none() {
+        true => summary.missed(),
+        false => Vec::new(),
+    };
+    let equal = tell(begin, &summary, found, |found| {
+        format!("calm --states 1 --seed {}", found.seed)
+    })?;
+    met(equal, &missed)
+}
+
+/// Prints what was never met; says whether all was equal and met.
+fn met(equal: bool, missed: &[String]) -> Result<bool, Trouble> {
+    let printed = missed
+        .iter()
+        .try_for_each(|name| writeln!(io::stdout(), "NEVER MET: {name}"));
+    verdict(equal && missed.is_empty(), printed).map_err(Trouble::Write)
 }
 
 /// Tries lists for the trace writer and prints how many were written.

@@ -6,9 +6,10 @@ mod sets;
 mod trouble;
 mod words;
 
-use commands::{bench, boots, damaged_states, print_trace, written_lists};
+use commands::{bench, boots, calms, damaged_states, print_trace, written_lists};
 use golden::{hold, keep, FILE};
 use harness::boot::DEFAULT_BOOTS;
+use harness::calm::DEFAULT_CALMS;
 use harness::compare::{damage, generated, DEFAULT_SEED};
 use harness::report::progress;
 use harness::states::DEFAULT_STATES;
@@ -34,6 +35,19 @@ fn main() -> ExitCode {
 const SET: [&str; 3] = ["--traces", "--seed", "--edition"];
 const ONE: [&str; 2] = ["--records", "--edition"];
 
+/// The options of a run over states.
+const STATES: [&str; 2] = ["--states", "--seed"];
+
+/// A run over states, as many as are asked for, else these.
+fn states(
+    options: &Options,
+    states: u64,
+    run: fn(u64, u64) -> Result<bool, Trouble>,
+) -> Result<bool, Trouble> {
+    let seed = options.get("--seed").unwrap_or(DEFAULT_SEED);
+    run(seed, options.get("--states").unwrap_or(states))
+}
+
 /// Runs a command; says whether all was equal.
 fn command(mut words: Vec<String>) -> Result<bool, Trouble> {
     let options = Options::take(&mut words)?;
@@ -42,11 +56,7 @@ fn command(mut words: Vec<String>) -> Result<bool, Trouble> {
     let only = |names| options.only(name, names);
     let first = |options: &Options| options.get("--seed").unwrap_or(DEFAULT_SEED);
     match words.as_slice() {
-        ["states"] => {
-            let options = only(&["--states", "--seed"])?;
-            let states = options.get("--states").unwrap_or(DEFAULT_STATES);
-            damaged_states(first(&options), states)
-        }
+        ["states"] => states(&only(&STATES)?, DEFAULT_STATES, damaged_states),
         ["boot"] => {
             let options = only(&["--boots", "--seed"])?;
             boots(
@@ -54,6 +64,7 @@ fn command(mut words: Vec<String>) -> Result<bool, Trouble> {
                 options.get("--boots").unwrap_or(DEFAULT_BOOTS),
             )
         }
+        ["calm"] => states(&only(&STATES)?, DEFAULT_CALMS, calms),
         ["write"] => {
             let options = only(&["--lists", "--seed"])?;
             let lists = options.get("--lists").unwrap_or(DEFAULT_LISTS);

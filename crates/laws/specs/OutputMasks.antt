@@ -1,4 +1,4 @@
--- Step 5, of the parts of the state that it reads.
+-- Step 5, of the parts of the state that it reads: what the code of a tick and of calm ticks cites.
 -- Assumes nothing.
 use Prim.Native.Nat.{ℕ}
 use mathlib.Core.Bool.{_&&_}

@@ -1,0 +1,4 @@
+pub mod RoundBy
+pub mod Walk
+pub mod RestBy
+pub mod CalmedBy

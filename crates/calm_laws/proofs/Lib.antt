@@ -1,0 +1,17 @@
+pub mod Standing
+pub mod Jumps
+pub mod Ranks
+pub mod Turning
+pub mod Classes
+pub mod Rounds
+pub mod PlainTick
+pub mod Settling
+pub mod CalmRuns
+pub mod TwoCalls
+pub mod CallTicks
+pub mod CalmTicks
+pub mod ChangeWords
+pub mod Tells
+pub mod TellsExamples
+pub mod WholeCalm
+pub mod Examples
