@@ -25,6 +25,8 @@
  *   tarravane_record 152 bytes
  *   tarravane_install 73560 bytes
  *   tarravane_calm 54456 bytes
+ *   tarravane_dump 9896 bytes
+ *   tarravane_read_dump 39560 bytes
  * Measured, not proved (tests/stack, the gate): each call ran on a stack filled with a pattern, with accesses of every kind
  * and lists of 0 to 300 entries, linked with -z now. Else the dynamic loader binds memcpy within the first call and takes
  * stack there: with it the first tarravane_new took 6344 bytes on the machine that was measured, the other calls no more. */
@@ -60,6 +62,8 @@ extern "C" {
 #define tarravane_record TARRAVANE_NAMED(tarravane_record, TARRAVANE_LAYOUT)
 #define tarravane_install TARRAVANE_NAMED(tarravane_install, TARRAVANE_LAYOUT)
 #define tarravane_calm TARRAVANE_NAMED(tarravane_calm, TARRAVANE_LAYOUT)
+#define tarravane_dump TARRAVANE_NAMED(tarravane_dump, TARRAVANE_LAYOUT)
+#define tarravane_read_dump TARRAVANE_NAMED(tarravane_read_dump, TARRAVANE_LAYOUT)
 
 /* A result that is dropped gives a warning: the state after a call is in it. */
 #if (defined(__cplusplus) && __cplusplus >= 201703L) || (defined(__STDC_VERSION__) && __STDC_VERSION__ > 201710L)
@@ -88,6 +92,9 @@ extern "C" {
 #define TARRAVANE_RECORD_70 70
 #define TARRAVANE_RECORD_PINGS 75
 #define TARRAVANE_RECORD_WIRES 75
+
+#define TARRAVANE_REGISTERS 1344 /* no register has this number or one above it */
+#define TARRAVANE_DUMP_MOST 3332 /* bytes of the longest dump */
 
 /* ---- The state. Read, copy and compare it freely; change it by ticks. ---- */
 
@@ -318,6 +325,24 @@ struct tarravane_listened {
     uint32_t seen; /* the lines whose receiver sees an escalation in it */
 };
 
+/* What a dump shows: see tarravane_read_dump. Where the answer is a refusal all else is 0. A content has one form, so that
+ * contents are equal where their bytes are. */
+struct tarravane_shown_class {
+    uint32_t state; /* STATE: TARRAVANE_IDLE .. */
+    uint32_t count; /* ESC_CNT: 0 in Idle and Terminal, and in no other state */
+    uint32_t accum; /* ACCUM_CNT */
+};
+
+/* The three lists are by register number: stages[TARRAVANE_CLASS_CTRL(k)] is the stage of class k's CTRL. */
+struct tarravane_content {
+    int64_t answer;
+    size_t n; /* alerts */
+    struct tarravane_shown_class classes[TARRAVANE_CLASSES];
+    uint64_t stages[TARRAVANE_REGISTERS]; /* 0 for none, else the staged value plus 1, as in the state */
+    uint8_t causes[TARRAVANE_REGISTERS];  /* each CAUSE; 0 at every other number */
+    uint8_t locked[TARRAVANE_REGISTERS];  /* 1 for each REGWEN and CLR_REGWEN that is locked; 0 at every other number */
+};
+
 /* ---- Refusal numbers: an answer of -number ---- */
 
 #define TARRAVANE_NO_REGISTER 1   /* no such register */
@@ -332,11 +357,13 @@ struct tarravane_listened {
 #define TARRAVANE_BAD_LENGTH 8    /* batch length not a multiple of its record's bytes */
 #define TARRAVANE_SHORT_LIST 9    /* output list shorter than the records */
 #define TARRAVANE_NO_RECORD 10    /* an access that no well-formed record holds */
-#define TARRAVANE_SHORT_BUFFER 11 /* buffer shorter than the records to write */
+#define TARRAVANE_SHORT_BUFFER 11 /* buffer shorter than the records or the dump to write */
 #define TARRAVANE_DIFFERS 12      /* second write differs from the first; the stage is dropped, local 5 occurs if enabled */
 #define TARRAVANE_FEW_ALERTS 13   /* n under 58, too few for a boot */
 #define TARRAVANE_THRESHOLD 14    /* a 0 to a class REGWEN that is still 1, while EN is 1 and ACCUM_THRESH 65535 */
 #define TARRAVANE_TIMER_ON 15     /* a calm call where PING_TIMER_EN is 1 */
+#define TARRAVANE_NO_DUMP 16      /* bytes that are neither a dump nor the start of one */
+#define TARRAVANE_CUT_DUMP 17     /* the start of a dump, cut, or no bytes */
 #define TARRAVANE_FEW_ENTRIES 18  /* list of changes shorter than 20 entries */
 
 /* ---- Kinds of access ---- */
@@ -617,6 +644,26 @@ TARRAVANE_RESULT
 struct tarravane_calmed tarravane_calm(struct tarravane_handler h, struct tarravane_wires wires, uint32_t ticks, uint64_t *list,
                                        size_t length);
 
+/* Writes the dump of the state h from the start of bytes, and answers the bytes written: no more than TARRAVANE_DUMP_MOST.
+ * The four bytes TDMP, then, most significant bit first: n (8 bits); STATE, count and accumulator of each class (3, 32, 16);
+ * a bit for each CAUSE and then for each REGWEN and CLR_REGWEN, 1 for locked, register numbers rising; zeros to a full byte;
+ * the number of open stages (16) and, numbers rising, each one's register and value (16, 32). Later bytes stay as they were.
+ * It shows no EN, CLASS, CTRL, threshold, timeout or length, no interrupt, none of registers 5 and 6, no turn of the ping
+ * timer, no receiver and no sender, and no entry at n and above; of a shadowed register it shows an open stage.
+ * -7: the state breaks its rule. -11: length is less than the dump's bytes. In this order; each leaves bytes as they were.
+ * The caller owes: bytes points to length writable bytes and is not null, also where length is 0. */
+TARRAVANE_RESULT
+int64_t tarravane_dump(struct tarravane_handler h, uint8_t *bytes, size_t length);
+
+/* What the dump shows that the length bytes are. Any bytes may come in. The answer is 0 exactly where tarravane_dump can have
+ * written them, all of them, of a state that keeps its rule; the content is then what that state held, and no other bytes
+ * have it. Else nothing is shown.
+ * -17: the bytes are the start of a dump, cut: some bytes behind them would make them one. No bytes are such a start.
+ * -16: all other bytes.
+ * The caller owes: bytes points to length readable bytes and is not null, also where length is 0. */
+TARRAVANE_RESULT
+struct tarravane_content tarravane_read_dump(const uint8_t *bytes, size_t length);
+
 /* ---- The layout that the library has: each size is the sum of its fields ---- */
 
 #ifdef __cplusplus
@@ -735,6 +782,15 @@ TARRAVANE_ASSERT(sizeof(struct tarravane_listened) == 28);
 TARRAVANE_ASSERT(offsetof(struct tarravane_listened, positive) == 16);
 TARRAVANE_ASSERT(offsetof(struct tarravane_listened, negative) == 20);
 TARRAVANE_ASSERT(offsetof(struct tarravane_listened, seen) == 24);
+TARRAVANE_ASSERT(sizeof(struct tarravane_shown_class) == 12);
+TARRAVANE_ASSERT(offsetof(struct tarravane_shown_class, count) == 4);
+TARRAVANE_ASSERT(offsetof(struct tarravane_shown_class, accum) == 8);
+TARRAVANE_ASSERT(sizeof(struct tarravane_content) == 13504);
+TARRAVANE_ASSERT(offsetof(struct tarravane_content, n) == 8);
+TARRAVANE_ASSERT(offsetof(struct tarravane_content, classes) == 16);
+TARRAVANE_ASSERT(offsetof(struct tarravane_content, stages) == 64);
+TARRAVANE_ASSERT(offsetof(struct tarravane_content, causes) == 10816);
+TARRAVANE_ASSERT(offsetof(struct tarravane_content, locked) == 12160);
 
 TARRAVANE_ASSERT(sizeof(struct tarravane_class) == TARRAVANE_SIZE(class, lengths) + TARRAVANE_SIZE(class, timeout) +
                  TARRAVANE_SIZE(class, count) + TARRAVANE_SIZE(class, ctrl) + TARRAVANE_SIZE(class, accum) +
@@ -790,6 +846,11 @@ TARRAVANE_ASSERT(sizeof(struct tarravane_line_receivers) == TARRAVANE_SIZE(line_
                  TARRAVANE_SIZE(line_receivers, broken));
 TARRAVANE_ASSERT(sizeof(struct tarravane_listened) == TARRAVANE_SIZE(listened, receivers) +
                  TARRAVANE_SIZE(listened, positive) + TARRAVANE_SIZE(listened, negative) + TARRAVANE_SIZE(listened, seen));
+TARRAVANE_ASSERT(sizeof(struct tarravane_shown_class) == TARRAVANE_SIZE(shown_class, state) +
+                 TARRAVANE_SIZE(shown_class, count) + TARRAVANE_SIZE(shown_class, accum));
+TARRAVANE_ASSERT(sizeof(struct tarravane_content) == TARRAVANE_SIZE(content, answer) + TARRAVANE_SIZE(content, n) +
+                 TARRAVANE_SIZE(content, classes) + TARRAVANE_SIZE(content, stages) + TARRAVANE_SIZE(content, causes) +
+                 TARRAVANE_SIZE(content, locked));
 
 #ifdef __cplusplus
 }

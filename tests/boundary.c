@@ -2,8 +2,8 @@
  * and are pinged, the ping timer's turns come when they are due, the lines' senders send their pairs and check what comes back,
  * a damaged field gets refusal 7, shadowed registers take two equal writes, a class that waits for 65,536 events is not locked,
  * a boot installs each lifecycle's policy or stops where it must, a batch and the writer stay in their buffers, calm ticks in
- * one go are as many plain ticks, example traces give the same words by batch, by single ticks and by the replay program, and
- * the writer gives their bytes again.
+ * one go are as many plain ticks, a dump shows what its state held and other bytes nothing, example traces give the same words
+ * by batch, by single ticks and by the replay program, and the writer gives their bytes again.
  * usage: boundary [TRACE WORDS]...   WORDS: what the replay program printed of TRACE, or - for none */
 #include "boundary.h"
 
@@ -107,6 +107,7 @@ int main(int argc, char **argv) {
     test_boot_stops();
     test_writer();
     test_calm();
+    test_dump();
     for (int i = 1; i + 1 < argc; i += 2) test_trace(argv[i], argv[i + 1]);
     printf("boundary: %lu checks from C hold\n", checks);
     return 0;

@@ -130,6 +130,7 @@ void test_boot(void);
 void test_boot_stops(void);
 void test_writer(void);
 void test_calm(void);
+void test_dump(void);
 void test_trace(const char *trace, const char *printed);
 
 #endif

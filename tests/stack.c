@@ -32,6 +32,8 @@ static size_t entries;
 static int64_t recorded; /* what the writer answered */
 static struct tarravane_heard heard;
 static struct tarravane_listened listened;
+static int64_t dumped; /* what the writer of dumps answered */
+static struct tarravane_content content;
 
 /* A call that is measured: what makes its bytes, the most alerts, and whether it runs where the ping timer is on. */
 struct call {
@@ -112,6 +114,18 @@ static void call_calm(void)
 {
     NOTE_FRAME();
     state = tarravane_calm(state, sample.alerts, values[0], words, RECORDS).handler;
+}
+
+static void call_dump(void)
+{
+    NOTE_FRAME();
+    dumped = tarravane_dump(state, bytes, sizeof bytes);
+}
+
+static void call_read_dump(void)
+{
+    NOTE_FRAME();
+    content = tarravane_read_dump(bytes, dumped < 0 ? 0 : (size_t)dumped);
 }
 
 static const unsigned char *lowest_changed(void)
@@ -274,6 +288,8 @@ static const struct call calls[] = {
     {"tarravane_record", call_record, call_record, TARRAVANE_ALERTS, true},
     {"tarravane_install", call_install, call_record, TARRAVANE_ALERTS, true},
     {"tarravane_calm", call_calm, run_classes, TARRAVANE_ALERTS, false},
+    {"tarravane_dump", call_dump, call_record, TARRAVANE_ALERTS, true},
+    {"tarravane_read_dump", call_read_dump, call_dump, TARRAVANE_ALERTS, true},
 };
 
 static size_t most_of(const struct call *c)

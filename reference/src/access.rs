@@ -85,7 +85,7 @@ impl Handler {
     }
 
     /// The staged value of a register, if there is one.
-    fn staged(&self, register: Register) -> Option<u32> {
+    pub(crate) fn staged(&self, register: Register) -> Option<u32> {
         match register {
             Register::Timer(field) => self.timer.staged(field),
             _ => self.stages.staged(register),

@@ -1,7 +1,7 @@
 //! The refusals and the signed number that every call answers.
 
 /// Why an access, a batch, the making of a handler, the writing of a trace, a
-/// boot or a skip was refused.
+/// boot, a skip or the writing or reading of a dump was refused.
 #[derive(Clone, Copy, Debug, PartialEq, Eq)]
 pub enum Refusal {
     /// No such register.
@@ -25,7 +25,7 @@ pub enum Refusal {
     ShortList = 9,
     /// No well-formed record holds an access of the written list.
     Unrecordable = 10,
-    /// The buffer is shorter than the records to write.
+    /// The buffer is shorter than the records or the dump to write.
     ShortBuffer = 11,
     /// The written value differs from the one that the register's stage holds.
     StageDiffers = 12,
@@ -35,6 +35,10 @@ pub enum Refusal {
     SillyThreshold = 14,
     /// The ping timer is on, so its ticks are not calm.
     TimerOn = 15,
+    /// The bytes are neither a dump nor the cut start of one.
+    BrokenDump = 16,
+    /// The bytes are the cut start of a dump, or there are none.
+    CutDump = 17,
     /// The list of changes has fewer than 20 entries.
     ShortChanges = 18,
 }

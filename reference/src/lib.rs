@@ -13,12 +13,18 @@
 //! * [`install`] sets a handler up at boot.
 //! * [`skip()`] runs many ticks without access on steady wires, one by one, and
 //!   lists the ticks at which a line changed.
+//! * [`dump()`] writes what a dump shows of a state, [`read_dump`] gives the
+//!   [`Content`] of a dump back.
 
 mod access;
 pub mod answer;
 pub mod answering;
 pub mod carried;
 pub mod class;
+pub mod content;
+pub mod dump;
+mod dump_bits;
+pub mod dump_reader;
 pub mod edition;
 mod escalation;
 pub mod escalation_receiver;
@@ -41,6 +47,9 @@ pub use answer::Refusal;
 pub use answering::{Answering, Stand};
 pub use carried::carried;
 pub use class::Class;
+pub use content::Content;
+pub use dump::dump;
+pub use dump_reader::read_dump;
 pub use edition::Edition;
 pub use escalation_receiver::EscalationReceiver;
 pub use handler::{Access, Handler, Outcome, Source, Ticked};

@@ -4,6 +4,9 @@ use batch::Batched;
 use batch::batch;
 use calm::call::calm;
 use calm_rules::Calmed;
+use dump_content::read::read_dump;
+use dump_rules::Content;
+use dump_writer::write::write_dump;
 use handler::account::Account;
 use handler::account::account_of;
 use handler::tick::Answered;
@@ -31,6 +34,9 @@ ghost use Rattle.batch.specs.BatchedBy.{BatchedBy};
 ghost use Rattle.bits.specs.Bits.{bit};
 ghost use Rattle.calm.specs.CalmedBy.{CalmedBy};
 ghost use Rattle.boundary.specs.Input.{accessBy, sampleBy, inputBy};
+ghost use Rattle.dump_rules.specs.Content.{contentBy};
+ghost use Rattle.dump_rules.specs.Reader.{readDump};
+ghost use Rattle.dump_rules.specs.Writer.{WroteDump};
 ghost use Rattle.escalation.specs.Escalation.{Demand3};
 ghost use Rattle.handler.specs.Account.{account};
 ghost use Rattle.handler.specs.Answered.{answered};
@@ -206,4 +212,20 @@ pub extern "C" fn tarravane_receive(r: LineReceivers, positive: u32, negative: u
     ensures { λ x. ⌜ x ≡ listenedAll r (bit positive) (bit negative) ⌝ }
 {
     listen(r, positive, negative)
+}
+
+// The dump of any state, into the lent buffer.
+#[no_mangle]
+pub extern "C" fn tarravane_dump(h: Handler, out: &mut [u8]) -> i64
+    ensures { λ r. ⌜ WroteDump h (now (out .entry)) r (now (out .exit)) ⌝ }
+{
+    write_dump(h, out)
+}
+
+// The content of any bytes, if they are a dump.
+#[no_mangle]
+pub extern "C" fn tarravane_read_dump(bytes: &[u8]) -> Content
+    ensures { λ r. ⌜ r ≡ contentBy (readDump (now (bytes .entry))) ⌝ }
+{
+    read_dump(bytes)
 }

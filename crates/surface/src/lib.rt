@@ -7,13 +7,16 @@ use boundary::tarravane_batch_70;
 use boundary::tarravane_batch_pings;
 use boundary::tarravane_batch_wires;
 use boundary::tarravane_calm;
+use boundary::tarravane_dump;
 use boundary::tarravane_hear;
 use boundary::tarravane_install;
 use boundary::tarravane_new;
+use boundary::tarravane_read_dump;
 use boundary::tarravane_receive;
 use boundary::tarravane_record;
 use boundary::tarravane_tick;
 use calm_rules::Calmed;
+use dump_rules::Content;
 use handler::account::Account;
 use handler::tick::Answered;
 use link_rules::LineReceivers;
@@ -28,6 +31,9 @@ ghost use mathlib.Core.Bool.{true};
 ghost use Rattle.bits.specs.Bits.{bit, bitsOf};
 ghost use Rattle.boundary.specs.Input.{inputBy};
 ghost use Rattle.calm_rules.specs.Call.{calmed, callInputs};
+ghost use Rattle.dump_rules.specs.Content.{contentBy};
+ghost use Rattle.dump_rules.specs.Reader.{readDump};
+ghost use Rattle.dump_rules.specs.Writer.{writeDump};
 ghost use Rattle.escalation.specs.Escalation.{Demand3};
 ghost use Rattle.handler.specs.Account.{account};
 ghost use Rattle.link_rules.specs.EscalationReceiver.{respondsPositive, respondsNegative, escalates, listened};
@@ -163,4 +169,22 @@ pub fn receive(r: LineReceivers, positive: u32, negative: u32) -> Listened
     ensures seen { λ x. ⌜ x .seen ≡ bitsOf lineCount (λ e. escalates (escalationReceiverIn r e) (bit positive e) (bit negative e)) ⌝ }
 {
     tarravane_receive(r, positive, negative)
+}
+
+pub fn dump(h: Handler, out: &mut [u8]) -> i64
+    ensures { λ r. ⌜ r ≡ writeDump h (now (out .entry)) .answer ⌝ }
+    ensures bytes { λ r. ⌜ now (out .exit) ≡ writeDump h (now (out .entry)) .buffer ⌝ }
+{
+    tarravane_dump(h, out)
+}
+
+pub fn read_dump(bytes: &[u8]) -> Content
+    ensures { λ r. ⌜ r .answer ≡ contentBy (readDump (now (bytes .entry))) .answer ⌝ }
+    ensures alerts { λ r. ⌜ r .n ≡ contentBy (readDump (now (bytes .entry))) .n ⌝ }
+    ensures classes { λ r. ⌜ r .classes ≡ contentBy (readDump (now (bytes .entry))) .classes ⌝ }
+    ensures stages { λ r. ⌜ r .stages ≡ contentBy (readDump (now (bytes .entry))) .stages ⌝ }
+    ensures causes { λ r. ⌜ r .causes ≡ contentBy (readDump (now (bytes .entry))) .causes ⌝ }
+    ensures locked { λ r. ⌜ r .locked ≡ contentBy (readDump (now (bytes .entry))) .locked ⌝ }
+{
+    tarravane_read_dump(bytes)
 }

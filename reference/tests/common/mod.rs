@@ -4,6 +4,7 @@
 
 pub mod calm;
 pub mod driven;
+pub mod dumps;
 pub mod escalation;
 pub mod pinged;
 pub mod policy;

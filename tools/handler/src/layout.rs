@@ -1,8 +1,9 @@
 //! Where a field stands, for the tests of the layout: `std::mem::offset_of` is younger than Rust 1.63.
 use crate::input::{Sample, Wired};
+use crate::library::Shown;
 use crate::{
-    Class, ClassStages, Handler, LinePairs, LineReceivers, Links, Output, Receivers, Senders,
-    Stages, Timer, Turn, Wires,
+    Class, ClassStages, Content, Handler, LinePairs, LineReceivers, Links, Output, Receivers,
+    Senders, ShownClass, Stages, Timer, Turn, Wires,
 };
 
 /// A type with a value, whose fields have places.
@@ -91,6 +92,24 @@ impl Laid for LineReceivers {
 impl Laid for Wires {
     fn some() -> Wires {
         Sample::AT_REST.alerts
+    }
+}
+
+impl Laid for Content {
+    fn some() -> Content {
+        Content::NOTHING
+    }
+}
+
+impl Laid for ShownClass {
+    fn some() -> ShownClass {
+        Content::NOTHING.classes[0]
+    }
+}
+
+impl Laid for Shown {
+    fn some() -> Shown {
+        crate::library::read_dump(&[])
     }
 }
 

@@ -8,6 +8,7 @@ mod alert_names;
 mod answer;
 pub mod boot;
 mod calm;
+mod content;
 mod edition;
 mod heard;
 mod input;
@@ -29,6 +30,7 @@ mod writer;
 pub use alert_names::ALERT_NAMES;
 pub use answer::{Answer, Refusal};
 pub use calm::{Calmed, Change, CHANGES};
+pub use content::{read_dump, Content, ShownClass, DUMP_MOST, REGISTERS};
 pub use edition::Edition;
 pub use heard::Heard;
 pub use input::{Access, Input, Sample, Wires};
@@ -129,6 +131,12 @@ impl Handler {
             answer: Answer(given.answer),
             output: given.output,
         }
+    }
+
+    /// Writes the dump of the state to the front of `out`, and answers the bytes written, at most `DUMP_MOST`; later bytes
+    /// stay. Refusal 7, then 11 where `out` is too short: either leaves `out` as it was.
+    pub fn dump(self, out: &mut [u8]) -> Answer {
+        Answer(library::dump(self, out))
     }
 
     /// Boots: installs document 002's classification of alerts 0 to 57 and its class settings, one access a tick with every

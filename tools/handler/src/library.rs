@@ -1,6 +1,7 @@
 //! The functions of `libtarravane.a`. The only unsafe lines of the tools. Their names there carry the layout's number: these
 //! structs are of layout 4, and a library of another one does not link.
 use crate::calm::Change;
+use crate::content::Content;
 use crate::edition::Edition;
 use crate::input::{Sample, Wired, Wires};
 use crate::line_receivers::LineReceivers;
@@ -49,6 +50,12 @@ pub struct Calmed {
     pub handler: Handler,
     pub answer: i64,
     pub output: Output,
+}
+
+#[repr(C)]
+pub struct Shown {
+    pub answer: i64,
+    pub content: Content,
 }
 
 #[repr(C)]
@@ -131,6 +138,10 @@ extern "C" {
     ) -> Calmed;
     #[link_name = "tarravane_receive_layout_4"]
     fn tarravane_receive(r: LineReceivers, positive: u32, negative: u32) -> Listened;
+    #[link_name = "tarravane_dump_layout_4"]
+    fn tarravane_dump(h: Handler, bytes: *mut u8, length: usize) -> i64;
+    #[link_name = "tarravane_read_dump_layout_4"]
+    fn tarravane_read_dump(bytes: *const u8, length: usize) -> Shown;
 }
 
 pub fn new(n: usize) -> Made {
@@ -200,6 +211,16 @@ pub fn record(lists: Lists, out: &mut [u8]) -> i64 {
             out.len(),
         )
     }
+}
+
+pub fn dump(h: Handler, out: &mut [u8]) -> i64 {
+    // Safe: the slice is as long as said, and not null.
+    unsafe { tarravane_dump(h, out.as_mut_ptr(), out.len()) }
+}
+
+pub fn read_dump(bytes: &[u8]) -> Shown {
+    // Safe: the slice is as long as said, and not null.
+    unsafe { tarravane_read_dump(bytes.as_ptr(), bytes.len()) }
 }
 
 #[test]

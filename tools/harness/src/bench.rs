@@ -1,9 +1,10 @@
-//! The time of a tick and of a boot, proved library and reference side by side in one
-//! process, and of calm ticks, in one go and one by one. A timing is never a verdict;
-//! unequal words are one.
+//! The time of a tick, of a boot and of a dump, proved library and reference side by
+//! side in one process, and of calm ticks, in one go and one by one. A timing is never
+//! a verdict; unequal words are one.
 
 mod boot;
 mod calm;
+mod dump;
 mod load;
 mod rounds;
 mod start;
@@ -11,6 +12,7 @@ mod timed;
 
 pub use boot::{time_boot, BOOTS, BOOT_TITLE};
 pub use calm::{calms, time_calm, CALM_TICKS, CALM_TITLE};
+pub use dump::{dumped_states, time_dump, DUMPS, DUMP_TITLE};
 pub use load::{load, Load, LOADS};
 pub use rounds::time;
 pub use start::start;

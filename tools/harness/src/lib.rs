@@ -1,6 +1,6 @@
 //! Test harness of the alert handler: generated traces go through a program
 //! and through the reference, and both outputs are compared to the byte.
-//! Damaged states, boots and lists for the trace writer go through the proved
+//! Damaged states, boots, dumps and lists for the trace writer go through the proved
 //! library and the reference in this process, and both are timed side by side. Words
 //! that a program gave once are kept, and another one's are compared with them.
 
@@ -10,6 +10,7 @@ pub mod calls;
 pub mod calm;
 pub mod compare;
 pub mod configure;
+pub mod dump;
 pub mod entries;
 pub mod generate;
 pub mod golden;

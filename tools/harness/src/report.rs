@@ -1,7 +1,7 @@
 //! What the commands print. A reader that goes away is no failure; any other write that fails is told.
 
-use crate::bench::{calms, records, time, time_boot, time_calm};
-use crate::bench::{BOOTS, BOOT_TITLE, CALM_TICKS, CALM_TITLE, LOADS, TITLE};
+use crate::bench::{calms, dumped_states, records, time, time_boot, time_calm, time_dump};
+use crate::bench::{BOOTS, BOOT_TITLE, CALM_TICKS, CALM_TITLE, DUMPS, DUMP_TITLE, LOADS, TITLE};
 use handler::boot::BOOT_ALERTS;
 use handler::{Edition, ALERTS};
 use std::fmt::Display;
@@ -41,8 +41,8 @@ pub fn report<D: Display>(
     writeln!(out, "repeat: {own} {}", command(found))
 }
 
-/// Prints the times of every load, of a boot and of calm ticks, each when it is
-/// known; notes whether all was equal.
+/// Prints the times of every load, of a boot, of dumps and of calm ticks, each
+/// when it is known; notes whether all was equal.
 pub fn times(out: &mut impl Write, equal: &mut bool) -> io::Result<()> {
     if cfg!(debug_assertions) {
         let line = "the reference is not built for release: its times say nothing";
@@ -62,6 +62,13 @@ pub fn times(out: &mut impl Write, equal: &mut bool) -> io::Result<()> {
         let timed = time_boot(n, BOOTS);
         *equal &= timed.equal;
         writeln!(out, "{timed}")?;
+    }
+    writeln!(out, "{DUMP_TITLE}")?;
+    for timed in dumped_states().map(|state| time_dump(state, DUMPS)) {
+        for timed in timed {
+            *equal &= timed.equal;
+            writeln!(out, "{timed}")?;
+        }
     }
     writeln!(out, "{CALM_TITLE}")?;
     for calm in calms() {

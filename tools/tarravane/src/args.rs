@@ -1,8 +1,10 @@
 //! The words after each command.
 pub mod boot;
 pub mod calm;
+pub mod dump;
 pub mod explain;
 mod range;
+pub mod read;
 pub mod record;
 pub mod wave;
 
@@ -42,6 +44,8 @@ mod tests {
         for line in ["--help", "-h", "t --help", "--help --both"] {
             assert_eq!(parsed(explain::parse, line), Ok(Asked::Help), "{line}");
             assert_eq!(parsed(record::parse, line), Ok(Asked::Help), "{line}");
+            assert_eq!(parsed(dump::parse, line), Ok(Asked::Help), "{line}");
+            assert_eq!(parsed(read::parse, line), Ok(Asked::Help), "{line}");
             assert_eq!(parsed(wave::parse, line), Ok(Asked::Help), "{line}");
             assert_eq!(parsed(calm::parse, line), Ok(Asked::Help), "{line}");
         }

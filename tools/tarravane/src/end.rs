@@ -7,7 +7,8 @@ use std::process::ExitCode;
 pub enum End {
     /// Status 0. Also where the reader of the output went away: it asked for no more.
     Whole,
-    /// Status 1: the trace is cut, or its N missing or refused; a boot stopped or was refused; calm ticks were refused.
+    /// Status 1: the trace is cut, or its N missing or refused; a boot stopped or was refused; calm ticks were refused; a trace
+    /// has no such state to dump; a file is a cut dump or none.
     Damaged,
 }
 

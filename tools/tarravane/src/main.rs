@@ -4,6 +4,7 @@ mod args;
 mod back;
 mod boot;
 mod calm;
+mod dump;
 mod end;
 mod explain;
 mod facts;
@@ -12,6 +13,7 @@ mod names;
 mod output;
 mod progress;
 mod range;
+mod read;
 mod record;
 mod row;
 mod runs;
@@ -55,6 +57,23 @@ fn explain(words: &[String]) -> Result<End, String> {
     }
 }
 
+fn dump(words: &[String]) -> Result<End, String> {
+    match args::dump::parse(words)? {
+        Asked::Help => helped(help::DUMP),
+        Asked::Run(asked) => {
+            output::check(&asked.trace, asked.to.as_deref())?;
+            dump::run(&asked)
+        }
+    }
+}
+
+fn read(words: &[String]) -> Result<End, String> {
+    match args::read::parse(words)? {
+        Asked::Help => helped(help::READ),
+        Asked::Run(asked) => read::run(&asked),
+    }
+}
+
 fn record(words: &[String]) -> Result<End, String> {
     match args::record::parse(words)? {
         Asked::Help => helped(help::RECORD),
@@ -83,7 +102,9 @@ fn run(words: &[String]) -> Result<End, String> {
     {
         Some(("boot", rest)) => boot(rest),
         Some(("calm", rest)) => calm(rest),
+        Some(("dump", rest)) => dump(rest),
         Some(("explain", rest)) => explain(rest),
+        Some(("read", rest)) => read(rest),
         Some(("record", rest)) => record(rest),
         Some(("wave", rest)) => wave(rest),
         Some((other, _)) => Err(format!("no such command: {other} (try ./tarravane help)")),

@@ -73,9 +73,19 @@ const PLAIN: [&str; 7] = [
     "count", "explain", "raised", "record", "ticks", "--papers", "|",
 ];
 
+/// A command that help tells, with its options.
+fn is_told(command: &str, options: &[&str]) -> bool {
+    let help = text(&format!("launcher/help/{command}.txt"));
+    !help.is_empty() && options.iter().all(|option| help.contains(option))
+}
+
 fn exists(cited: &str) -> bool {
     let words: Vec<&str> = cited.split(' ').collect();
     match words[..] {
+        ["./tarravane", command, ref options @ ..] => is_told(command, options),
+        [call] if call.starts_with("tarravane_") => {
+            text("include/tarravane.h").contains(&format!(" {call}("))
+        }
         [path] if path.contains('/') => Path::new(&repository(path)).exists(),
         [name] if name.contains('.') => is_in("rules", name),
         [word] => PLAIN.contains(&word),
@@ -104,6 +114,9 @@ fn every_name_is_there() {
         "cases slips::three_alerts",
         "cases P13",
         "crates/cases/src/slip.rt",
+        "tarravane_wipe",
+        "./tarravane wipe",
+        "./tarravane dump --at-end",
     ] {
         assert!(!exists(missing), "{missing}");
     }

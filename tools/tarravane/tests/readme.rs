@@ -54,6 +54,28 @@ fn calm_prints_what_readme_shows() {
     shows("calm --to 15 examples/silly-threshold.trace 4294967295");
 }
 
+#[test]
+fn read_prints_what_readme_shows() {
+    shows("read examples/silly-threshold.dump");
+}
+
+/// The dump that README writes is the one that is stored.
+#[test]
+fn dump_writes_what_readme_names() {
+    let (readme, folder) = (readme(), Folder::new("readme-dump"));
+    let command = readme
+        .lines()
+        .find_map(|line| line.strip_prefix("    ./tarravane dump "))
+        .expect("a command");
+    let words: Vec<&str> = command.split_whitespace().take(4).collect();
+    let to = folder.path("seal.dump");
+    assert_eq!(words[1..], ["--at-start", "-o", "seal.dump"]);
+    given("dump", &[&repository(words[0]), words[1], "-o", &to], &[]);
+    let [written, stored] =
+        [to, repository("examples/broken-seal.dump")].map(|name| fs::read(name).expect("a dump"));
+    assert_eq!(written, stored);
+}
+
 /// The waves that README shows are written as it says; its picture is the one that is stored.
 #[test]
 fn wave_writes_what_readme_names() {

@@ -115,6 +115,8 @@ fn what_cannot_be_done_is_2() {
         ("record", &["-", "-o", "missing/a.trace"]),
         ("calm", &["missing.trace", "1"]),
         ("calm", &[]),
+        ("dump", &["missing.trace"]),
+        ("read", &["missing.dump"]),
         ("explain", &[]),
         ("record", &[]),
         ("dance", &[]),
@@ -139,6 +141,7 @@ fn an_output_that_takes_nothing_is_2() {
     let full = || OpenOptions::new().write(true).open("/dev/full");
     let only_read = || File::open("/dev/null");
     let (seal, text) = (example("broken-seal.trace"), example("broken-seal.txt"));
+    let dump = example("broken-seal.dump");
     for (command, words) in [
         ("explain", &[&seal[..]][..]),
         ("explain", &["--summary", &seal]),
@@ -148,6 +151,11 @@ fn an_output_that_takes_nothing_is_2() {
         ("record", &["--help"]),
         ("record", &["--back", &seal]),
         ("record", &[&text]),
+        ("dump", &["--help"]),
+        ("dump", &[&seal]),
+        ("read", &["--help"]),
+        ("read", &[&dump]),
+        ("read", &["--json", &dump]),
     ] {
         fails_to_write(program(command, words), full().expect("/dev/full"));
         fails_to_write(program(command, words), only_read().expect("/dev/null"));

@@ -1,8 +1,9 @@
-//! The words `--from TICK` and `--to TICK`.
+//! The words `--from TICK` and `--to TICK`, and a tick by itself.
 use super::number;
 use crate::range::Range;
 
-fn tick(option: &str, word: Option<&String>) -> Result<u64, String> {
+/// The tick after an option.
+pub fn tick(option: &str, word: Option<&String>) -> Result<u64, String> {
     let word = word.ok_or_else(|| format!("{option} wants a tick number"))?;
     match number(word) {
         Some(number) if number > 0 => Ok(number),

@@ -2,6 +2,7 @@
 // Each test file is a program of its own and uses some of this.
 #![allow(dead_code)]
 pub mod folder;
+pub mod json;
 pub mod page;
 pub mod ran;
 pub mod random;

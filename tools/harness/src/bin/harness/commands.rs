@@ -4,6 +4,7 @@ use crate::trouble::Trouble;
 use harness::boot::{self, try_boots};
 use harness::calm::{self, try_calms, DEFAULT_CALMS};
 use harness::compare::Case;
+use harness::dump::{self, try_dumps, DEFAULT_DUMPS};
 use harness::report::{report, times, verdict};
 use harness::states::{self, try_all};
 use harness::write::{self, try_lists};
@@ -50,6 +51,21 @@ pub fn calms(seed: u64, states: u64) -> Result<bool, Trouble> {
     };
     let equal = tell(begin, &summary, found, |found| {
         format!("calm --states 1 --seed {}", found.seed)
+    })?;
+    met(equal, &missed)
+}
+
+/// Tries dumps and prints what they met. The default set must meet every kind.
+pub fn dumps(seed: u64, states: u64) -> Result<bool, Trouble> {
+    let begin = Instant::now();
+    let mut summary = dump::Summary::default();
+    let found = try_dumps(&dump::PROVED, seed, states, &mut summary);
+    let missed = match states >= DEFAULT_DUMPS && found.is_none() {
+        true => summary.missed(),
+        false => Vec::new(),
+    };
+    let equal = tell(begin, &summary, found, |found| {
+        format!("dump --states 1 --seed {}", found.seed)
     })?;
     met(equal, &missed)
 }

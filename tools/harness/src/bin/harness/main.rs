@@ -6,11 +6,12 @@ mod sets;
 mod trouble;
 mod words;
 
-use commands::{bench, boots, calms, damaged_states, print_trace, written_lists};
+use commands::{bench, boots, calms, damaged_states, dumps, print_trace, written_lists};
 use golden::{hold, keep, FILE};
 use harness::boot::DEFAULT_BOOTS;
 use harness::calm::DEFAULT_CALMS;
 use harness::compare::{damage, generated, DEFAULT_SEED};
+use harness::dump::DEFAULT_DUMPS;
 use harness::report::progress;
 use harness::states::DEFAULT_STATES;
 use harness::write::DEFAULT_LISTS;
@@ -65,6 +66,7 @@ fn command(mut words: Vec<String>) -> Result<bool, Trouble> {
             )
         }
         ["calm"] => states(&only(&STATES)?, DEFAULT_CALMS, calms),
+        ["dump"] => states(&only(&STATES)?, DEFAULT_DUMPS, dumps),
         ["write"] => {
             let options = only(&["--lists", "--seed"])?;
             let lists = options.get("--lists").unwrap_or(DEFAULT_LISTS);

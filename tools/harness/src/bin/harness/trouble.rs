@@ -15,6 +15,7 @@ const USAGE: &str = "usage:
   harness states [--states N] [--seed S]         damaged states through the proved library
   harness boot [--boots N] [--seed S]            boots through the proved installer
   harness calm [--states N] [--seed S]           calm ticks in one go through the proved library
+  harness dump [--states N] [--seed S]           dumps through the proved writer and reader
   harness write [--lists N] [--seed S]           lists through the proved trace writer
   harness bench                                  times of proved library and reference
 REPLAY is the program to compare with the reference. --edition 24, 70, pings or wires names

@@ -1,0 +1,3 @@
+// Request (xiv): the content of a dump, for callers.
+pub mod read;
+pub mod shown;

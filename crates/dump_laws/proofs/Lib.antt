@@ -1,0 +1,11 @@
+pub mod Flags
+pub mod Held
+pub mod Holds
+pub mod Told
+pub mod Lookup
+pub mod Agreeing
+pub mod Listed
+pub mod Longest
+pub mod Dumps
+pub mod WholeDumps
+pub mod DumpSays

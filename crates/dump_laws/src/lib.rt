@@ -1,0 +1,1 @@
+// Request (xiv), the dump: claims about states and their dumps, in specs/, and theorems, in proofs/.

@@ -1,0 +1,4 @@
+pub mod FieldSteps
+pub mod JudgeLaws
+pub mod StepLaws
+pub mod WholeLaws

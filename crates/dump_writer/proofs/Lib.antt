@@ -1,0 +1,4 @@
+pub mod EntryLaws
+pub mod FillLaws
+pub mod PutLaws
+pub mod WriteLaws
