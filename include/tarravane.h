@@ -15,16 +15,16 @@
  *
  * The stack that a call takes below its caller's frame, argument and result included, whatever the lengths of its lists:
  *   tarravane_new 3208 bytes
- *   tarravane_tick 41704 bytes
- *   tarravane_hear 22680 bytes
- *   tarravane_batch_24 45112 bytes
- *   tarravane_batch_70 45112 bytes
- *   tarravane_batch_pings 45112 bytes
- *   tarravane_batch_wires 45112 bytes
+ *   tarravane_tick 29000 bytes
+ *   tarravane_hear 13896 bytes
+ *   tarravane_batch_24 28136 bytes
+ *   tarravane_batch_70 28136 bytes
+ *   tarravane_batch_pings 28136 bytes
+ *   tarravane_batch_wires 28136 bytes
  *   tarravane_receive 64 bytes
  *   tarravane_record 152 bytes
- *   tarravane_install 73560 bytes
- *   tarravane_calm 54456 bytes
+ *   tarravane_install 60856 bytes
+ *   tarravane_calm 44872 bytes
  *   tarravane_dump 9896 bytes
  *   tarravane_read_dump 39560 bytes
  * Measured, not proved (tests/stack, the gate): each call ran on a stack filled with a pattern, with accesses of every kind

@@ -5,6 +5,7 @@ archive=$here/target/staticlib/libboundary.a
 library=$here/target/staticlib/libtarravane.a
 cli=$here/target/cargo/release/tarravane-cli
 harness=$here/target/cargo/release/harness
+plain=$here/target/cargo/release/reference-replay
 
 # stands BUILT SOURCE...: whether BUILT is there and no file of the sources is newer.
 stands() {
@@ -23,6 +24,7 @@ program_stands() { stands "$program" "$here/crates" "$here/crates.txt"; }
 library_stands() { stands "$archive" "$here/crates" "$here/crates.txt" && stands "$library" "$archive" "$here/include" "$here/launcher/library"; }
 tool_stands() { rust_stands "$cli" "$here/tools/tarravane" "$here/launcher/help"; }
 harness_stands() { rust_stands "$harness" "$here/tools/harness" "$here/reference"; }
+plain_stands() { stands "$plain" "$here/reference" "$here/Cargo.toml" "$here/Cargo.lock"; }
 
 # need TOOL...: names all that are missing at once.
 need() {
@@ -48,7 +50,7 @@ find_stale() {
     is_unfinished "$part" || ! "${part}_stands" || continue
     stale="$stale $part" parts=$((parts + 1))
     case $part in
-      tool | harness) needed="$needed cargo cc" written="$written cargo" ;;
+      tool | harness | plain) needed="$needed cargo cc" written="$written cargo" ;;
       library) needed="$needed rt objcopy" written="$written log rlib stamp obj bin staticlib" ;;
       *) needed="$needed rt" written="$written log rlib stamp obj bin staticlib" ;;
     esac
@@ -115,4 +117,10 @@ build_tool() {
 build_harness() {
   run_cargo harness "the harness"
   finished harness "$harness"
+}
+
+# The reference as a program: `bench --program` times it beside the proved one.
+build_plain() {
+  run_cargo reference "the reference"
+  finished plain "$plain"
 }

@@ -2,7 +2,7 @@
 -- Assumes nothing.
 use Prim.Native.Nat.{ℕ, suc, _+_, _*_, _≤_, _<_}
 use mathlib.Core.Path.{_≡_, refl, sym, ap, ap₂, subst, _∙_}
-use mathlib.Core.Bool.{true}
+use mathlib.Core.Bool.{Bool, true, false, true≢false, not}
 use mathlib.Core.List.{List, [], _∷_, _++_, map, map-append}
 use native.Mathlib.Omega.{arith}
 use lib.ListN.{length, getD, set, take, drop, length-set, length-map}
@@ -10,22 +10,29 @@ use lib.Seq.{take-suc, take-all, length-take-le, drop-cons, set-at, append-snoc}
 use Rattle.bits.proofs.IndexLaws.{at-each, length-each}
 use Rattle.trace_rules.specs.Edition.{recordBytes}
 use Rattle.trace_rules.specs.Record.{inputOf, inputsOf, recordAt, recordCount}
+use Rattle.rules.specs.Access.{answerTo, accessed}
 use Rattle.rules.specs.Run.{run, ticks}
 use Rattle.rules.specs.State.{most}
 use Rattle.rules.specs.Tick.{tick, ticked}
 use Rattle.rules.specs.Valid.{valid}
 use Rattle.trace_rules.specs.declared.Edition.{Edition}
+use Rattle.rules.specs.declared.Access.{Access}
+use Rattle.rules.specs.declared.Accessed.{Accessed}
+use Rattle.rules.specs.declared.Answer.{Answer}
+use Rattle.rules.specs.declared.Effects.{Effects}
 use Rattle.rules.specs.declared.Handler.{Handler}
 use Rattle.rules.specs.declared.Input.{Input}
 use Rattle.rules.specs.declared.Ticked.{Ticked}
-use Rattle.handler.specs.Answered.{steppedOf}
-use Rattle.handler.specs.declared.tick.Stepped.{Stepped}
+use Rattle.handler.specs.Finished.{noEffects, finished, finishedOf}
+use Rattle.handler.specs.declared.tick.Finished.{Finished}
+use Rattle.handler.proofs.WholeTick.{finished-tick}
 use Rattle.trace_rules.specs.Word.{wordBy, wordOf}
 use Rattle.laws.proofs.Valid.KeepsValid.{run-valid}
 use Rattle.trace_laws.proofs.PartLaws.{some-bytes, part-within}
 use Rattle.laws.proofs.Valid.Refusal7.{ticked-good}
 use Rattle.laws.proofs.Tick.Runs.{run-next, ticks-append, length-ticks}
 use Rattle.laws.proofs.Valid.ValidLaws.{facts}
+use Rattle.registers.specs.Unmoved.{unmoved}
 use Rattle.batch.specs.Running.{Running}
 
 module _ (h : Handler) (xs : List Input) (old : List ℕ) where
@@ -102,16 +109,27 @@ module _ (h : Handler) (xs : List Input) (old : List ℕ) (v : valid h ≡ true)
   pub few-alerts : g .n ≤ most
   few-alerts = facts g still-valid .n
 
--- record i, its tick and its word
+-- record i, its tick and its word: a is step 1, t the rest of the tick
 module _ (e : Edition) (h : Handler) (bytes old : List ℕ) (v : valid h ≡ true) (g : Handler) (out : List ℕ) (i : ℕ) (r : Running h (inputsOf e bytes) old g out i) (l : i < recordCount e bytes) (m : i < length old) where
-  pub next-record : (x : Input) (t : Stepped) (w : ℕ) → x ≡ inputOf e (recordAt e bytes i) → t ≡ steppedOf (tick g x) → w ≡ wordBy (t .interrupts) (t .lines) (t .answer)
+  pub next-record : (x : Input) (a : Accessed) (t : Finished) (w : ℕ) → x ≡ inputOf e (recordAt e bytes i) → a ≡ accessed g (x .access) → t ≡ finished (a .handler) (a .effects) (x .sample)
+      → w ≡ wordBy (t .interrupts) (t .lines) (a .answer)
       → Running h (inputsOf e bytes) old (t .handler) (set out i w) (suc i)
-  unfolding wordOf
-  next-record x t w z f u =
-      let c : steppedOf (ticked g (getD (inputsOf e bytes) i x)) ≡ t =
-      ap (λ (y : Input). steppedOf (ticked g y)) (input-at e bytes i x l ∙ sym z)
-      ∙ ap (λ (d : Ticked). steppedOf d) (ticked-good g x (still-valid h (inputsOf e bytes) old v g out i r)) ∙ sym f in
-      let a : i < length (inputsOf e bytes) = omega (arith, length-inputs e bytes) in
+  unfolding wordOf tick answerTo
+  next-record x a t w z y f u =
+      let c : finishedOf (ticked g (getD (inputsOf e bytes) i x)) ≡ t =
+      ap (λ (y : Input). finishedOf (ticked g y)) (input-at e bytes i x l ∙ sym z)
+      ∙ ap (λ (d : Ticked). finishedOf d) (ticked-good g x (still-valid h (inputsOf e bytes) old v g out i r)) ∙ sym (f ∙ finished-tick g x a y) in
+      let b : ticked g (getD (inputsOf e bytes) i x) .answer ≡ a .answer =
+      ap (λ (y : Input). ticked g y .answer) (input-at e bytes i x l ∙ sym z)
+      ∙ ap (λ (d : Ticked). d .answer) (ticked-good g x (still-valid h (inputsOf e bytes) old v g out i r)) ∙ sym (ap (λ (d : Accessed). d .answer) y) in
+      let k : i < length (inputsOf e bytes) = omega (arith, length-inputs e bytes) in
       subst (λ (n : ℕ). Running h (inputsOf e bytes) old (t .handler) (set out i n) (suc i)) (sym u)
-      (subst (λ (d : Stepped). Running h (inputsOf e bytes) old (d .handler) (set out i (wordBy (d .interrupts) (d .lines) (d .answer))) (suc i)) c
-      (step h (inputsOf e bytes) old g out i x r a m))
+      (subst (λ (d : Answer). Running h (inputsOf e bytes) old (t .handler) (set out i (wordBy (t .interrupts) (t .lines) d)) (suc i)) b
+      (subst (λ (d : Finished). Running h (inputsOf e bytes) old (d .handler) (set out i (wordBy (d .interrupts) (d .lines) (ticked g (getD (inputsOf e bytes) i x) .answer))) (suc i)) c
+      (step h (inputsOf e bytes) old g out i x r k m)))
+
+-- step 1 of an access that leaves the state as it is
+pub unmoved-accessed : (g : Handler) (x : Access) (b : Bool) (a : Answer) (e : Effects) → e ≡ noEffects → (b ≡ true → unmoved g a ≡ accessed g x) → not b ≡ false
+    → _≡_ {A = Accessed} (record { handler = g; answer = a; effects = e }) (accessed g x)
+unmoved-accessed g x true a e d f n = ap (λ (d : Effects). record { handler = g; answer = a; effects = d }) d ∙ f refl
+unmoved-accessed g x false a e d f n = absurd (true≢false n)

@@ -1,10 +1,14 @@
 // "Traces": a batch fills a lent list of 64-bit words, one per record.
 use answers::signed;
+use handler::moving::moving_of;
 use handler::quiet::moved_by;
 use handler::quiet::quiet_of;
-use handler::rest::rest_of;
-use handler::tick::step;
+use handler::tick::finish;
+use register_file::write::set_at;
+use registers::put::put_of;
+use registers::unmoved::unmoved_by;
 use rules::Answer;
+use rules::Effects;
 use rules::Handler;
 use rules::Refusal;
 use samples::link::link;
@@ -25,6 +29,7 @@ ghost use Rattle.trace_rules.specs.Batch.{admits, batchVerdict, batchInputs};
 ghost use Rattle.trace_rules.specs.Edition.{hasTimer};
 ghost use Rattle.trace_rules.specs.Record.{recordCount, inputsOf};
 ghost use Rattle.trace_rules.specs.Word.{wordOf};
+ghost use Rattle.handler.specs.Finished.{noEffects};
 ghost use Rattle.rules.specs.Run.{run, ticks};
 ghost use Rattle.rules.specs.Valid.{valid};
 ghost use Rattle.batch.specs.BatchedBy.{BatchedBy};
@@ -36,8 +41,20 @@ pub struct Batched {
     pub answer: i64,
 }
 
-// The ticks of all records, one after another, each with its word at its place. The first state is valid, so each state is. A tick in which all rests
-// moves the ping timer's turn at most, and a quiet tick writes what it moves into the state where it stands: `step` hands the state on by copies.
+// No effects: the access before it left the state as it was.
+fn no_effects() -> Effects
+    ensures { λ r. ⌜ r ≡ noEffects ⌝ }
+{
+    Effects {
+        clears: 0,
+        raises: 0,
+        begins: false,
+    }
+}
+
+// The ticks of all records, one after another, each with its word at its place. The first state is valid, so each state is. Step 1 is written into the state
+// where it stands, if it moves anything; then a tick in which all rests moves the ping timer's turn at most, one in which the alerts rest the senders and
+// classes too, and a quiet tick writes what it moves: `finish` hands the state on by copies.
 fn run_records(edition: Edition, h: Handler, bytes: &[u8], out: &mut [u64], count: usize) -> Handler
     requires { ⌜ (valid h ≡ true) × (count ≡ recordCount edition (now bytes)) × (count ≤ length (now out)) ⌝ }
     ensures { λ r. ⌜ (r ≡ run h (inputsOf edition (now (bytes .entry)))) × (now (out .exit) ≡ map wordOf (ticks h (inputsOf edition (now (bytes .entry)))) ++ drop count (now (out .entry))) ⌝ }
@@ -47,20 +64,63 @@ fn run_records(edition: Edition, h: Handler, bytes: &[u8], out: &mut [u64], coun
     let mut i = 0;
     while i < count {
         let x = input_at(edition, bytes, i * size);
-        let rest = rest_of(g, x);
-        if rest.holds {
-            let answer = rest.answer;
-            out[i] = word(rest.interrupts, 0, answer);
-            g.links.turn.count = rest.count;
+        let sent = x.access;
+        let unmoved = unmoved_by(g, sent);
+        let mut answer = unmoved.answer;
+        let mut effects = no_effects();
+        if !unmoved.holds {
+            let put = put_of(g, sent);
+            let mut stages = g.stages;
+            let class_stages = put.class_stages;
+            stages.classes = class_stages;
+            let local_stages = put.local_stages;
+            stages.locals = local_stages;
+            stages.timeout = put.timeout;
+            set_at(&mut stages.alerts.en, put.en_stage, put.code);
+            set_at(&mut stages.alerts.class, put.class_stage, put.code);
+            g.stages = stages;
+            let classes = put.classes;
+            g.classes = classes;
+            let locals = put.locals;
+            g.locals = locals;
+            let interrupts = put.interrupts;
+            g.interrupts = interrupts;
+            let timer = put.timer;
+            g.timer = timer;
+            set_at(&mut g.alerts.regwen, put.regwen, put.value);
+            set_at(&mut g.alerts.en, put.en, put.value);
+            set_at(&mut g.alerts.class, put.class, put.value);
+            set_at(&mut g.alerts.cause, put.cause, put.value);
+            answer = put.answer;
+            effects = put.effects;
+        }
+        let moving = moving_of(g, effects, x.sample);
+        if moving.rests {
+            out[i] = word(moving.interrupts, 0, answer);
+            g.links.turn.count = moving.count;
             i += 1;
             continue;
         }
-        let quiet = quiet_of(g, x);
+        if moving.holds {
+            out[i] = word(moving.interrupts, moving.lines, answer);
+            g.links.turn.count = moving.count;
+            let senders = moving.senders;
+            g.links.senders.on = senders.on;
+            g.links.senders.first = senders.first;
+            g.links.senders.last = senders.last;
+            g.links.senders.deep = senders.deep;
+            g.links.senders.answer = senders.answer;
+            let classes = moving.classes;
+            g.classes = classes;
+            g.interrupts.state = moving.state;
+            i += 1;
+            continue;
+        }
+        let quiet = quiet_of(g, effects, x.sample);
         if quiet.holds {
             let before = g.classes;
             let moved = moved_by(before, g.interrupts);
             let links = link(g.links, quiet.met, moved.lines as u32);
-            let answer = quiet.answer;
             out[i] = word(moved.interrupts, moved.lines, answer);
             let classes = moved.classes;
             g.links = links;
@@ -69,8 +129,7 @@ fn run_records(edition: Edition, h: Handler, bytes: &[u8], out: &mut [u64], coun
             i += 1;
             continue;
         }
-        let t = step(g, x);
-        let answer = t.answer;
+        let t = finish(g, effects, x.sample);
         out[i] = word(t.interrupts, t.lines, answer);
         g = t.handler;
         i += 1;

@@ -20,9 +20,13 @@ use Rattle.rules.specs.declared.Refusal.the-variants.{BadState}
 use Rattle.rules.specs.declared.Wires.{Wires}
 use Rattle.laws.proofs.Valid.Refusal7.{ticked-good, ticked-bad}
 use Rattle.answers.specs.Meaning.{Meaning}
-use Rattle.handler.specs.Answered.{steppedOf, answered}
+use Rattle.rules.specs.Access.{accessed, answerTo}
+use Rattle.rules.specs.declared.Accessed.{Accessed}
+use Rattle.handler.specs.Answered.{answered}
+use Rattle.handler.specs.Finished.{finished, finishedOf}
 use Rattle.handler.specs.declared.tick.Answered.{Answered}
-use Rattle.handler.specs.declared.tick.Stepped.{Stepped}
+use Rattle.handler.specs.declared.tick.Finished.{Finished}
+use Rattle.handler.proofs.WholeTick.{finished-tick}
 
 -- an answer's number is one of 64 bits, by its meaning at both ends
 number-fits : (a : Answer) (z : ℤ) → z ≡ number a → Meaning a → SFits w64 z
@@ -33,9 +37,10 @@ number-fits a (negsuc n) e m = let l = m .lowest n (sym e) in sfits-of (omega ar
 pub read-back : (a : Answer) (z : ℤ) → (z ≡ number a) × Meaning a → toZ w64 (ofZ w64 z) ≡ number a
 read-back a z p = toZ-ofZ (number-fits a z (p .0) (p .1)) ∙ p .0
 
--- a valid state: its steps, and the pairs
-pub answered-good : (h : Handler) (x : Input) (t : Stepped) (a p : Wires) (q : LinePairs) (z : ℤ) → valid h ≡ true → t ≡ steppedOf (tick h x)
-    → a ≡ acknowledgePairs h → p ≡ pingPairs (t .handler) → q ≡ escalationPairs (t .handler) → (z ≡ number (t .answer)) × Meaning (t .answer)
+-- a valid state: step 1, then the rest of the tick, and the pairs
+pub answered-good : (h : Handler) (x : Input) (b : Accessed) (t : Finished) (a p : Wires) (q : LinePairs) (z : ℤ) → valid h ≡ true
+    → b ≡ accessed h (x .access) → t ≡ finished (b .handler) (b .effects) (x .sample)
+    → a ≡ acknowledgePairs h → p ≡ pingPairs (t .handler) → q ≡ escalationPairs (t .handler) → (z ≡ number (b .answer)) × Meaning (b .answer)
     → _≡_ {A = Answered}
     (record {
       handler = t .handler;
@@ -43,14 +48,17 @@ pub answered-good : (h : Handler) (x : Input) (t : Stepped) (a p : Wires) (q : L
       output = record { interrupts = t .interrupts; lines = t .lines; acknowledge = a; ping = p; escalation = q };
     })
     (answered (ticked h x))
-unfolding answered tick outputOf
-answered-good h x t a p q z v e ea ep eq m =
-    ap (λ (y : ℤ). ended (t .handler) y t a p q) (read-back (t .answer) z m)
-    ∙ (λ u. ended (t .handler) (number (t .answer)) t (ea u) (ep u) (eq u))
-    ∙ ap (λ (s : Stepped). ended (s .handler) (number (s .answer)) s (acknowledgePairs h) (pingPairs (s .handler)) (escalationPairs (s .handler))) e
+unfolding answered tick outputOf answerTo
+answered-good h x b t a p q z v eb e ea ep eq m =
+    ap (λ (y : ℤ). ended (t .handler) y t a p q) (read-back (b .answer) z m)
+    ∙ (λ u. ended (t .handler) (number (b .answer)) t (ea u) (ep u) (eq u))
+    ∙ (λ u. ended (same u .handler) (number (eb u .answer)) (same u) (acknowledgePairs h) (pingPairs (same u .handler)) (escalationPairs (same u .handler)))
     ∙ ap answered (sym (ticked-good h x v))
   where
-    ended : Handler → ℤ → Stepped → Wires → Wires → LinePairs → Answered
+    same : t ≡ finishedOf (tick h x)
+    same = e ∙ finished-tick h x b eb
+
+    ended : Handler → ℤ → Finished → Wires → Wires → LinePairs → Answered
     ended g y s a p q =
         record { handler = g; answer = y; output = record { interrupts = s .interrupts; lines = s .lines; acknowledge = a; ping = p; escalation = q } }
 

@@ -5,4 +5,5 @@ pub mod PairLaws
 pub mod Answers
 pub mod Accounts
 pub mod QuietTicks
+pub mod MovingTicks
 pub mod RestTicks

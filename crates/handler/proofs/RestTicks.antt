@@ -1,7 +1,7 @@
 -- A tick in which all rests.
 -- Assumes nothing.
-use Prim.Native.Nat.{ℕ, _≤_, _<_}
-use mathlib.Core.Path.{_≡_, sym, ap, ap₂, _∙_}
+use Prim.Native.Nat.{ℕ, _<_}
+use mathlib.Core.Path.{_≡_, sym, ap, _∙_}
 use mathlib.Core.Bool.{Bool, true, false, or-false, _&&_, _||_}
 use mathlib.Core.List.{List}
 use native.Mathlib.Omega.{arith}
@@ -16,24 +16,16 @@ use Rattle.class_rules.specs.Class.{enabled, drives, noClass}
 use Rattle.class_rules.specs.Step.{classStep}
 use Rattle.class_rules.specs.declared.Class.{Class}
 use Rattle.class_rules.specs.declared.Signals.{Signals}
-use Rattle.rules.specs.Access.{accessed}
-use Rattle.rules.specs.Samples.{pingable}
-use Rattle.rules.specs.State.{most, localCount, classCount, withLinks, withClasses, withInterrupts}
-use Rattle.rules.specs.Tick.{tick}
-use Rattle.rules.specs.declared.Answer.{Answer}
-use Rattle.rules.specs.declared.Handler.{Handler}
-use Rattle.rules.specs.declared.Input.{Input}
-use Rattle.rules.specs.declared.Links.{Links}
-use Rattle.registers.specs.Unmoved.{unmoved}
-use Rattle.samples.specs.Linked.{linkedBy}
-use Rattle.samples.specs.Rest.{waited, leftBy, RestsBy}
-use Rattle.samples.specs.declared.pace.Met.{Met}
-use Rattle.handler.specs.Answered.{steppedOf}
+use Rattle.link_rules.specs.Senders.{sentAll}
+use Rattle.link_rules.specs.declared.Senders.{Senders}
+use Rattle.rules.specs.State.{classCount}
+use Rattle.rules.specs.declared.Interrupts.{Interrupts}
+use Rattle.rules.specs.declared.Timer.{Timer}
+use Rattle.samples.specs.Rest.{waited, driven}
 use Rattle.handler.specs.Classes.{interruptBy, metBy, classesBy, interruptsBy}
 use Rattle.laws.specs.OutputMasks.{interruptsOn, linesOn}
-use Rattle.handler.specs.RestTick.{allStill, rested}
-use Rattle.handler.specs.declared.tick.Stepped.{Stepped}
-use Rattle.handler.proofs.QuietTicks.{quiet-tick}
+use Rattle.handler.specs.MovingTick.{movingBy}
+use Rattle.handler.specs.RestTick.{allStill}
 
 -- ── the classes: nothing is assigned, and none is cleared ──
 
@@ -71,23 +63,25 @@ module _ (cs : List Class) (state : ℕ) (all : allStill cs state ≡ true) (fou
 
 -- ── the tick ──
 
-pub rest-tick : (h : Handler) (x : Input) (a : Answer) (v : Bool) (t i : ℕ) → h .n ≤ most
-    → length (h .alerts .cause) ≡ most → length (h .locals .cause) ≡ localCount → length (h .classes) ≡ classCount
-    → RestsBy (h .n) (h .links) (h .timer) (x .sample) → allStill (h .classes) (h .interrupts .state) ≡ true → h .interrupts .state < 16
-    → (v ≡ true → unmoved h a ≡ accessed h (x .access)) → t ≡ waited (h .timer) (h .links .turn .count) → i ≡ interruptsOn (h .interrupts .state) (h .interrupts .enable)
-    → v ≡ true → rested h t a i ≡ steppedOf (tick h x)
-rest-tick h x a v t i small m k four r all s e et ei hv =
-    ap₂ (λ (u o : ℕ). rested h u a o) et ei
-    ∙ ap (λ (l : Links). ending l (h .classes) (h .interrupts .state) 0) (sym (r .links (pingable h)))
-    ∙ sym (λ u. ending (linkedBy (h .links) met (lines u)) (classes-stay (h .classes) (h .interrupts .state) all four u) (interrupts-stay (h .classes) (h .interrupts .state) all four s u) (lines u))
-    ∙ quiet-tick h x (record { met = met; quiet = true }) a v small m k (r .quiet (pingable h)) e hv
+-- senders and classes that stay, and no line on
+pub staying : (c : Timer) (count : ℕ) (senders : Senders) (cs : List Class) (x : Interrupts) (t i : ℕ) → length cs ≡ classCount
+    → allStill cs (x .state) ≡ true → x .state < 16 → sentAll senders (driven 0) ≡ senders → t ≡ waited c count → i ≡ interruptsOn (x .state) (x .enable)
+    → record { holds = true; rests = true; count = t; senders = senders; classes = cs; state = x .state; interrupts = i; lines = 0 } ≡ movingBy c count senders cs x true
+staying c count senders cs x t i four all z s et ei =
+    (λ u. record { holds = true; rests = true; count = et u; senders = senders; classes = cs; state = x .state; interrupts = ei u; lines = 0 })
+    ∙ sym (λ u. record {
+      holds = true;
+      rests = true;
+      count = waited c count;
+      senders = (ap (λ (o : ℕ). sentAll senders (driven o)) lines ∙ s) u;
+      classes = classes-stay cs (x .state) all four u;
+      state = state u;
+      interrupts = interruptsOn (state u) (x .enable);
+      lines = lines u;
+    })
   where
-    met : Met
-    met = leftBy (h .n) (h .links) (h .timer) (pingable h) (x .sample)
+    lines : linesOn (classesBy cs (x .state) 0 0) ≡ 0
+    lines = ap linesOn (classes-stay cs (x .state) all four) ∙ no-lines cs (x .state) all four
 
-    ending : Links → List Class → ℕ → ℕ → Stepped
-    ending l cs j o =
-        record { handler = withLinks l (withClasses cs (withInterrupts (record { state = j; enable = h .interrupts .enable }) h)); answer = a; interrupts = interruptsOn j (h .interrupts .enable); lines = o }
-
-    lines : linesOn (classesBy (h .classes) (h .interrupts .state) 0 0) ≡ 0
-    lines = ap linesOn (classes-stay (h .classes) (h .interrupts .state) all four) ∙ no-lines (h .classes) (h .interrupts .state) all four
+    state : interruptsBy cs (x .state) 0 ≡ x .state
+    state = interrupts-stay cs (x .state) all four z

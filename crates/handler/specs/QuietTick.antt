@@ -1,9 +1,8 @@
--- A tick whose access leaves the state as it is and in which no alert has an event or equal wires.
+-- A tick without effects of its access, in which no alert has an event or equal wires, from the state after step 1.
 -- Assumes nothing.
 use mathlib.Core.List.{List}
 use Rattle.class_rules.specs.declared.Class.{Class}
 use Rattle.rules.specs.State.{withInterrupts, withClasses, withLinks}
-use Rattle.rules.specs.declared.Answer.{Answer}
 use Rattle.rules.specs.declared.Handler.{Handler}
 use Rattle.rules.specs.declared.Interrupts.{Interrupts}
 use Rattle.rules.specs.declared.Links.{Links}
@@ -12,7 +11,7 @@ use Rattle.samples.specs.declared.pace.Met.{Met}
 use Rattle.handler.specs.Classes.{classesBy, interruptsBy}
 use Rattle.laws.specs.OutputMasks.{interruptsOn, linesOn}
 use Rattle.handler.specs.declared.quiet.Moved.{Moved}
-use Rattle.handler.specs.declared.tick.Stepped.{Stepped}
+use Rattle.handler.specs.declared.tick.Finished.{Finished}
 
 -- what such a tick moves, put into the state h
 abbrev pub withMoved : Links → Moved → Handler → Handler
@@ -30,7 +29,6 @@ movedBy before x =
       lines = linesOn cs;
     }
 
--- the tick of h that gives the answer a, leaves v for the links in step 2, and moves and puts out what m says
-abbrev pub ended : Handler → Answer → Met → Moved → Stepped
-ended h a v m =
-    record { handler = withMoved (linkedBy (h .links) v (m .lines)) m h; answer = a; interrupts = m .interrupts; lines = m .lines }
+-- such a tick leaves v for the links in step 2, and moves and puts out what m says
+abbrev pub ended : Handler → Met → Moved → Finished
+ended h v m = record { handler = withMoved (linkedBy (h .links) v (m .lines)) m h; interrupts = m .interrupts; lines = m .lines }

@@ -1,4 +1,4 @@
--- A tick in which all rests: the access leaves the state as it is, the links rest, and each class stays as it is.
+-- A tick in which all rests, from the state after step 1: the access has no effects, the links rest, and each class stays as it is.
 -- Assumes nothing.
 use Prim.Native.Nat.{ℕ}
 use mathlib.Core.Bool.{Bool}
@@ -10,15 +10,14 @@ use Rattle.class.specs.Still.{still}
 use Rattle.class_rules.specs.Class.{noClass}
 use Rattle.class_rules.specs.declared.Class.{Class}
 use Rattle.rules.specs.State.{classCount, withLinks}
-use Rattle.rules.specs.declared.Answer.{Answer}
 use Rattle.rules.specs.declared.Handler.{Handler}
 use Rattle.samples.specs.Rest.{withCount}
-use Rattle.handler.specs.declared.tick.Stepped.{Stepped}
+use Rattle.handler.specs.declared.tick.Finished.{Finished}
 
 -- each class stays as it is, by INTR_STATE
 abbrev pub allStill : List Class → ℕ → Bool
 allStill cs state = allTo (λ k. still (getD cs k noClass) (bit state k)) classCount
 
 -- such a tick of h: the turn has this count, and no line is on
-abbrev pub rested : Handler → ℕ → Answer → ℕ → Stepped
-rested h count a interrupts = record { handler = withLinks (withCount count (h .links)) h; answer = a; interrupts = interrupts; lines = 0 }
+abbrev pub rested : Handler → ℕ → ℕ → Finished
+rested h count interrupts = record { handler = withLinks (withCount count (h .links)) h; interrupts = interrupts; lines = 0 }

@@ -1,15 +1,15 @@
-// A tick in which the access leaves the state as it is, no alert has an event or equal wires, no ping fails and no receive pair is wrong. The links, the classes and INTR_STATE
+// A tick in which, after step 1 and without effects of it, no alert has an event or equal wires, no ping fails and no receive pair is wrong. The links, the classes and INTR_STATE
 // alone can move then, so that the state need not be handed from step to step.
 use crate::classes::classes_after;
 use crate::classes::interrupts_after;
+use crate::effects::are_none;
 use crate::output::interrupts_on;
 use crate::output::lines_on;
 use class_rules::Class;
-use registers::unmoved::unmoved_by;
-use rules::Answer;
+use rules::Effects;
 use rules::Handler;
-use rules::Input;
 use rules::Interrupts;
+use rules::Sample;
 use samples::hear::is_pingable;
 use samples::links::hear_quiet;
 use samples::pace::Met;
@@ -17,15 +17,13 @@ ghost use mathlib.Core.Path.{_≡_};
 ghost use mathlib.Core.Bool.{true};
 ghost use Prim.Native.Nat.{_≤_};
 ghost use Rattle.rules.specs.State.{most};
-ghost use Rattle.rules.specs.Tick.{tick};
-ghost use Rattle.handler.specs.Answered.{steppedOf};
+ghost use Rattle.handler.specs.Finished.{finished};
 ghost use Rattle.handler.specs.QuietTick.{movedBy, ended};
 
-// Whether a tick is known to be such a one, and then what step 2 leaves for the links, and its answer.
+// Whether a tick is known to be such a one, and then what step 2 leaves for the links.
 pub struct Quiet {
     pub holds: bool,
     pub met: Met,
-    pub answer: Answer,
 }
 
 // What it moves beside the links, the classes and INTR_STATE, and the interrupts and lines that it puts out.
@@ -36,24 +34,21 @@ pub struct Moved {
     pub lines: u8,
 }
 
-// Steps 1 and 2, of a state that was found valid.
-pub fn quiet_of(h: Handler, x: Input) -> Quiet
+// Step 2, of a valid state after step 1.
+pub fn quiet_of(h: Handler, e: Effects, s: Sample) -> Quiet
     requires { ⌜ h .n ≤ most ⌝ }
-    ensures { λ r. ⌜ (r .holds ≡ true → ended h (r .answer) (r .met) (movedBy (h .classes) (h .interrupts)) ≡ steppedOf (tick h x)) ⌝ }
+    ensures { λ r. ⌜ (r .holds ≡ true → ended h (r .met) (movedBy (h .classes) (h .interrupts)) ≡ finished h e s) ⌝ }
 {
-    let sent = x.access;
     let before = h.links;
     let regwen = h.alerts.regwen;
     let en = h.alerts.en;
     let pingable = is_pingable(h.n, before.turn.alert, &regwen, &en);
-    let heard = hear_quiet(h.n, before, h.timer, pingable, x.sample);
-    let unmoved = unmoved_by(h, sent);
+    let heard = hear_quiet(h.n, before, h.timer, pingable, s);
+    let none = are_none(e);
     let met = heard.met;
-    let answer = unmoved.answer;
     Quiet {
-        holds: heard.quiet & unmoved.holds,
+        holds: heard.quiet & none,
         met,
-        answer,
     }
 }
 

@@ -9,12 +9,14 @@ use crate::pairs::ping_pairs;
 use answers::signed;
 use registers::access::access;
 use rules::Answer;
+use rules::Effects;
 use rules::Handler;
 use rules::Input;
 use rules::Interrupts;
 use rules::LinePairs;
 use rules::Output;
 use rules::Refusal;
+use rules::Sample;
 use rules::WORDS;
 use rules::Wires;
 use samples::hear::hear;
@@ -25,8 +27,9 @@ use state::valid::is_valid;
 ghost use mathlib.Core.Path.{_≡_};
 ghost use Prim.Native.Nat.{_≤_};
 ghost use Rattle.rules.specs.State.{most};
-ghost use Rattle.rules.specs.Tick.{noOutput, tick, ticked};
-ghost use Rattle.handler.specs.Answered.{steppedOf, answered};
+ghost use Rattle.rules.specs.Tick.{noOutput, ticked};
+ghost use Rattle.handler.specs.Answered.{answered};
+ghost use Rattle.handler.specs.Finished.{finished};
 
 // What a tick gives: the state, the answer as one signed number, and the outputs.
 #[repr(C)]
@@ -36,25 +39,19 @@ pub struct Answered {
     pub output: Output,
 }
 
-// What steps 1 to 5 give, but for the pairs: a word of a trace needs no more.
-pub struct Stepped {
+// What steps 2 to 5 give, but for the pairs: a word of a trace needs no more.
+pub struct Finished {
     pub handler: Handler,
-    pub answer: Answer,
     pub interrupts: u8,
     pub lines: u8,
 }
 
-// Steps 1 to 5, of a state that was found valid.
-pub fn step(h: Handler, x: Input) -> Stepped
-    requires { ⌜ h .n ≤ most ⌝ }
-    ensures { λ r. ⌜ r ≡ steppedOf (tick h x) ⌝ }
+// Steps 2 to 5, of a valid state g after step 1 and the effects of that.
+pub fn finish(g: Handler, effects: Effects, s: Sample) -> Finished
+    requires { ⌜ g .n ≤ most ⌝ }
+    ensures { λ r. ⌜ r ≡ finished g effects s ⌝ }
 {
-    let sent = x.access;
-    let accessed = access(h, sent);
-    let g = accessed.handler;
-    let answer = accessed.answer;
-    let effects = accessed.effects;
-    let heard = hear(g, x.sample, effects);
+    let heard = hear(g, s, effects);
     let sampled = sample(g, heard);
     let mut next = sampled.handler;
     let before = next.classes;
@@ -80,9 +77,8 @@ pub fn step(h: Handler, x: Input) -> Stepped
     };
     let links = link(g.links, met, lines as u32);
     next.links = links;
-    Stepped {
+    Finished {
         handler: next,
-        answer,
         interrupts: interrupts_on(state, enable),
         lines,
     }
@@ -110,9 +106,11 @@ pub fn tick(h: Handler, x: Input) -> Answered
     ensures { λ r. ⌜ r ≡ answered (ticked h x) ⌝ }
 {
     if is_valid(h) {
-        let t = step(h, x);
+        let sent = x.access;
+        let accessed = access(h, sent);
+        let answer = accessed.answer;
+        let t = finish(accessed.handler, accessed.effects, x.sample);
         let handler = t.handler;
-        let answer = t.answer;
         let before = h.links.receivers;
         let after = handler.links.receivers;
         let acknowledge = acknowledge_pairs(h.n, before);

@@ -1,3 +1,4 @@
 pub mod Past
 pub mod Stores
 pub mod Restages
+pub mod Parts

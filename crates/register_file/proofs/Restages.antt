@@ -2,7 +2,7 @@
 -- Assumes nothing.
 use Prim.Native.Nat.{ℕ, _+_, _^_, _≤_, _<_}
 use mathlib.Core.Path.{_≡_, refl, sym, ap, _∙_}
-use mathlib.Core.Bool.{Bool, true, false, cond, not}
+use mathlib.Core.Bool.{Bool, cond, not}
 use mathlib.Core.List.{List}
 use native.Mathlib.Omega.{arith}
 use lib.Dec.{eqb}
@@ -10,10 +10,8 @@ use lib.ListN.{getD, length, List·getD-eq-default}
 use borrow.Author.Tests.{eq-eqb, ne-eqb}
 use Rattle.bits.proofs.IndexLaws.{is-each, each-ext}
 use Rattle.laws.proofs.Map.Cases.{by-field, by-setting}
-use Rattle.laws.proofs.Stages.StageLaws.{store-stages}
-use Rattle.rules.specs.Access.{store, isFirst, written}
 use Rattle.rules.specs.Map.{fieldBits, offset}
-use Rattle.rules.specs.Stages.{settingStage, noClassStages, stage, withSettingStage, withStage, staged, dropped}
+use Rattle.rules.specs.Stages.{settingStage, noClassStages, stage, withSettingStage, withStage, dropped}
 use Rattle.rules.specs.State.{withStages, put}
 use Rattle.rules.specs.declared.ClassStages.{ClassStages}
 use Rattle.rules.specs.declared.Field.{Field}
@@ -21,7 +19,6 @@ use Rattle.rules.specs.declared.Handler.{Handler}
 use Rattle.rules.specs.declared.Register.{Register}
 use Rattle.rules.specs.declared.Setting.{Setting}
 use Rattle.rules.specs.declared.Setting.the-variants.{PhaseCyc}
-use Rattle.rules.specs.declared.Stages.{Stages}
 use Rattle.register_file.proofs.Stores.{phase-other, phase-shifted}
 
 -- ── a class's block ──
@@ -63,18 +60,3 @@ module _ (h : Handler) (q : Register) where
   pub none-dropped : stage h q ≡ 0 → h ≡ withStages (dropped q (h .stages)) h
   unfolding dropped
   none-dropped e = ap (λ (t : Bool). withStages (cond (not t) (withStage q 0 (h .stages)) (h .stages)) h) (sym (eq-eqb (stage h q) 0 e))
-
-  pub open-dropped : (stage h q ≡ 0 → ⊥) → withStages (withStage q 0 (h .stages)) h ≡ withStages (dropped q (h .stages)) h
-  unfolding dropped
-  open-dropped e = ap (λ (t : Bool). withStages (cond (not t) (withStage q 0 (h .stages)) (h .stages)) h) (sym (ne-eqb (stage h q) 0 e))
-
-  -- an accepted write, first or not
-  pub first-written : (v : ℕ) → isFirst h q ≡ true → withStages (staged q v (h .stages)) h ≡ written h q v
-  unfolding written
-  first-written v e = ap (λ (t : Bool). cond t (withStages (staged q v (h .stages)) h) (withStages (dropped q (h .stages)) (store h q v))) (sym e)
-
-  pub later-written : (v : ℕ) → isFirst h q ≡ false → withStages (dropped q (store h q v .stages)) (store h q v) ≡ written h q v
-  unfolding written
-  later-written v e =
-      ap (λ (s : Stages). withStages (dropped q s) (store h q v)) (store-stages h q v)
-      ∙ ap (λ (t : Bool). cond t (withStages (staged q v (h .stages)) h) (withStages (dropped q (h .stages)) (store h q v))) (sym e)

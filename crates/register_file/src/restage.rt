@@ -1,23 +1,19 @@
 // Request (v): a register's stage set and dropped.
-use crate::stage::stage_of;
-use crate::write::set_entry;
-use rules::AlertStages;
 use rules::ClassStages;
 use rules::Field;
-use rules::Handler;
 use rules::LocalStages;
 use rules::Register;
 use rules::Setting;
 use rules::Single;
-use rules::Stages;
 ghost use mathlib.Core.Path.{_≡_};
 ghost use mathlib.Core.Bool.{cond};
-ghost use Prim.Native.Nat.{_^_, _≤_, _<_};
+ghost use Prim.Native.Nat.{_^_, _≤_};
 ghost use lib.Dec.{eqb};
 ghost use lib.ListN.{getD};
 ghost use Rattle.rules.specs.Map.{singleNumber, settingBits, bits};
-ghost use Rattle.rules.specs.Stages.{localStages, alertStages, noClassStages, withLocalStages, withAlertStages, withSettingStage, withStage, staged, dropped};
-ghost use Rattle.rules.specs.State.{most, localCount, classCount, withStages, put};
+ghost use Rattle.rules.specs.Stages.{localStages, noClassStages, withLocalStages, withSettingStage};
+ghost use Rattle.rules.specs.State.{localCount, classCount, put};
+ghost use Rattle.register_file.specs.Parts.{restagedTimeout, restagedLocals, restagedClasses, codeOf};
 ghost use Rattle.rules.specs.declared.Single.the-variants.{PingTimeout};
 
 // A column of the local alerts' with the code c for local alert j.
@@ -51,29 +47,6 @@ fn set_local(l: LocalStages, f: Field, j: usize, c: u32) -> LocalStages
             out
         }
         Field::Cause => l,
-    }
-}
-
-// The alerts' stages with the code c at register f of alert i, if that is shadowed.
-fn set_alert(a: AlertStages, f: Field, i: usize, c: u8) -> AlertStages
-    ensures { λ r. ⌜ r ≡ withAlertStages f (put most (alertStages f a) 0 i c) a ⌝ }
-{
-    let mut out = a;
-    match f {
-        Field::Regwen => a,
-        Field::En => {
-            let mut xs = a.en;
-            set_entry(&mut xs, i, c);
-            out.en = xs;
-            out
-        }
-        Field::Class => {
-            let mut xs = a.class;
-            set_entry(&mut xs, i, c);
-            out.class = xs;
-            out
-        }
-        Field::Cause => a,
     }
 }
 
@@ -150,59 +123,57 @@ fn set_single(timeout: u64, o: Single, c: u64) -> u64
     }
 }
 
-// The stages with the code c at one register.
-fn with_stage(s: Stages, q: Register, c: u64) -> Stages
-    requires { ⌜ c ≤ 2 ^ bits q ⌝ }
-    ensures { λ r. ⌜ r ≡ withStage q c s ⌝ }
+// The stage of the ping timer's timeout with the code c at register q's stage. So with each part of the stages.
+pub fn restage_timeout(timeout: u64, q: Register, c: u64) -> u64
+    ensures { λ r. ⌜ r ≡ restagedTimeout q c timeout ⌝ }
 {
-    let mut out = s;
     match q {
-        Register::Only(o) => {
-            let timeout = set_single(s.timeout, o, c);
-            out.timeout = timeout;
-            out
-        }
-        Register::Local(f, j) => {
-            let locals = set_local(s.locals, f, j, c as u32);
-            out.locals = locals;
-            out
-        }
-        Register::Alert(f, i) => {
-            let alerts = set_alert(s.alerts, f, i, c as u8);
-            out.alerts = alerts;
-            out
-        }
-        Register::Block(t, k) => {
-            let classes = s.classes;
-            let put = set_block(classes, t, k, c);
-            out.classes = put;
-            out
-        }
-        Register::Unassigned => s,
+        Register::Only(o) => set_single(timeout, o, c),
+        Register::Local(_, _) => timeout,
+        Register::Alert(_, _) => timeout,
+        Register::Block(_, _) => timeout,
+        Register::Unassigned => timeout,
     }
 }
 
-// The state with v staged at one register; v fits the register.
-pub fn stage_value(h: Handler, q: Register, v: u32) -> Handler
-    requires { ⌜ v < 2 ^ bits q ⌝ }
-    ensures { λ r. ⌜ r ≡ withStages (staged q v (h .stages)) h ⌝ }
+// The local alerts' stages.
+pub fn restage_locals(l: LocalStages, q: Register, c: u64) -> LocalStages
+    requires { ⌜ c ≤ 2 ^ bits q ⌝ }
+    ensures { λ r. ⌜ r ≡ restagedLocals q c l ⌝ }
 {
-    let stages = with_stage(h.stages, q, v as u64 + 1);
-    let mut out = h;
-    out.stages = stages;
-    out
+    match q {
+        Register::Only(_) => l,
+        Register::Local(f, j) => set_local(l, f, j, c as u32),
+        Register::Alert(_, _) => l,
+        Register::Block(_, _) => l,
+        Register::Unassigned => l,
+    }
 }
 
-// The state without the stage of one register. Where none is open nothing is written.
-pub fn drop_stage(h: Handler, q: Register) -> Handler
-    ensures { λ r. ⌜ r ≡ withStages (dropped q (h .stages)) h ⌝ }
+// The classes' stages.
+pub fn restage_classes(classes: [ClassStages; 4], q: Register, c: u64) -> [ClassStages; 4]
+    requires { ⌜ c ≤ 2 ^ bits q ⌝ }
+    ensures { λ r. ⌜ r ≡ restagedClasses q c classes ⌝ }
 {
-    if stage_of(h, q) == 0 {
-        h
-    } else {
-        let stages = with_stage(h.stages, q, 0);
-        let mut out = h;
-        out.stages = stages;
-        out
+    match q {
+        Register::Only(_) => classes,
+        Register::Local(_, _) => classes,
+        Register::Alert(_, _) => classes,
+        Register::Block(s, k) => set_block(classes, s, k, c),
+        Register::Unassigned => classes,
+    }
+}
+
+// The code of an alert's register, 0 where q is none.
+pub fn restage_alert(q: Register, c: u64) -> u8
+    requires { ⌜ c ≤ 2 ^ bits q ⌝ }
+    ensures { λ r. ⌜ r ≡ codeOf q c ⌝ }
+{
+    match q {
+        Register::Only(_) => 0,
+        Register::Local(_, _) => 0,
+        Register::Alert(_, _) => c as u8,
+        Register::Block(_, _) => 0,
+        Register::Unassigned => 0,
     }
 }

@@ -4,9 +4,9 @@ use crate::read::local_value;
 use class_rules::Class;
 use rules::Alerts;
 use rules::Field;
-use rules::Handler;
 use rules::Interrupts;
 use rules::Locals;
+use rules::MOST;
 use rules::Register;
 use rules::Setting;
 use rules::Single;
@@ -19,8 +19,9 @@ ghost use lib.ListN.{getD, set};
 ghost use Rattle.bits.specs.Bits.{bit, bitsOf};
 ghost use Rattle.class_rules.specs.Class.{noClass};
 ghost use Rattle.rules.specs.Map.{singleBits, settingBits, bits};
-ghost use Rattle.rules.specs.State.{most, localCount, classCount, localColumn, alertColumn, withLocalColumn, withAlertColumn, put};
-ghost use Rattle.rules.specs.Access.{fieldStored, withSetting, withInterrupt, withPing, store};
+ghost use Rattle.rules.specs.State.{localCount, classCount, fieldIndex, localColumn, withLocalColumn, put};
+ghost use Rattle.rules.specs.Access.{fieldStored, withSetting, withInterrupt, withPing};
+ghost use Rattle.register_file.specs.Parts.{setIn, storedInterrupts, storedTimer, storedLocals, storedClasses, storedAlert, placeOf};
 
 // INTR_STATE: a 1 clears.
 fn cleared(state: u16, v: u16) -> u16
@@ -66,6 +67,15 @@ pub fn set_entry(xs: &mut [u8], i: usize, w: u8)
     }
 }
 
+// The alerts' column with w at i, where there is such an entry.
+pub fn set_at(xs: &mut [u8; MOST], i: usize, w: u8)
+    ensures { λ r. ⌜ now (xs .exit) ≡ setIn (now (xs .entry)) i w ⌝ }
+{
+    if i < MOST {
+        xs[i] = w;
+    }
+}
+
 // The local alerts with w in register f of local alert j.
 fn set_local(l: Locals, f: Field, j: usize, w: u8) -> Locals
     ensures { λ r. ⌜ r ≡ withLocalColumn f (put localCount (localColumn f l) 0 j w) l ⌝ }
@@ -93,39 +103,6 @@ fn set_local(l: Locals, f: Field, j: usize, w: u8) -> Locals
         Field::Cause => {
             let mut xs = l.cause;
             set_entry(&mut xs, j, w);
-            out.cause = xs;
-            out
-        }
-    }
-}
-
-// The alerts with w in register f of alert i.
-fn set_alert(a: Alerts, f: Field, i: usize, w: u8) -> Alerts
-    ensures { λ r. ⌜ r ≡ withAlertColumn f (put most (alertColumn f a) 0 i w) a ⌝ }
-{
-    let mut out = a;
-    match f {
-        Field::Regwen => {
-            let mut xs = a.regwen;
-            set_entry(&mut xs, i, w);
-            out.regwen = xs;
-            out
-        }
-        Field::En => {
-            let mut xs = a.en;
-            set_entry(&mut xs, i, w);
-            out.en = xs;
-            out
-        }
-        Field::Class => {
-            let mut xs = a.class;
-            set_entry(&mut xs, i, w);
-            out.class = xs;
-            out
-        }
-        Field::Cause => {
-            let mut xs = a.cause;
-            set_entry(&mut xs, i, w);
             out.cause = xs;
             out
         }
@@ -249,38 +226,103 @@ fn set_ping(o: Single, v: u32, t: Timer) -> Timer
     }
 }
 
-// The state after an accepted write; v fits the register.
-pub fn stored(h: Handler, q: Register, v: u32) -> Handler
+// The interrupt registers after an accepted write to register q; v fits it. So with each part of the state.
+pub fn store_interrupts(i: Interrupts, q: Register, v: u32) -> Interrupts
     requires { ⌜ v < 2 ^ bits q ⌝ }
-    ensures { λ r. ⌜ r ≡ store h q v ⌝ }
+    ensures { λ r. ⌜ r ≡ storedInterrupts q v i ⌝ }
 {
-    let mut out = h;
     match q {
-        Register::Only(o) => {
-            let interrupts = set_interrupt(o, v, h.interrupts);
-            let timer = set_ping(o, v, h.timer);
-            out.interrupts = interrupts;
-            out.timer = timer;
-            out
-        }
+        Register::Only(o) => set_interrupt(o, v, i),
+        Register::Local(_, _) => i,
+        Register::Alert(_, _) => i,
+        Register::Block(_, _) => i,
+        Register::Unassigned => i,
+    }
+}
+
+// The ping timer's registers.
+pub fn store_timer(t: Timer, q: Register, v: u32) -> Timer
+    requires { ⌜ v < 2 ^ bits q ⌝ }
+    ensures { λ r. ⌜ r ≡ storedTimer q v t ⌝ }
+{
+    match q {
+        Register::Only(o) => set_ping(o, v, t),
+        Register::Local(_, _) => t,
+        Register::Alert(_, _) => t,
+        Register::Block(_, _) => t,
+        Register::Unassigned => t,
+    }
+}
+
+// The local alerts.
+pub fn store_locals(l: Locals, q: Register, v: u32) -> Locals
+    requires { ⌜ v < 2 ^ bits q ⌝ }
+    ensures { λ r. ⌜ r ≡ storedLocals q v l ⌝ }
+{
+    match q {
+        Register::Only(_) => l,
         Register::Local(f, j) => {
-            let old = local_value(h.locals, f, j);
-            let locals = set_local(h.locals, f, j, field_stored(f, old, v as u8));
-            out.locals = locals;
-            out
+            let old = local_value(l, f, j);
+            set_local(l, f, j, field_stored(f, old, v as u8))
         }
+        Register::Alert(_, _) => l,
+        Register::Block(_, _) => l,
+        Register::Unassigned => l,
+    }
+}
+
+// The classes.
+pub fn store_classes(classes: [Class; 4], q: Register, v: u32) -> [Class; 4]
+    requires { ⌜ v < 2 ^ bits q ⌝ }
+    ensures { λ r. ⌜ r ≡ storedClasses q v classes ⌝ }
+{
+    match q {
+        Register::Only(_) => classes,
+        Register::Local(_, _) => classes,
+        Register::Alert(_, _) => classes,
+        Register::Block(s, k) => set_block(classes, s, k, v),
+        Register::Unassigned => classes,
+    }
+}
+
+// What the alert's register q then holds, 0 where q is none.
+pub fn store_alert(a: Alerts, q: Register, v: u32) -> u8
+    requires { ⌜ v < 2 ^ bits q ⌝ }
+    ensures { λ r. ⌜ r ≡ storedAlert q v a ⌝ }
+{
+    match q {
+        Register::Only(_) => 0,
+        Register::Local(_, _) => 0,
         Register::Alert(f, i) => {
-            let old = alert_value(h.alerts, f, i);
-            let alerts = set_alert(h.alerts, f, i, field_stored(f, old, v as u8));
-            out.alerts = alerts;
-            out
+            let old = alert_value(a, f, i);
+            field_stored(f, old, v as u8)
         }
-        Register::Block(s, k) => {
-            let classes = h.classes;
-            let stored = set_block(classes, s, k, v);
-            out.classes = stored;
-            out
-        }
-        Register::Unassigned => h,
+        Register::Block(_, _) => 0,
+        Register::Unassigned => 0,
+    }
+}
+
+// The place of a field among an alert's registers.
+fn index_of(f: Field) -> u8
+    ensures { λ r. ⌜ r ≡ fieldIndex f ⌝ }
+{
+    match f {
+        Field::Regwen => 0,
+        Field::En => 1,
+        Field::Class => 2,
+        Field::Cause => 3,
+    }
+}
+
+// The alert whose register of the k-th field q is, and past the alerts where it is none.
+pub fn place_of(k: u8, q: Register) -> usize
+    ensures { λ r. ⌜ r ≡ placeOf k q ⌝ }
+{
+    match q {
+        Register::Only(_) => MOST,
+        Register::Local(_, _) => MOST,
+        Register::Alert(f, i) => if index_of(f) == k { i } else { MOST },
+        Register::Block(_, _) => MOST,
+        Register::Unassigned => MOST,
     }
 }

@@ -1,2 +1,4 @@
 pub mod Accesses
 pub mod UnmovedLaws
+pub mod Changes
+pub mod Puts

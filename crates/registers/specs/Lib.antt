@@ -1,1 +1,3 @@
 pub mod Unmoved
+pub mod Change
+pub mod Put

@@ -7,7 +7,6 @@ use map::column::limit;
 use map::column::read_only;
 use map::column::write_only;
 use register_file::read::value_of;
-use register_file::stage::stage_of;
 use rules::Access;
 use rules::Handler;
 use rules::Refusal;
@@ -19,6 +18,7 @@ ghost use Rattle.bits.specs.Bits.{fits};
 ghost use Rattle.rules.specs.Map.{isRegister, bits, writeOnly, readOnly};
 ghost use Rattle.rules.specs.Answer.{firstOf};
 ghost use Rattle.rules.specs.Access.{locked, silly, bars, unlike, inOrder, verdict, named};
+ghost use Rattle.rules.specs.Stages.{stage};
 
 // A register is locked while the REGWEN that guards it is 0.
 fn is_locked(h: Handler, q: Register) -> bool
@@ -35,11 +35,11 @@ fn is_barred(h: Handler, q: Register, v: u32) -> bool
     is_locked(h, q) & !(is_lock(q) & (v == 0))
 }
 
-// The register has a stage open with another value.
-fn is_unlike(h: Handler, q: Register, v: u32) -> bool
+// The register has a stage open with another value; the code is that of its stage.
+fn is_unlike(h: Handler, q: Register, v: u32, code: u64) -> bool
+    requires { ⌜ code ≡ stage h q ⌝ }
     ensures { λ r. ⌜ r ≡ unlike h q v ⌝ }
 {
-    let code = stage_of(h, q);
     (code != 0) & (code != v as u64 + 1)
 }
 
@@ -90,13 +90,14 @@ pub fn read_verdict(q: Register) -> Verdict
 }
 
 // The refusals of a write.
-fn write_verdict(h: Handler, q: Register, v: u32) -> Verdict
+fn write_verdict(h: Handler, q: Register, v: u32, code: u64) -> Verdict
+    requires { ⌜ code ≡ stage h q ⌝ }
     ensures { λ r. ⌜ r ≡ firstOf (inOrder false (not (isRegister q)) (readOnly q) (not (fits (bits q) v)) (silly h q v) (bars h q v) (unlike h q v)) ⌝ }
 {
     let wide = !((v as u64) < limit(q));
     let late = is_silly(h, q, v);
     let shut = is_barred(h, q, v);
-    let other = is_unlike(h, q, v);
+    let other = is_unlike(h, q, v, code);
     first_refusal(
         false,
         !is_register(q),
@@ -109,14 +110,14 @@ fn write_verdict(h: Handler, q: Register, v: u32) -> Verdict
 }
 
 // The verdict on an access; q is the register that it names.
-pub fn verdict_of(h: Handler, x: Access, q: Register) -> Verdict
-    requires { ⌜ q ≡ named h x ⌝ }
+pub fn verdict_of(h: Handler, x: Access, q: Register, code: u64) -> Verdict
+    requires { ⌜ (q ≡ named h x) × (code ≡ stage h q) ⌝ }
     ensures { λ r. ⌜ r ≡ verdict h x ⌝ }
 {
     match x {
         Access::Nothing => first_refusal(false, false, false, false, false, false, false),
         Access::Read(_) => read_verdict(q),
-        Access::Write(_, v) => write_verdict(h, q, v),
+        Access::Write(_, v) => write_verdict(h, q, v, code),
         Access::Malformed => first_refusal(true, false, false, false, false, false, false),
     }
 }

@@ -12,4 +12,5 @@ pub mod SampleSteps
 pub mod LocalMasks
 pub mod QuietSamples
 pub mod RestingWords
+pub mod NewSenders
 pub mod RestingLinks

@@ -1,6 +1,6 @@
--- A step 2 in which the links rest.
+-- A step 2 in which the links wait, and send what the lines say.
 -- Assumes nothing.
-use Prim.Native.Nat.{ℕ, _-_, _*_, _^_, _<_}
+use Prim.Native.Nat.{ℕ, _-_, _*_, _<_}
 use mathlib.Core.Path.{_≡_, refl, sym, ap, ap₂, _∙_}
 use mathlib.Core.Bool.{Bool, true, false, false≢true, and-true, and-false, cond, not, _&&_, _||_}
 use native.Mathlib.Omega.{arith}
@@ -8,21 +8,17 @@ use borrow.Author.Tests.{eqb-true}
 use lib.Dec.{eqb, ltb, leb}
 use Rattle.bits.specs.Bits.{bit, bitsOf, num}
 use Rattle.bits.specs.Index.{placeIn}
-use Rattle.bits.proofs.BitLaws.{bit-none, is-bitsOf}
+use Rattle.bits.proofs.BitLaws.{bit-none}
 use Rattle.bits.proofs.IndexLaws.{and-true as both}
 use Rattle.bits.proofs.WordLaws.{placeIn-each}
-use Rattle.link_rules.specs.Codes.{pausingBit, busyBit, responseOf, lastBit, deepBit}
-use Rattle.link_rules.specs.EscalationReceiver.{soundAfter}
+use Rattle.link_rules.specs.Codes.{pausingBit, busyBit}
 use Rattle.link_rules.specs.LinePing.{rightBefore, rightAfter}
 use Rattle.link_rules.specs.Pings.{pending, asks, lineAfter}
-use Rattle.link_rules.specs.Sender.{newSender, sent, stillRight}
-use Rattle.link_rules.specs.Senders.{lineCount, senderIn, sentAll}
+use Rattle.link_rules.specs.Sender.{stillRight}
+use Rattle.link_rules.specs.Senders.{lineCount, sentAll}
 use Rattle.link_rules.specs.Timer.{isLine, lineOf, isDue, opens, openNow, age, fails, ends, nextTurn, turned}
-use Rattle.link_rules.specs.declared.Drive.{Drive}
 use Rattle.link_rules.specs.declared.Meets.{Meets}
 use Rattle.link_rules.specs.declared.Receiver.{Receiver}
-use Rattle.link_rules.specs.declared.Sender.{Sender}
-use Rattle.link_rules.specs.declared.Senders.{Senders}
 use Rattle.link_rules.specs.declared.Turn.{Turn}
 use Rattle.rules.specs.Samples.{positive, negative, checks}
 use Rattle.rules.specs.State.{words, receiverIn, receiversBy}
@@ -34,8 +30,9 @@ use Rattle.samples.specs.Linked.{drivenBy, wholeBy, linkedBy}
 use Rattle.samples.specs.Paced.{meetsBy, asksBy, wrongBy, wasRightBy, answeredBy, timedBy, receiverBy, rightBy}
 use Rattle.samples.specs.Quiet.{noneSet, QuietBy}
 use Rattle.samples.specs.Received.{receiverAt}
-use Rattle.samples.specs.Rest.{AlertsRest, waited, withCount, leftBy, RestsBy}
+use Rattle.samples.specs.Rest.{AlertsRest, waited, withSent, driven, leftBy, SendsBy}
 use Rattle.samples.proofs.ClosedPings.{words-ext}
+use Rattle.samples.proofs.NewSenders.{zero-bits}
 use Rattle.samples.proofs.Pacing.{mask-any}
 use Rattle.samples.proofs.QuietLinks.{place-none}
 use Rattle.samples.proofs.StillWords.{Still, still-at}
@@ -97,49 +94,6 @@ no-right true true = refl
 no-right true false = refl
 no-right false line = refl
 
--- ── the senders ──
-
--- every bit of 0 is 0
-zero-bits : (w : ℕ) (f : ℕ → Bool) → 0 < 2 ^ w → ((k : ℕ) → k < w → f k ≡ false) → 0 ≡ bitsOf w f
-zero-bits w f p e = is-bitsOf w 0 f p (λ k h. bit-none k ∙ sym (e k h))
-
--- new senders that send nothing stay new
-new-stays : sent newSender (record { line = false; ping = false }) ≡ newSender
-unfolding sent soundAfter
-new-stays = refl
-
-module _ (s : Senders) (o : s .on ≡ 0) (f : s .first ≡ 0) (l : s .last ≡ 0) (d : s .deep ≡ 0) (a : s .answer ≡ 0) where
-  new-sender : (e : ℕ) → senderIn s e ≡ newSender
-  new-sender e = λ t.
-      record {
-        on = (ap (λ (x : ℕ). bit x e) o ∙ bit-none e) t;
-        first = (ap (λ (x : ℕ). bit x e) f ∙ bit-none e) t;
-        sound =
-            record {
-              stands = responseOf ((ap (λ (x : ℕ). bit x e) l ∙ bit-none e) t) ((ap (λ (x : ℕ). bit x e) d ∙ bit-none e) t);
-              answer = (ap (λ (x : ℕ). bit x e) a ∙ bit-none e) t;
-            };
-      }
-
-  after-sent : (g : ℕ → Drive) → ((e : ℕ) → g e ≡ record { line = false; ping = false }) → (e : ℕ) → sent (senderIn s e) (g e) ≡ newSender
-  after-sent g z e = ap₂ sent (new-sender e) (z e) ∙ new-stays
-
-  pub new-senders : (g : ℕ → Drive) → ((e : ℕ) → g e ≡ record { line = false; ping = false }) → sentAll s g ≡ s
-  new-senders g z = sym (λ t.
-      record {
-        on = (o ∙ zero-bits lineCount (λ e. sent (senderIn s e) (g e) .on) (omega arith) (λ e h. ap (λ (x : Sender). x .on) (after-sent g z e))) t;
-        first = (f ∙ zero-bits lineCount (λ e. sent (senderIn s e) (g e) .first) (omega arith) (λ e h. ap (λ (x : Sender). x .first) (after-sent g z e))) t;
-        last =
-            (l ∙ zero-bits lineCount (λ e. lastBit (sent (senderIn s e) (g e) .sound .stands)) (omega arith)
-            (λ e h. ap (λ (x : Sender). lastBit (x .sound .stands)) (after-sent g z e))) t;
-        deep =
-            (d ∙ zero-bits lineCount (λ e. deepBit (sent (senderIn s e) (g e) .sound .stands)) (omega arith)
-            (λ e h. ap (λ (x : Sender). deepBit (x .sound .stands)) (after-sent g z e))) t;
-        answer =
-            (a ∙ zero-bits lineCount (λ e. sent (senderIn s e) (g e) .sound .answer) (omega arith)
-            (λ e h. ap (λ (x : Sender). x .sound .answer) (after-sent g z e))) t;
-      })
-
 -- ── all of it ──
 
 pub record Parts (n : ℕ) (k : Links) (c : Timer) (s : Sample) : Type 0 where
@@ -147,11 +101,6 @@ pub record Parts (n : ℕ) (k : Links) (c : Timer) (s : Sample) : Type 0 where
   pub closed : placeIn (k .receivers .pending) (k .turn .alert) ≡ false
   pub lines : k .lines ≡ 0
   pub right : k .right ≡ 0
-  pub on : k .senders .on ≡ 0
-  pub first : k .senders .first ≡ 0
-  pub last : k .senders .last ≡ 0
-  pub deep : k .senders .deep ≡ 0
-  pub answer : k .senders .answer ≡ 0
   pub sound : bitsOf lineCount (wrongBy n k c false false s) ≡ 0
   pub waits : (not (eqb (c .enable) 1) || not (eqb (k .turn .count) 0)) ≡ true
 
@@ -222,34 +171,6 @@ module _ (n : ℕ) (k : Links) (c : Timer) (s : Sample) (x : Parts n k c s) (pin
         none-wrong = λ q. sym (mask-any (wrongBy n k c false pingable s)) ∙ ap (λ (w : ℕ). not (eqb w 0)) (x .sound);
       }
 
-  -- the links after it
-  abbrev whole : Meets
-  whole = wholeBy k (leftBy n k c pingable s) 0
-
-  whole-due : isDue whole t ≡ false
-  whole-due = no-due (answeredBy n k c false pingable s)
-
-  turn-waits : turned whole t ≡ counting t (waited c (t .count))
-  unfolding turned
-  turn-waits =
-      ap₂ (λ (a b : Bool). cond (not (eqb (c .enable) 1 && true)) t (cond a (nextTurn t (s .word)) (record { number = t .number; alert = t .alert; count = cond b (age whole t) (t .count - 1) })))
-      (no-end whole t whole-due none-pending) (none-open whole t whole-due none-pending)
-      ∙ by-timer (eqb (c .enable) 1) t
-
-  lines-stay : bitsOf 32 (λ l. cond (ltb l lineCount) (lineAfter whole t (bit (k .lines) l) l) (bit (k .lines) l)) ≡ k .lines
-  lines-stay =
-      sym (x .lines ∙ zero-bits 32 _ (omega arith) (λ l h.
-      ap₂ (λ (a b : Bool). cond (ltb l lineCount) (cond (isLine t && eqb l (lineOf t)) (a && not (ends whole t)) b) b)
-      (none-open whole t whole-due none-pending) (ap (λ (y : ℕ). bit y l) (x .lines) ∙ bit-none l)
-      ∙ both-off (ltb l lineCount) (isLine t && eqb l (lineOf t))))
-
-  undriven : (e : ℕ) → drivenBy k (leftBy n k c pingable s) 0 e ≡ record { line = false; ping = false }
-  undriven e = λ u.
-      record {
-        line = bit-none e u;
-        ping = no-opening (timedBy n k c false pingable s) t (no-due (answeredBy n k c false pingable s)) none-pending u && (isLine t && eqb e (lineOf t));
-      }
-
   right-stays : num (rightBy n k c false pingable s) ≡ k .right
   unfolding rightAfter
   right-stays =
@@ -257,47 +178,65 @@ module _ (n : ℕ) (k : Links) (c : Timer) (s : Sample) (x : Parts n k c s) (pin
       (none-open (meetsBy n k c false pingable s false) t (no-due false) none-pending)
       ∙ ap num (no-right (checks (s .receive)) (isLine t)) ∙ sym (x .right)
 
-  links-wait : linkedBy k (leftBy n k c pingable s) 0 ≡ withCount (waited c (t .count)) k
-  links-wait = λ u.
-      record {
-        receivers = receivers-stay u;
-        turn = turn-waits u;
-        lines = lines-stay u;
-        senders = new-senders (k .senders) (x .on) (x .first) (x .last) (x .deep) (x .answer) (drivenBy k (leftBy n k c pingable s) 0) undriven u;
-        right = right-stays u;
-      }
+  -- the links after it: with no ping open, a line that is on closes none
+  module _ (lit : ℕ) where
+    abbrev whole : Meets
+    whole = wholeBy k (leftBy n k c pingable s) lit
 
-pub rests-by : (n : ℕ) (k : Links) (c : Timer) (s : Sample) → Parts n k c s → RestsBy n k c s
-rests-by n k c s x = record { quiet = quiet-by n k c s x; links = links-wait n k c s x }
+    whole-due : isDue whole t ≡ false
+    whole-due = no-due (answeredBy n k c false pingable s)
+
+    turn-waits : turned whole t ≡ counting t (waited c (t .count))
+    unfolding turned
+    turn-waits =
+        ap₂ (λ (a b : Bool). cond (not (eqb (c .enable) 1 && true)) t (cond a (nextTurn t (s .word)) (record { number = t .number; alert = t .alert; count = cond b (age whole t) (t .count - 1) })))
+        (no-end whole t whole-due none-pending) (none-open whole t whole-due none-pending)
+        ∙ by-timer (eqb (c .enable) 1) t
+
+    lines-stay : bitsOf 32 (λ l. cond (ltb l lineCount) (lineAfter whole t (bit (k .lines) l) l) (bit (k .lines) l)) ≡ k .lines
+    lines-stay =
+        sym (x .lines ∙ zero-bits 32 _ (omega arith) (λ l h.
+        ap₂ (λ (a b : Bool). cond (ltb l lineCount) (cond (isLine t && eqb l (lineOf t)) (a && not (ends whole t)) b) b)
+        (none-open whole t whole-due none-pending) (ap (λ (y : ℕ). bit y l) (x .lines) ∙ bit-none l)
+        ∙ both-off (ltb l lineCount) (isLine t && eqb l (lineOf t))))
+
+    no-ping : drivenBy k (leftBy n k c pingable s) lit ≡ driven lit
+    no-ping = λ u e.
+        record {
+          line = bit lit e;
+          ping = no-opening (timedBy n k c false pingable s) t (no-due (answeredBy n k c false pingable s)) none-pending u && (isLine t && eqb e (lineOf t));
+        }
+
+    links-send : linkedBy k (leftBy n k c pingable s) lit ≡ withSent (sentAll (k .senders) (driven lit)) (waited c (t .count)) k
+    links-send = λ u.
+        record {
+          receivers = receivers-stay u;
+          turn = turn-waits u;
+          lines = lines-stay u;
+          senders = sentAll (k .senders) (no-ping u);
+          right = right-stays u;
+        }
+
+pub sends-by : (n : ℕ) (k : Links) (c : Timer) (s : Sample) → Parts n k c s → SendsBy n k c s
+sends-by n k c s x = record { quiet = quiet-by n k c s x; links = links-send n k c s x }
 
 -- by the tests of the code
-pub rests-from : (n : ℕ) (k : Links) (c : Timer) (s : Sample) (still none new waits : Bool) (off : ℕ) → k .turn .alert < 256
+pub sends-from : (n : ℕ) (k : Links) (c : Timer) (s : Sample) (still none waits : Bool) (off : ℕ) → k .turn .alert < 256
     → (still ≡ true → AlertsRest n (k .receivers) (s .alerts)) → none ≡ noneSet (k .receivers .pending)
-    → new ≡ (eqb (k .senders .on) 0 && (eqb (k .senders .first) 0 && (eqb (k .senders .last) 0 && (eqb (k .senders .deep) 0 && eqb (k .senders .answer) 0))))
     → off ≡ bitsOf lineCount (wrongBy n k c false false s) → waits ≡ (not (eqb (c .enable) 1) || not (eqb (k .turn .count) 0))
-    → (still && ((none && (eqb (k .lines) 0 && eqb (k .right) 0)) && ((new && eqb off 0) && waits))) ≡ true → RestsBy n k c s
-rests-from n k c s still none new waits off small a p w o d e =
+    → (still && ((none && (eqb (k .lines) 0 && eqb (k .right) 0)) && (eqb off 0 && waits))) ≡ true → SendsBy n k c s
+sends-from n k c s still none waits off small a p o d e =
     let y = both still _ e in
     let z = both (none && (eqb (k .lines) 0 && eqb (k .right) 0)) _ (y .1) in
     let q = both none _ (z .0) in
     let l = both (eqb (k .lines) 0) (eqb (k .right) 0) (q .1) in
-    let u = both (new && eqb off 0) waits (z .1) in
-    let v = both new (eqb off 0) (u .0) in
-    let s1 = both (eqb (k .senders .on) 0) _ (sym w ∙ v .0) in
-    let s2 = both (eqb (k .senders .first) 0) _ (s1 .1) in
-    let s3 = both (eqb (k .senders .last) 0) _ (s2 .1) in
-    let s4 = both (eqb (k .senders .deep) 0) (eqb (k .senders .answer) 0) (s3 .1) in
-    rests-by n k c s
+    let u = both (eqb off 0) waits (z .1) in
+    sends-by n k c s
     (record {
       alerts = a (y .0);
       closed = place-none (k .receivers .pending) (sym p ∙ q .0) (k .turn .alert) (omega arith);
       lines = eqb-true _ _ (l .0);
       right = eqb-true _ _ (l .1);
-      on = eqb-true _ _ (s1 .0);
-      first = eqb-true _ _ (s2 .0);
-      last = eqb-true _ _ (s3 .0);
-      deep = eqb-true _ _ (s4 .0);
-      answer = eqb-true _ _ (s4 .1);
-      sound = sym o ∙ eqb-true _ _ (v .1);
+      sound = sym o ∙ eqb-true _ _ (u .0);
       waits = sym d ∙ u .1;
     })

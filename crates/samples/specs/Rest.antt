@@ -1,11 +1,15 @@
--- A step 2 that leaves the links as they are, but for the count of a turn that waits: every alert rests, no ping is open and none opens, and every
--- sender rests and its receive pair is right.
+-- A step 2 that leaves the links as they are, but for the count of a turn that waits and for what the senders send: every alert rests, no ping is open
+-- and none opens, and every receive pair is right. Where every sender rests too and no line is on, the count alone can move.
 -- Assumes nothing.
 use Prim.Native.Nat.{ℕ, _-_, _*_, _<_}
 use mathlib.Core.Path.{_≡_}
 use mathlib.Core.Bool.{Bool, true, false, cond, not, _&&_, _||_}
 use lib.Dec.{eqb, ltb}
+use Rattle.bits.specs.Bits.{bit}
 use Rattle.bits.specs.Index.{placeIn}
+use Rattle.link_rules.specs.Senders.{sentAll}
+use Rattle.link_rules.specs.declared.Drive.{Drive}
+use Rattle.link_rules.specs.declared.Senders.{Senders}
 use Rattle.rules.specs.Samples.{positive, negative, checks}
 use Rattle.rules.specs.State.{words, receiverIn, receiversBy}
 use Rattle.rules.specs.declared.Links.{Links}
@@ -31,15 +35,23 @@ pub record AlertsRest (n : ℕ) (r : Receivers) (w : Wires) : Type 0 where
 abbrev pub waited : Timer → ℕ → ℕ
 waited c count = cond (eqb (c .enable) 1) (count - 1) count
 
-abbrev pub withCount : ℕ → Links → Links
-withCount count k =
+-- the links k with these senders, and with this count of their turn
+abbrev pub withSent : Senders → ℕ → Links → Links
+withSent senders count k =
     record {
       receivers = k .receivers;
       turn = record { number = k .turn .number; alert = k .turn .alert; count = count };
       lines = k .lines;
-      senders = k .senders;
+      senders = senders;
       right = k .right;
     }
+
+abbrev pub withCount : ℕ → Links → Links
+withCount count k = withSent (k .senders) count k
+
+-- line e is on or not, and no ping opens on it
+abbrev pub driven : ℕ → ℕ → Drive
+driven lit e = record { line = bit lit e; ping = false }
 
 -- what step 2 leaves for the links, in a tick that does not start the timer
 abbrev pub leftBy : ℕ → Links → Timer → Bool → Sample → Met
@@ -51,7 +63,9 @@ leftBy n k c pingable s =
       right = rightBy n k c false pingable s;
     }
 
--- nothing comes of it but for the links, whatever alert is drawn; and with no line on in step 5 these only wait
-pub record RestsBy (n : ℕ) (k : Links) (c : Timer) (s : Sample) : Type 0 where
+-- nothing comes of it but for the links, whatever alert is drawn; and these only wait and send, whatever lines are on in step 5
+pub record SendsBy (n : ℕ) (k : Links) (c : Timer) (s : Sample) : Type 0 where
   pub quiet : (pingable : Bool) → QuietBy n k c pingable s (record { met = leftBy n k c pingable s; quiet = true })
-  pub links : (pingable : Bool) → linkedBy k (leftBy n k c pingable s) 0 ≡ withCount (waited c (k .turn .count)) k
+  pub links :
+      (pingable : Bool) (lit : ℕ)
+      → linkedBy k (leftBy n k c pingable s) lit ≡ withSent (sentAll (k .senders) (driven lit)) (waited c (k .turn .count)) k

@@ -1,4 +1,5 @@
-// A step 2 that leaves the links as they are, but for the count of a turn that waits. It makes no links, so that a tick in which all rests copies none.
+// A step 2 that leaves the links as they are, but for the count of a turn that waits and for what the senders send. It makes no links, so that a tick in
+// which the alerts rest copies none.
 use crate::back::wrong_lines;
 use crate::links::none_set;
 use link_rules::Senders;
@@ -15,7 +16,7 @@ ghost use mathlib.Core.Path.{_≡_};
 ghost use mathlib.Core.Bool.{true, false, not, _&&_, _||_};
 ghost use lib.Dec.{eqb};
 ghost use Rattle.rules.specs.State.{words};
-ghost use Rattle.samples.specs.Rest.{stirs, AlertsRest, waited, RestsBy};
+ghost use Rattle.samples.specs.Rest.{stirs, AlertsRest, waited, SendsBy};
 
 // No alert of word v stirs, of the receivers r of n alerts and the wires w.
 fn is_word_still(n: usize, r: Receivers, w: Wires, v: usize) -> bool
@@ -37,7 +38,7 @@ fn are_still(n: usize, r: Receivers, w: Wires) -> bool
 }
 
 // Every sender is as a new one.
-fn are_new(s: Senders) -> bool
+pub fn are_new(s: Senders) -> bool
     ensures { λ a. ⌜ a ≡ (eqb (s .on) 0 && (eqb (s .first) 0 && (eqb (s .last) 0 && (eqb (s .deep) 0 && eqb (s .answer) 0)))) ⌝ }
 {
     (s.on == 0) & ((s.first == 0) & ((s.last == 0) & ((s.deep == 0) & (s.answer == 0))))
@@ -61,9 +62,9 @@ pub fn wait(c: Timer, count: u16) -> u16
     }
 }
 
-// The n alerts, their links and the timer's registers meet the sample s.
-pub fn does_rest(n: usize, k: Links, c: Timer, s: Sample) -> bool
-    ensures { λ a. ⌜ (a ≡ true → RestsBy n k c s) ⌝ }
+// The n alerts, their links and the timer's registers meet the sample s: every alert rests, and no ping is open or opens.
+pub fn does_only_send(n: usize, k: Links, c: Timer, s: Sample) -> bool
+    ensures { λ a. ⌜ (a ≡ true → SendsBy n k c s) ⌝ }
 {
     let r = k.receivers;
     let senders = k.senders;
@@ -72,6 +73,6 @@ pub fn does_rest(n: usize, k: Links, c: Timer, s: Sample) -> bool
     let still = are_still(n, r, wires);
     let pends = r.pending;
     let closed = none_set(pends) & ((k.lines == 0) & (k.right == 0));
-    let silent = are_new(senders) & (wrong_lines(senders, back) == 0);
-    still & (closed & (silent & does_wait(c, k.turn)))
+    let sound = wrong_lines(senders, back) == 0;
+    still & (closed & (sound & does_wait(c, k.turn)))
 }

@@ -3,7 +3,7 @@
 
 use handler::registers::Setting;
 use handler::{Access, Answer, Edition, Handler, Output, Sample, Ticked, Word, ALERTS};
-use harness::bench::{load, start, time, time_boot, Load, LOADS};
+use harness::bench::{load, Load};
 use harness::calls::{handler_of, reference_of, told_apart, with_spare, Found};
 use harness::compare::ANSWERS;
 use harness::rng::Rng;
@@ -12,7 +12,7 @@ use harness::states::{try_all, Subject, Summary, PROVED};
 
 thread_local! {
     /// A configured state of all alerts.
-    static START: Handler = handler_of(&start(Edition::NEWEST, Load::Quiet));
+    static START: Handler = handler_of(&load(Edition::NEWEST, Load::Quiet, 1).first);
 }
 
 /// The same of n alerts.
@@ -364,16 +364,4 @@ fn an_older_batch_that_runs_with_the_timer_on_is_found() {
         (after, answer)
     }
     assert_eq!(found(Subject { batch, ..PROVED }).odd.field, "answer 7");
-}
-
-#[test]
-fn the_bench_compares_every_word_and_state() {
-    for edition in Edition::ALL {
-        for (kind, name) in LOADS.into_iter().filter(|it| it.0.is_of(edition)) {
-            let bytes = load(edition, kind, 1000);
-            assert_eq!(bytes.len(), 1000 * edition.bytes());
-            assert!(time(edition, kind, name, 1000).equal, "{name}");
-        }
-    }
-    assert!(time_boot(58, 3).equal && time_boot(248, 3).equal);
 }

@@ -10,7 +10,7 @@ use std::time::{Duration, Instant};
 pub const BOOTS: usize = 100;
 
 /// The line above the times.
-pub const BOOT_TITLE: &str = "us a boot, best of 7    N   proved  reference  proved/reference";
+pub const BOOT_TITLE: &str = "us a boot, best of 7      N   proved  reference  proved/reference";
 
 /// Times so many boots of n alerts, both sides in turn.
 pub fn time_boot(n: usize, boots: usize) -> Timed {

@@ -1,10 +1,9 @@
 //! The time of calm ticks: in one go by the proved engine, and as plain ticks of the same library in one batch.
 
-use super::load::sound;
+use super::maker::{Maker, NOTHING};
 use super::ROUNDS;
 use crate::calls::reference_of;
-use crate::record::{pack, Head, Tail, NONE};
-use handler::{Answer, Change, Edition, Handler, LinePairs, Wires, Word, ALERTS, CHANGES, CLASSES};
+use handler::{Answer, Change, Edition, Handler, Wires, Word, ALERTS, CHANGES, CLASSES};
 use std::fmt;
 use std::time::{Duration, Instant};
 
@@ -96,11 +95,11 @@ pub struct TimedCalm {
 /// The records of the calm ticks, with the receive pairs of sound receivers.
 fn records(calm: &Calm, ticks: u32) -> Vec<u8> {
     let Wires { pos, neg } = calm.wires;
-    let tail = Tail::wired(0, LinePairs::REST);
-    let record = pack(Edition::NEWEST, Head::new(NONE, 0, 0), (pos, neg), tail);
-    let mut bytes = record.repeat(ticks as usize);
-    sound(Edition::NEWEST, reference_of(&calm.state), &mut bytes);
-    bytes
+    let mut maker = Maker::new(Edition::NEWEST, reference_of(&calm.state), ticks as usize);
+    for _ in 0..ticks {
+        maker.tick(NOTHING, (pos, neg), 0);
+    }
+    maker.bytes
 }
 
 /// The changes that words tell, from lines that are off or as the state has them.

@@ -11,7 +11,7 @@ use std::time::{Duration, Instant};
 pub const DUMPS: usize = 100;
 
 /// The line above the times.
-pub const DUMP_TITLE: &str = "us a dump, best of 7    N   proved  reference  proved/reference";
+pub const DUMP_TITLE: &str = "us a dump, best of 7      N   proved  reference  proved/reference";
 
 /// A booted handler of 58 alerts, and one of 248 in which every shadowed
 /// register was written once.

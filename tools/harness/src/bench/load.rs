@@ -1,110 +1,151 @@
 //! The records that are timed.
 
+use super::accesses::{reads, writes};
+use super::maker::{Maker, NOTHING};
+use super::season::Season;
+use super::senders::Senders;
+use super::start::start;
 use super::QUIET;
-use crate::calls::reference_edition;
-use crate::record::{pack, Head, Tail, NONE, READ};
+use crate::record::Head;
 use crate::rng::Rng;
-use handler::registers::{Field, Map, Setting, INTR_ENABLE, INTR_STATE};
-use handler::{Edition, LinePairs, CLASSES, LINES, LOCALS};
-use reference::batch;
+use handler::{Edition, CLASSES};
+use reference::Handler;
 
-/// What the records of a batch do.
+/// What the records of a batch do. The receive pairs are always those of sound
+/// receivers.
 #[derive(Clone, Copy, Debug, PartialEq, Eq)]
 pub enum Load {
-    /// No access, all wires at rest.
+    /// No access, all wires at rest, the ping timer off.
     Quiet,
-    /// The same with the ping timer on: random words, and no answer of an alert,
-    /// so that its pings fail.
-    Pinged,
-    /// An alert rises in every 64th tick and falls in the next.
+    /// An alert is sent in every 64th tick, by the whole handshake of a sound
+    /// sender.
     Sparse,
     /// Random wires, many of them equal.
     Random,
-    /// A read of an assigned register in each tick, all wires at rest.
+    /// A read in each tick, all wires at rest: see [`reads`].
     Read,
+    /// A write in each tick, all wires at rest: see [`writes`].
+    Write,
+    /// The ping timer is on, and the words set turns of at most 256 ticks; sound
+    /// senders and receivers answer.
+    Pings,
+    /// Four alerts start all four classes in the first tick, and all four lines
+    /// are on from then on.
+    Escalation,
+    /// See [`Season`].
+    Season,
 }
 
 /// Every load with its name.
-pub const LOADS: [(Load, &str); 5] = [
+pub const LOADS: [(Load, &str); 8] = [
     (Load::Quiet, "quiet wires"),
-    (Load::Pinged, "quiet, timer on"),
     (Load::Sparse, "sparse events"),
     (Load::Random, "random wires"),
     (Load::Read, "a read each tick"),
+    (Load::Write, "a write each tick"),
+    (Load::Pings, "pings answered"),
+    (Load::Escalation, "escalation"),
+    (Load::Season, "season"),
 ];
 
+/// Ticks from an alert of the sparse load to the next.
+const SPARSE: usize = 64;
+
 impl Load {
+    /// The load of this name.
+    pub fn named(name: &str) -> Option<Load> {
+        let found = LOADS.into_iter().find(|it| it.1 == name);
+        found.map(|it| it.0)
+    }
+
     /// Whether an edition's records hold it.
     pub fn is_of(self, edition: Edition) -> bool {
-        self != Load::Pinged || edition.has_timer()
-    }
-}
-
-/// The bytes of a load, for as many alerts as the edition has.
-pub fn load(edition: Edition, load: Load, records: usize) -> Vec<u8> {
-    let mut rng = Rng::new(1);
-    let registers = readable(edition.registers());
-    let mut bytes = Vec::with_capacity(records * edition.bytes());
-    for at in 0..records {
-        let mut access = (NONE, 0);
-        let mut wires = QUIET;
-        match load {
-            Load::Quiet | Load::Pinged => {}
-            Load::Sparse if at % 64 == 0 => {
-                // From the last alert down.
-                let alerts = edition.alerts();
-                let i = alerts - 1 - at / 64 % alerts;
-                let risen = 1 << (63 - i % 64);
-                wires.0[i / 64] = risen;
-                wires.1[i / 64] = !risen;
-            }
-            Load::Sparse => {}
-            Load::Random => {
-                for (pos, neg) in wires.0.iter_mut().zip(&mut wires.1) {
-                    (*pos, *neg) = (rng.bits(), rng.bits());
-                }
-            }
-            Load::Read => access = (READ, rng.pick(&registers)),
+        match self {
+            Load::Pings | Load::Escalation | Load::Season => edition == Edition::NEWEST,
+            _ => true,
         }
-        let (kind, register) = access;
-        let head = Head::new(kind, register, 0);
-        let word = match load {
-            Load::Pinged => rng.bits() as u32,
-            _ => 0,
-        };
-        let tail = match edition.has_receive() {
-            true => Tail::wired(word, LinePairs::REST),
-            false => Tail::new(word, 0),
-        };
-        bytes.extend(pack(edition, head, wires, tail));
-    }
-    bytes
-}
-
-/// Gives every record the receive pairs that sound receivers send, from this
-/// state on.
-pub fn sound(edition: Edition, mut state: reference::Handler, bytes: &mut [u8]) {
-    let last = edition.bytes() - 1;
-    for record in bytes.chunks_exact_mut(edition.bytes()) {
-        let on = |e: usize| u32::from(state.senders[e].expected()) << e;
-        let pairs = LinePairs::sound((0..LINES).map(on).sum());
-        record[last] = Tail::wired(0, pairs).last;
-        let answer = batch(&mut state, reference_edition(edition), record, &mut [0]);
-        assert_eq!(answer, 0);
     }
 }
 
-/// Every register that can be read where all alerts are there.
-fn readable(map: Map) -> Vec<u16> {
-    let mut all = vec![INTR_STATE, INTR_ENABLE];
-    for field in Field::ALL {
-        all.extend((0..map.alerts).map(|i| map.alert(field, i)));
+/// What a batch is given.
+pub struct Made {
+    /// The state that it starts from.
+    pub first: Handler,
+    /// The records.
+    pub bytes: Vec<u8>,
+}
+
+/// So many records of a load, for as many alerts as the edition has.
+pub fn load(edition: Edition, load: Load, records: usize) -> Made {
+    let first = start(edition, load, records);
+    let mut maker = Maker::new(edition, first.clone(), records);
+    match load {
+        Load::Season => {
+            let bytes = Season::new(records).bytes(records);
+            return Made { first, bytes };
+        }
+        Load::Quiet => quiet(&mut maker, records),
+        Load::Random => random(&mut maker, records),
+        Load::Read => accesses(&mut maker, reads(edition.registers()).take(records)),
+        Load::Write => accesses(&mut maker, writes(edition.registers()).take(records)),
+        Load::Sparse => sparse(&mut maker, records),
+        Load::Pings => pings(&mut maker, records),
+        Load::Escalation => escalation(&mut maker, records),
     }
-    for field in Field::ALL {
-        all.extend((0..LOCALS).map(|j| map.local(field, j)));
+    let bytes = maker.bytes;
+    Made { first, bytes }
+}
+
+fn quiet(maker: &mut Maker, records: usize) {
+    for _ in 0..records {
+        maker.tick(NOTHING, QUIET, 0);
     }
-    for k in 0..CLASSES {
-        all.extend(Setting::READABLE.map(|setting| map.class(k, setting)));
+}
+
+fn accesses(maker: &mut Maker, heads: impl Iterator<Item = Head>) {
+    for head in heads {
+        maker.tick(head, QUIET, 0);
     }
-    all
+}
+
+fn random(maker: &mut Maker, records: usize) {
+    let mut rng = Rng::new(1);
+    for _ in 0..records {
+        let mut wires = QUIET;
+        for (pos, neg) in wires.0.iter_mut().zip(&mut wires.1) {
+            (*pos, *neg) = (rng.bits(), rng.bits());
+        }
+        maker.tick(NOTHING, wires, 0);
+    }
+}
+
+/// From the last alert down.
+fn sparse(maker: &mut Maker, records: usize) {
+    let (alerts, mut senders) = (maker.state.n as usize, Senders::new());
+    for at in 0..records {
+        if at % SPARSE == 0 {
+            senders.raise(alerts - 1 - at / SPARSE % alerts);
+        }
+        let wires = senders.wires(&maker.state);
+        maker.tick(NOTHING, wires, 0);
+    }
+}
+
+fn pings(maker: &mut Maker, records: usize) {
+    let (mut rng, mut senders) = (Rng::new(4), Senders::new());
+    for _ in 0..records {
+        let wires = senders.wires(&maker.state);
+        // Of the low half, which sets the wait, eight bits.
+        maker.tick(NOTHING, wires, rng.bits() as u32 & 0xFFFF_00FF);
+    }
+}
+
+fn escalation(maker: &mut Maker, records: usize) {
+    let mut senders = Senders::new();
+    // Alert k is of class k.
+    (0..CLASSES).for_each(|k| senders.raise(k));
+    for _ in 0..records {
+        let wires = senders.wires(&maker.state);
+        maker.tick(NOTHING, wires, 0);
+    }
 }

@@ -1,7 +1,6 @@
 //! The rounds of a load.
 
-use super::load::{load, sound, Load};
-use super::start::start;
+use super::load::{load, Load, Made};
 use super::timed::Timed;
 use super::ROUNDS;
 use crate::calls::{handler_of, reference_edition, told_apart};
@@ -9,12 +8,8 @@ use handler::{Edition, Handler, Word};
 use std::time::{Duration, Instant};
 
 /// Times one load, both sides in turn.
-pub fn time(edition: Edition, kind: Load, name: &'static str, records: usize) -> Timed {
-    let mut bytes = load(edition, kind, records);
-    let first = start(edition, kind);
-    if edition.has_receive() {
-        sound(edition, first.clone(), &mut bytes);
-    }
+pub fn time(edition: Edition, kind: Load, name: &str, records: usize) -> Timed {
+    let Made { first, bytes } = load(edition, kind, records);
     let mut words = vec![Word(0); records];
     let mut numbers = vec![0; records];
     let mut timed = Timed::new(name, edition.alerts(), records);
@@ -34,7 +29,10 @@ pub fn time(edition: Edition, kind: Load, name: &'static str, records: usize) ->
     timed
 }
 
-fn proved_round(
+/// One call of the proved batch. Callgrind counts inside by the name, so that it
+/// stays a function of its own.
+#[inline(never)]
+pub fn proved_round(
     state: Handler,
     edition: Edition,
     bytes: &[u8],
@@ -47,7 +45,9 @@ fn proved_round(
     (state, spent)
 }
 
-fn reference_round(
+/// The same of the reference.
+#[inline(never)]
+pub fn reference_round(
     mut state: reference::Handler,
     edition: Edition,
     bytes: &[u8],

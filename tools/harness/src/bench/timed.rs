@@ -6,7 +6,7 @@ use std::time::Duration;
 /// The best times of one load, or of boots.
 pub struct Timed {
     /// The load's name.
-    pub name: &'static str,
+    pub name: String,
     /// The alerts of the handler.
     pub alerts: usize,
     /// What the time of a round is divided by, to be shown: its ticks.
@@ -20,13 +20,13 @@ pub struct Timed {
 }
 
 /// The line above the table.
-pub const TITLE: &str = "ns a tick, best of 7    N   proved  reference  proved/reference";
+pub const TITLE: &str = "ns a tick, best of 7      N   proved  reference  proved/reference";
 
 impl Timed {
     /// Nothing is timed yet.
-    pub(super) fn new(name: &'static str, alerts: usize, shares: usize) -> Timed {
+    pub(super) fn new(name: impl Into<String>, alerts: usize, shares: usize) -> Timed {
         Timed {
-            name,
+            name: name.into(),
             alerts,
             shares,
             proved: Duration::MAX,
@@ -48,10 +48,10 @@ impl fmt::Display for Timed {
         let each = |time: Duration| time.as_nanos() as f64 / self.shares as f64;
         let (proved, reference) = (each(self.proved), each(self.reference));
         let ratio = proved / reference;
-        let (name, n) = (self.name, self.alerts);
+        let (name, n) = (&self.name, self.alerts);
         write!(
             out,
-            "{name:<21} {n:>3} {proved:>8.1} {reference:>10.1} {ratio:>17.2}"
+            "{name:<23} {n:>3} {proved:>8.1} {reference:>10.1} {ratio:>17.2}"
         )?;
         if !self.equal {
             write!(out, "  DIFFERENT")?;

@@ -4,6 +4,7 @@ use mathlib.Core.Path.{sym, _∙_}
 use Rattle.laws.proofs.Valid.ValidLaws.{facts}
 use Rattle.rules.specs.Tick.{acknowledgePairs, pingPairs, escalationPairs}
 use Rattle.handler.proofs.Answers.{answered-good, answered-bad}
+use Rattle.handler.proofs.WholeTick.{accessed-most}
 use borrow.Author.Needs.{needs}
 use Rattle.handler.proofs.tick.tick.Statement.{statement}
 use Rattle.handler.proofs.tick.tick.Tie as tie
@@ -11,8 +12,12 @@ use Rattle.handler.proofs.tick.tick.Tie as tie
 is-valid-requires : tie.Need-is-valid-requires
 is-valid-requires c κs = search needs
 
-step-requires : tie.Need-step-requires
-step-requires c κs = facts _ (sym (c .before .is-valid .ensures) ∙ c .if1 .taken) .n
+access-requires : tie.Need-access-requires
+access-requires c κs = search needs
+
+finish-requires : tie.Need-finish-requires
+finish-requires c κs =
+    accessed-most _ _ _ (c .access .ensures) (facts _ (sym (c .before .before .is-valid .ensures) ∙ c .before .if1 .taken) .n)
 
 acknowledge-pairs-requires : tie.Need-acknowledge-pairs-requires
 acknowledge-pairs-requires c κs = search needs
@@ -26,11 +31,11 @@ escalation-pairs-requires c κs = search needs
 signed-requires : tie.Need-signed-requires
 signed-requires c κs = search needs
 
-cast-t14 : tie.Need-cast-t14
-cast-t14 c = search needs
+cast-t16 : tie.Need-cast-t16
+cast-t16 c = search needs
 
-cast-t15 : tie.Need-cast-t15
-cast-t15 c = search needs
+cast-t17 : tie.Need-cast-t17
+cast-t17 c = search needs
 
 signed-requires-2 : tie.Need-signed-requires-2
 signed-requires-2 c κs = search needs
@@ -42,8 +47,10 @@ returns : tie.Need-returns
 unfolding acknowledgePairs pingPairs escalationPairs
 returns c =
     let p = c .before .before .before .before in
-    let s = p .before .before .before .before .before in
-    answered-good _ _ _ _ _ _ _ (sym (s .before .before .is-valid .ensures) ∙ s .before .if1 .taken) (s .step .ensures) (p .before .acknowledge-pairs .ensures)
+    let f = p .before .before .before .before .before in
+    let a = f .before in
+    let v = a .before .before in
+    answered-good _ _ _ _ _ _ _ _ (sym (v .is-valid .ensures) ∙ a .before .if1 .taken) (a .access .ensures) (f .finish .ensures) (p .before .acknowledge-pairs .ensures)
     (p .ping-pairs .ensures) (c .before .before .before .escalation-pairs .ensures) (c .before .before .signed .ensures)
 
 returns-2 : tie.Need-returns-2
@@ -55,13 +62,14 @@ tick-spec =
     tie.close
     (tie.spec
     is-valid-requires
-    step-requires
+    access-requires
+    finish-requires
     acknowledge-pairs-requires
     ping-pairs-requires
     escalation-pairs-requires
     signed-requires
-    cast-t14
-    cast-t15
+    cast-t16
+    cast-t17
     signed-requires-2
     no-output-requires
     returns

@@ -4,14 +4,11 @@ use borrow.Author.Needs.{needs}
 use Rattle.registers.proofs.verdict.is_unlike.Statement.{statement}
 use Rattle.registers.proofs.verdict.is_unlike.Tie as tie
 
-stage-of-requires : tie.Need-stage-of-requires
-stage-of-requires c κs = search needs
-
 add-result : tie.Need-add-result
 add-result c = search needs
 
 returns : tie.Need-returns
-returns c = simp (c .stage-of .ensures)
+returns c = simp (c .pre)
 
 pub is-unlike-spec : {M : Type 1} → statement M
-is-unlike-spec = tie.close (tie.spec stage-of-requires add-result returns)
+is-unlike-spec = tie.close (tie.spec add-result returns)

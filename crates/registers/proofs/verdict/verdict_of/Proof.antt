@@ -26,7 +26,7 @@ enum-known-x : tie.Need-enum-known-x
 enum-known-x c = search needs
 
 write-verdict-requires : tie.Need-write-verdict-requires
-write-verdict-requires c κs = search needs
+write-verdict-requires c κs = c .before .before .before .pre .1
 
 enum-told-3 : tie.Need-enum-told-3
 enum-told-3 c = search needs
@@ -43,7 +43,7 @@ unfolding verdict
 returns-2 c =
     let b = c .before .before .before in
     let x = c .before .enum-told2 .given in
-    let e : b .args .q ≡ decode (b .args .h .n) (x .0 .0) = rw (x .1) at (b .pre) in
+    let e : b .args .q ≡ decode (b .args .h .n) (x .0 .0) = rw (x .1) at (b .pre .0) in
     rw (x .1)
     (c .read-verdict .ensures
     ∙ ap (λ (q : Register). firstOf (inOrder false (not (isRegister q)) (writeOnly q) false false false false)) e)
@@ -53,7 +53,7 @@ unfolding verdict
 returns-3 c =
     let b = c .before .before .before .before in
     let x = c .before .before .x .given in
-    let e : b .args .q ≡ decode (b .args .h .n) (x .0 .0) = rw (x .1) at (b .pre) in
+    let e : b .args .q ≡ decode (b .args .h .n) (x .0 .0) = rw (x .1) at (b .pre .0) in
     rw (x .1, ← e) (c .write-verdict .ensures)
 
 returns-4 : tie.Need-returns-4

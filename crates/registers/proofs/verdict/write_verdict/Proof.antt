@@ -1,4 +1,4 @@
--- `verdict::write_verdict` meets its contract.
+-- `verdict::write_verdict` meets its contract, case by case.
 -- Assumes nothing.
 use borrow.Author.Needs.{needs}
 use Rattle.registers.proofs.verdict.write_verdict.Statement.{statement}

@@ -5,7 +5,7 @@ use harness::boot::{self, try_boots};
 use harness::calm::{self, try_calms, DEFAULT_CALMS};
 use harness::compare::Case;
 use harness::dump::{self, try_dumps, DEFAULT_DUMPS};
-use harness::report::{report, times, verdict};
+use harness::report::{report, verdict};
 use harness::states::{self, try_all};
 use harness::write::{self, try_lists};
 use std::fmt::Display;
@@ -86,13 +86,6 @@ pub fn written_lists(seed: u64, lists: u64) -> Result<bool, Trouble> {
     tell(begin, &summary, found, |found| {
         format!("write --lists 1 --seed {}", found.seed)
     })
-}
-
-/// Prints the times of every load; says whether all words were equal.
-pub fn bench() -> Result<bool, Trouble> {
-    let mut equal = true;
-    let printed = times(&mut io::stdout(), &mut equal);
-    verdict(equal, printed).map_err(Trouble::Write)
 }
 
 /// Prints the outcome; says whether all was equal.

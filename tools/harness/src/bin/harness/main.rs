@@ -1,12 +1,14 @@
 //! The command line of the harness.
 
+mod bench;
 mod commands;
 mod golden;
 mod sets;
 mod trouble;
 mod words;
 
-use commands::{bench, boots, calms, damaged_states, dumps, print_trace, written_lists};
+use bench::{instructions, once, print_season, programs, times};
+use commands::{boots, calms, damaged_states, dumps, print_trace, written_lists};
 use golden::{hold, keep, FILE};
 use harness::boot::DEFAULT_BOOTS;
 use harness::calm::DEFAULT_CALMS;
@@ -35,6 +37,9 @@ fn main() -> ExitCode {
 /// The options of a set, and of one trace.
 const SET: [&str; 3] = ["--traces", "--seed", "--edition"];
 const ONE: [&str; 2] = ["--records", "--edition"];
+
+/// The option of what is timed.
+const RECORDS: [&str; 1] = ["--records"];
 
 /// The options of a run over states.
 const STATES: [&str; 2] = ["--states", "--seed"];
@@ -72,7 +77,11 @@ fn command(mut words: Vec<String>) -> Result<bool, Trouble> {
             let lists = options.get("--lists").unwrap_or(DEFAULT_LISTS);
             written_lists(first(&options), lists)
         }
-        ["bench"] => only(&[]).and_then(|_| bench()),
+        ["bench"] => times(&only(&RECORDS)?),
+        ["bench", "--instructions"] => only(&[]).and_then(|_| instructions()),
+        ["bench", "--program", path, plain] => programs([path, plain], &only(&RECORDS)?),
+        ["once", side, load] => once(side, load, &only(&RECORDS)?),
+        ["season"] => print_season(&only(&RECORDS)?),
         ["diff", path] => set(path, generated, &only(&SET)?),
         ["damage", path] => set(path, damage, &only(&SET)?),
         ["fuzz", path, seconds] => fuzz(path, number(seconds)?, &only(&["--seed", "--edition"])?),

@@ -17,7 +17,14 @@ const USAGE: &str = "usage:
   harness calm [--states N] [--seed S]           calm ticks in one go through the proved library
   harness dump [--states N] [--seed S]           dumps through the proved writer and reader
   harness write [--lists N] [--seed S]           lists through the proved trace writer
-  harness bench                                  times of proved library and reference
+  harness bench [--records R]                    times of proved library and reference, or those of R
+                                                 records of each load alone
+  harness bench --instructions                   instructions of both in place of times, by valgrind
+  harness bench --program REPLAY PLAIN [--records R]
+                                                 times of a program and of one in plain Rust, on seasons
+                                                 of 1, 10, 31.5 and 100 million records, or of R
+  harness once SIDE LOAD [--records R]           one batch of a load, proved or reference, for a profiler
+  harness season [--records R]                   the bytes of a season's trace
 REPLAY is the program to compare with the reference. --edition 24, 70, pings or wires names
 the edition of the records: else diff, damage and fuzz take all, repeat and trace 24.
 Exit status: 0 equal, 1 different, 2 bad usage, no such file or program, or a failed write.";
