@@ -1,0 +1,14 @@
+pub mod OnlyOrder
+pub mod OnlyCourse
+pub mod OnlyBoots
+pub mod HoldsCourse
+pub mod HoldsTurns
+pub mod HoldsOrder
+pub mod HoldsStands
+pub mod HoldsBoots
+pub mod TheBoot
+pub mod BootScenes
+pub mod RefutedPlans
+pub mod RefutedStops
+pub mod RefutedSuccess
+pub mod Uncompared

@@ -1,0 +1,3 @@
+pub mod CalmTicks
+pub mod Changes
+pub mod Calms

@@ -1,0 +1,12 @@
+pub mod StagedLaws
+pub mod BitPlaces
+pub mod ContentLaws
+pub mod OnlyBytes
+pub mod OnlyContents
+pub mod HoldsBytes
+pub mod HoldsContents
+pub mod OnlyDumpers
+pub mod HoldsDumpers
+pub mod DumpScenes
+pub mod RefutedWriters
+pub mod RefutedReaders

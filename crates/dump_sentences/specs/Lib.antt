@@ -1,0 +1,3 @@
+pub mod DumpBytes
+pub mod Contents
+pub mod Dumpers
