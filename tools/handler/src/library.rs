@@ -1,5 +1,5 @@
-//! The functions of `libtarravane.a`. The only unsafe lines of the tools. Their names there carry the layout's number: these
-//! structs are of layout 4, and a library of another one does not link.
+//! The functions of `libtarravane.a`. The only unsafe lines of the tools but those by which a signal ends a command. Their names
+//! there carry the layout's number: these structs are of layout 4, and a library of another one does not link.
 use crate::calm::Change;
 use crate::content::Content;
 use crate::edition::Edition;

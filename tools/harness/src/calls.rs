@@ -3,6 +3,7 @@
 
 mod found;
 mod input;
+mod made;
 mod odd;
 mod receivers;
 mod senders;
@@ -11,6 +12,7 @@ mod twin;
 
 pub use found::Found;
 pub use input::{access, aimed, answers, receive, record, register, sample, wires, word};
+pub use made::FoundMade;
 pub use odd::Odd;
 pub use receivers::bit;
 pub use senders::{handler_senders, reference_pairs, settle};

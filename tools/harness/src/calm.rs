@@ -4,7 +4,6 @@
 
 mod beside;
 mod classes;
-mod found;
 mod joined;
 mod list;
 mod met;
@@ -17,7 +16,7 @@ mod subject;
 mod summary;
 mod way;
 
-pub use found::Found;
+pub use crate::calls::FoundMade as Found;
 pub use plain::Plain;
 pub use run::{try_calms, DEFAULT_CALMS};
 pub use start::Start;

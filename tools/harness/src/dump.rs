@@ -4,7 +4,6 @@
 mod beside;
 mod changed;
 mod content;
-mod found;
 mod made;
 mod missed;
 mod part;
@@ -13,8 +12,8 @@ mod subject;
 mod summary;
 mod twist;
 
+pub use crate::calls::FoundMade as Found;
 pub use content::{content_of, state_of};
-pub use found::Found;
 pub use made::{shadowed, WAYS};
 pub use part::{head, Part, PARTS};
 pub use run::{try_dumps, DEFAULT_DUMPS};

@@ -1,23 +1,21 @@
 //! The words after each command.
 pub mod boot;
 pub mod calm;
+pub mod diff;
 pub mod dump;
 pub mod explain;
 mod range;
 pub mod read;
 pub mod record;
+mod style;
 pub mod wave;
+mod words;
 
 /// What the words ask for.
 #[derive(Debug, PartialEq, Eq)]
 pub enum Asked<T> {
     Help,
     Run(T),
-}
-
-/// Is the word an option? - alone is standard input.
-fn is_option(word: &str) -> bool {
-    word.len() > 1 && word.starts_with('-')
 }
 
 /// A number in decimal digits alone: the standard reader would take a sign.
@@ -48,6 +46,7 @@ mod tests {
             assert_eq!(parsed(read::parse, line), Ok(Asked::Help), "{line}");
             assert_eq!(parsed(wave::parse, line), Ok(Asked::Help), "{line}");
             assert_eq!(parsed(calm::parse, line), Ok(Asked::Help), "{line}");
+            assert_eq!(parsed(diff::parse, line), Ok(Asked::Help), "{line}");
         }
         for line in ["--help", "-h", "PROD --help", "--help --both"] {
             assert_eq!(parsed(boot::parse, line), Ok(Asked::Help), "{line}");

@@ -3,9 +3,9 @@
 mod ran;
 mod said;
 
-use crate::alert_bits::below;
 use crate::args::calm::Calm;
 use crate::end::End;
+use crate::facts::wires::of_alerts;
 use crate::output::{self, Failure};
 use crate::progress::Progress;
 use crate::text::wires;
@@ -30,15 +30,6 @@ fn calmed(handler: Handler, wires: Wires, ticks: u32) -> Result<(Ticked, Vec<Cha
     Ok((ticked, list[..count as usize].to_vec()))
 }
 
-/// The wires with those of alerts that the handler has not at rest: they count for nothing.
-fn of_alerts(handler: &Handler, mut wires: Wires) -> Wires {
-    for (word, live) in below(handler.n).into_iter().enumerate() {
-        wires.pos[word] &= live;
-        wires.neg[word] |= !live;
-    }
-    wires
-}
-
 /// What the calm ticks are.
 fn heading(asked: &Calm, ran: &Ran, wires: Wires) -> String {
     let of = match (asked.wires, ran.ticks) {
@@ -46,8 +37,11 @@ fn heading(asked: &Calm, ran: &Ran, wires: Wires) -> String {
         (None, 0) => "before tick 1".to_string(),
         (None, tick) => format!("of tick {tick}"),
     };
-    let (ticks, first) = (asked.ticks, ran.ticks + 1);
-    let start = format!("calm ticks: {ticks}, the first is trace tick {first}; wires {of}:");
+    let first = match asked.ticks {
+        0 => String::new(),
+        _ => format!(", the first is trace tick {}", ran.ticks + 1),
+    };
+    let start = format!("calm ticks: {}{first}; wires {of}:", asked.ticks);
     let shown = of_alerts(&ran.handler, wires);
     match wires::words(shown).strip_prefix(" wires") {
         None => format!("{start} all at rest"),

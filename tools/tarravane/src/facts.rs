@@ -8,6 +8,7 @@ pub mod lines;
 pub mod locks;
 pub mod pairs;
 pub mod receivers;
+pub mod settings;
 pub mod stages;
 pub mod starts;
 pub mod tick;

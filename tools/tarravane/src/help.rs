@@ -4,6 +4,8 @@ pub const BOOT: &str = include_str!("../../../launcher/help/boot.txt");
 
 pub const CALM: &str = include_str!("../../../launcher/help/calm.txt");
 
+pub const DIFF: &str = include_str!("../../../launcher/help/diff.txt");
+
 pub const DUMP: &str = include_str!("../../../launcher/help/dump.txt");
 
 pub const EXPLAIN: &str = include_str!("../../../launcher/help/explain.txt");

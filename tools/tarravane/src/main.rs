@@ -4,12 +4,16 @@ mod args;
 mod back;
 mod boot;
 mod calm;
+mod clock;
+mod diff;
 mod dump;
 mod end;
 mod explain;
 mod facts;
 mod help;
+mod json;
 mod names;
+mod nearest;
 mod output;
 mod progress;
 mod range;
@@ -18,7 +22,10 @@ mod record;
 mod row;
 mod runs;
 mod say;
+mod signals;
 mod source;
+mod spool;
+mod style;
 mod summary;
 mod terminal;
 mod text;
@@ -47,6 +54,13 @@ fn calm(words: &[String]) -> Result<End, String> {
     match args::calm::parse(words)? {
         Asked::Help => helped(help::CALM),
         Asked::Run(asked) => calm::run(&asked),
+    }
+}
+
+fn diff(words: &[String]) -> Result<End, String> {
+    match args::diff::parse(words)? {
+        Asked::Help => helped(help::DIFF),
+        Asked::Run(asked) => diff::run(&asked),
     }
 }
 
@@ -102,6 +116,7 @@ fn run(words: &[String]) -> Result<End, String> {
     {
         Some(("boot", rest)) => boot(rest),
         Some(("calm", rest)) => calm(rest),
+        Some(("diff", rest)) => diff(rest),
         Some(("dump", rest)) => dump(rest),
         Some(("explain", rest)) => explain(rest),
         Some(("read", rest)) => read(rest),

@@ -1,5 +1,6 @@
 //! Where a result goes: standard output, or a file that is there whole or not at all.
 use crate::end::End;
+use crate::signals;
 use std::fs::{self, File, OpenOptions};
 use std::io::{self, stdout, BufWriter, ErrorKind, Write};
 use std::os::unix::io::AsFd;
@@ -51,6 +52,7 @@ fn part(path: &Path) -> io::Result<(PathBuf, File)> {
         .write(true)
         .create_new(true)
         .open(&part)?;
+    signals::remove_part(&part);
     Ok((part, file))
 }
 
@@ -77,6 +79,7 @@ fn replaced(path: &Path, fill: impl Fill) -> Result<End, Failure> {
         // The first failure is the one to tell.
         let _ = fs::remove_file(&part);
     }
+    signals::forget_part();
     done
 }
 

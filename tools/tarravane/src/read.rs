@@ -48,8 +48,8 @@ fn taken(name: &str) -> Result<Vec<u8>, String> {
 pub fn run(asked: &Read) -> Result<End, String> {
     let judged = judged(taken(&asked.file)?);
     let text = match asked.json {
-        true => json::object(&judged),
-        false => page::page(&judged),
+        true => json::object(&judged, asked.names),
+        false => page::page(&judged, asked.names),
     };
     let end = match judged.verdict {
         Verdict::Whole(_) => End::Whole,

@@ -4,11 +4,12 @@
 pub mod access;
 pub mod alerts;
 pub mod edition;
-mod hex;
+pub mod hex;
 pub mod line;
 pub mod lines;
 mod pings;
 pub mod receive;
+pub mod repeat;
 pub mod sample;
 pub mod wires;
 pub mod word;

@@ -1,4 +1,5 @@
 //! A trace as bytes: what it begins with, then records.
+mod plain;
 pub mod record;
 mod start;
 mod text;
@@ -20,6 +21,9 @@ pub fn opened(name: &str) -> Result<(Trace, Option<u64>), String> {
         return Err(format!(
             "{name}: this is a text: ./tarravane record makes a trace of it"
         ));
+    }
+    if let Some(what) = plain::other(&mut from, &mut looked_at, name)? {
+        return Err(format!("{name}: {what}"));
     }
     Ok((Cursor::new(looked_at).chain(from), bytes))
 }

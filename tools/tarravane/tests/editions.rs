@@ -141,7 +141,10 @@ fn a_bad_line_of_edition_24_is_told() {
     for (line, problem) in [
         ("read 1024", "no record holds register 1024"),
         ("write 65535 1", "no record holds register 65535"),
-        ("read ALERT64_EN", "no such register: ALERT64_EN"),
+        (
+            "read ALERT64_EN",
+            "no such register: ALERT64_EN (nearest: ALERT4_EN, ALERT6_EN, ALERT14_EN)",
+        ),
         ("none wires 64=10", "no such alert, 0 to 63: 64"),
         (
             "raw 00",

@@ -85,7 +85,8 @@ fn a_rise_that_waits_is_told() {
         assert!(row.ends_with(end), "{row}");
     }
     let summary = explained(&["--summary", "-"], &trace).join("\n");
-    let events = "  ALERT0: 3 events, first at 3, last at 11\n";
+    let events =
+        "  ALERT0: 3 events, first at 3, last at 11; 3 while its class was off, at 3, 7, 11\n";
     assert!(summary.contains(events), "{summary}");
 }
 
@@ -149,10 +150,67 @@ fn a_range_past_the_end_is_told() {
 #[test]
 fn only_changes() {
     let seal = rows(&["--only-changes", &example("broken-seal.trace")], &[]);
-    assert_eq!(numbers(&seal), [15, 16, 20, 24, 26, 27, 30, 33, 36]);
-    assert!(seal[4].contains("write CLASSA_CLR 1              refused: locked"));
+    let configured = [2, 4, 6, 8, 10, 12, 14];
+    let after = [15, 16, 20, 24, 26, 27, 30, 33, 36];
+    assert_eq!(numbers(&seal)[..7], configured);
+    assert_eq!(numbers(&seal)[7..], after);
+    assert!(seal[11].contains("write CLASSA_CLR 1              refused: locked"));
     let refused = rows(&["--only-changes", &example("refused-accesses.trace")], &[]);
-    assert_eq!(numbers(&refused), [7, 8, 9, 10, 11, 13, 16, 17, 18, 19]);
+    let wanted = [2, 4, 6, 7, 8, 9, 10, 11, 13, 15, 16, 17, 18, 19];
+    assert_eq!(numbers(&refused), wanted);
+}
+
+/// A theft without an escalation: what is switched off and on again, the event meanwhile and equal wires are changes.
+#[test]
+fn what_was_switched_off_is_a_change() {
+    let theft = rows(&["--only-changes", &example("switched-off.trace")], &[]);
+    let wanted = [2, 4, 6, 8, 10, 12, 14, 17, 19, 20, 25, 27, 29, 35, 36, 39];
+    assert_eq!(numbers(&theft), wanted);
+    assert!(theft[7].contains("write ALERT0_EN 0               committed"));
+    assert!(theft[9].ends_with(" Idle     [disabled 0]"), "{}", theft[9]);
+    assert!(theft[12].contains("none wires 1=11"));
+}
+
+/// Each register that configures, where it gets another value; the first of two writes and a value that stands are none.
+#[test]
+fn each_setting_is_a_change() {
+    for edition in Edition::ALL {
+        let map = edition.registers();
+        let alerts = [0, 1, map.alerts - 1].into_iter();
+        let alerts = alerts.flat_map(|i| [Field::En, Field::Class].map(|of| map.alert(of, i)));
+        let locals = (0..7).flat_map(|j| [Field::En, Field::Class].map(|of| map.local(of, j)));
+        let classes = (0..4).flat_map(|k| Setting::SHADOWED.map(|setting| map.class(k, setting)));
+        let timer = [5].into_iter().filter(|_| edition.has_timer());
+        for register in alerts.chain(locals).chain(classes).chain(timer) {
+            let bytes = [
+                start(edition, map.alerts as u8),
+                configure(edition, register, 1),
+                configure(edition, register, 1),
+                record(edition, 1, register.into(), 0, Wires::REST),
+            ]
+            .concat();
+            let rows = rows(&["--only-changes", "-"], &bytes);
+            assert_eq!(numbers(&rows), [2], "register {register}");
+        }
+        let once = [1, 6].into_iter();
+        for register in once.filter(|number| *number == 1 || edition.has_timer()) {
+            let write = record(edition, 2, register, 1, Wires::REST);
+            let bytes = [start(edition, 1), write.repeat(2)].concat();
+            assert_eq!(numbers(&rows(&["--only-changes", "-"], &bytes)), [1]);
+        }
+    }
+}
+
+/// Equal wires of alerts that the handler has, enabled or not: where they begin and end.
+#[test]
+fn equal_wires_are_a_change() {
+    let text = "alerts 2\nnone\nnone wires 1=11\nnone wires 1=00\nnone wires 0-1=11
+        none wires 0=11\nnone wires 2-9=11\nnone wires 2-9=11\n";
+    let (trace, _) = ended("record", &["-"], text.as_bytes(), 0);
+    assert_eq!(
+        numbers(&rows(&["--only-changes", "-"], &trace)),
+        [2, 4, 5, 6]
+    );
 }
 
 /// Every lock that falls is a change; a lock that has fallen and a 1 that is written to one that has not are none.
@@ -298,6 +356,49 @@ fn wires_that_do_not_fit_are_counted() {
     }
 }
 
+/// The columns at which a row's interrupts and lines stand.
+fn outputs(row: &str) -> &str {
+    &row[60..69]
+}
+
+/// Beyond a million ticks and at the last of 248 alerts what goes out stands in its columns; wires at N and above are not shown.
+#[test]
+fn rows_keep_their_columns() {
+    let edition = Edition::NEWEST;
+    let map = edition.registers();
+    let mut bytes = start(edition, 248);
+    let calm = record(edition, 0, 0, 0, Wires::REST);
+    bytes.extend(calm.repeat(1_000_000));
+    let last = map.alert(Field::Class, 247);
+    bytes.extend(configure(edition, last, 3));
+    bytes.extend(record(
+        edition,
+        2,
+        last.into(),
+        2,
+        off_rest(&[(247, 0b10), (100, 0b11)]),
+    ));
+    bytes.extend(configure(
+        edition,
+        map.class(3, Setting::Phase3Cyc),
+        u32::MAX,
+    ));
+    let rows = rows(&["-", "--from", "1000000"], &bytes);
+    assert_eq!(rows.len(), 6);
+    for row in &rows {
+        assert_eq!(outputs(row), "---- ----", "{row}");
+        assert_eq!(&row[70..74], "Idle");
+    }
+    assert!(rows[3].starts_with("1000003 write ALERT247_CLASS 2 wires 100=11 247=10 staged "));
+    assert!(rows[5].starts_with("1000005 write CLASSD_PHASE3_CYC 4294967295 committed "));
+    let few = [
+        start(edition, 100),
+        record(edition, 0, 0, 0, off_rest(&[(99, 0b11), (100, 0b11)])),
+    ];
+    let row = self::rows(&["-", "--wide"], &few.concat()).remove(0);
+    assert!(row.starts_with("     1 none wires 99=11   "), "{row}");
+}
+
 /// What becomes of a stage is in the answer, how many are open at the end of the row; a drop is a change.
 #[test]
 fn stages_are_told() {
@@ -322,7 +423,7 @@ fn stages_are_told() {
             ("write LOC_ALERT5_EN 1           staged ", "[1 staged]"),
             ("write LOC_ALERT5_EN 1           committed ", "Idle"),
             ("write CLASSA_CTRL 0x1           staged ", "[1 staged]"),
-            ("write CLASSA_PHASE0_CYC 4294967295: staged ", "[2 staged]"),
+            ("write CLASSA_PHASE0_CYC 4294967295 staged  ", "[2 staged]"),
             (
                 "read CLASSA_CTRL                0x393c, unstaged ",
                 "[1 staged]",
@@ -336,7 +437,7 @@ fn stages_are_told() {
                 "write CLASSA_CTRL 0x3: refused: differs ",
                 "LOC_ALERT5 [1 staged]",
             ),
-            ("write CLASSA_PHASE0_CYC 4294967295: committed ", "Idle"),
+            ("write CLASSA_PHASE0_CYC 4294967295 committed ", "Idle"),
             ("read CLASSA_PHASE0_CYC          4294967295 ", "Idle"),
             ("write CLASSA_CTRL 0x5           staged ", "[1 staged]"),
             ("write CLASSA_REGWEN 0           done ", "[1 staged]"),
@@ -346,7 +447,7 @@ fn stages_are_told() {
             assert!(row.contains(said) && row.ends_with(end), "{row}");
         }
         let changes = rows(&["--only-changes", "-"], &bytes);
-        assert_eq!(numbers(&changes), [5, 7, 8, 12, 13]);
+        assert_eq!(numbers(&changes), [2, 5, 7, 8, 9, 12, 13]);
         let wide = &explained(&["--wide", "-"], &bytes)[2 + 3];
         let list = "[staged: CLASSA_CTRL 0x1, CLASSA_PHASE0_CYC 4294967295]";
         assert!(wide.ends_with(list), "{wide}");

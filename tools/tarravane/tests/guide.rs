@@ -111,11 +111,19 @@ fn initialise() {
         [
             "events:",
             "  ALERT1: 1 event, at 83",
-            "  ALERT2: 1 event, at 81; 1 while disabled",
+            "  ALERT2: 1 event, at 81; 1 while disabled, at 81",
+            "equal wires: none",
+            "switched on: ALERT0 at 2, ALERT1 at 7, LOC_ALERT0 at 17, LOC_ALERT1 at 22, LOC_ALERT2 at 27, LOC_ALERT5 at 32, \
+             class A at 51, LOCK of class A at 51 and 1 more, then interrupt A at 70, interrupt B at 70, ping timer at 71",
+            "switched off: line 1 of class B at 66, line 2 of class B at 66",
             "ping timer: on at 71; 1 ping: 1 answered",
             "shadow writes: 29 staged, 29 committed; dropped none; open at the end none",
             "other refusals, by number:",
-            "  3 (locked): 4 times",
+            "  3 (locked): 4 times, at 76, 77, 78, 79",
+            "at the end:",
+            "  class A: EN 1, LOCK 1, ACCUM_THRESH 2, locked; Idle",
+            "  class B: EN 1, LOCK 0, ACCUM_THRESH 9, locked; Idle, ACCUM_CNT 1",
+            "  classes C, D: EN 0, LOCK 0, ACCUM_THRESH 0, locked; Idle",
         ]
     );
 }

@@ -146,7 +146,8 @@ fn record_takes_both_names_and_explain_shows_them() {
         "CLASSA_CTRL_SHADOWED.EN",
     ] {
         let problem = format!("line 2: no such register: {name}");
-        assert_eq!(said_of(format!("alerts 6\nread {name}")), problem);
+        let said = said_of(format!("alerts 6\nread {name}"));
+        assert!(said.starts_with(&problem), "{said}");
     }
 }
 
@@ -190,7 +191,7 @@ fn stages_have_the_papers_names() {
     let [ours, papers] = [&["--summary"][..], &["--summary", "--papers"]]
         .map(|words| explained(&[&[&seal[..]], words].concat(), &[]));
     assert_eq!(ours, papers);
-    let why = "--summary has no rows: of the other options only --papers goes with it";
+    let why = "--summary has no rows: --only-changes and --wide do not go with it";
     let words = [&seal[..], "--summary", "--papers", "--wide"];
     assert_eq!(refused("explain", &words, &[]), why);
 }

@@ -18,7 +18,7 @@ fn the_stuck_sender_is_told_tick_by_tick() {
         (
             23,
             " [turn 1 in 4]",
-            "write PING_TIMER_EN 1 entropy 0x10003: ",
+            "write PING_TIMER_EN 1 entropy 0x10003 done ",
         ),
         (26, " Idle", "none "),
         (27, " [ping 1]", "none "),
@@ -66,8 +66,8 @@ fn a_failed_ping_is_a_change() {
     let trace = given("record", &["-"], text.as_bytes());
     let rows = rows(&["-", "--only-changes"], &trace);
     let numbers = rows.iter().map(|row| row[..6].trim_start());
-    assert_eq!(numbers.collect::<Vec<_>>(), ["3", "4", "7"]);
-    assert!(rows[2].ends_with(" [ping line 0] [fail line 0] [turn 0 in 1]"));
+    assert_eq!(numbers.collect::<Vec<_>>(), ["2", "3", "4", "7"]);
+    assert!(rows[3].ends_with(" [ping line 0] [fail line 0] [turn 0 in 1]"));
 }
 
 /// What the summary of the edition `pings` says of the ping timer.
@@ -110,7 +110,7 @@ fn the_ping_timer() {
     let failing = format!("{on}{}", "none entropy 0x10000\n".repeat(50));
     let wanted = [
         "ping timer: on at 6; 17 pings: 16 failed, that of ALERT1 open at the end",
-        "  failed: ALERT1 at 9, line 0 at 12, ALERT1 at 15, line 1 at 18, ALERT1 at 21, line 2 at 24, ALERT1 at 27, line 3 at 30 and 8 more",
+        "  failed: ALERT1 at 9, line 0 at 12, ALERT1 at 15, line 1 at 18, ALERT1 at 21, line 2 at 24, ALERT1 at 27, line 3 at 30 and 5 more, then line 2 at 48, ALERT1 at 51, line 3 at 54",
     ];
     assert_eq!(timer(&failing), wanted);
     assert_eq!(timer("alerts 1\nnone"), ["ping timer: off"]);
@@ -130,9 +130,15 @@ class C: no start; no clear
 class D: no start; no clear
 events:
   LOC_ALERT0: 1 occurrence, at 40
+equal wires: none
+switched on: ALERT0 at 2, ALERT1 at 5, LOC_ALERT0 at 8, class A at 19, LOCK of class A at 19, ping timer at 23
+switched off: none
 ping timer: on at 23; 4 pings: 3 answered, 1 failed
   failed: ALERT0 at 40
 shadow writes: 9 staged, 9 committed; dropped none; open at the end none
-other refusals: none"
+other refusals: none
+at the end:
+  class A: EN 1, LOCK 1, ACCUM_THRESH 0, locked, clear locked; Terminal, ACCUM_CNT 1
+  classes B, C, D: EN 0, LOCK 0, ACCUM_THRESH 0, not locked; Idle"
     );
 }

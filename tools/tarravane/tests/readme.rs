@@ -94,7 +94,7 @@ fn wave_writes_what_readme_names() {
         given("wave", &[&repository(trace), "-o", &folder.path(to)], &[]);
         count += 1;
     }
-    assert_eq!((count, folder.names().len()), (2, 2));
+    assert_eq!((count, folder.names().len()), (2, 3));
     assert!(readme.contains("](examples/broken-seal.svg)"));
     let [drawn, stored] = [
         folder.path("seal.svg"),

@@ -134,7 +134,7 @@ fn the_cut_cables() {
         for line in told {
             assert!(summary.iter().any(|other| other == line), "{line}");
         }
-        let closes = summary.iter().any(|line| line.contains("LOC_ALERT1"));
+        let closes = summary.iter().any(|line| line.starts_with("  LOC_ALERT1:"));
         assert_eq!(closes, name == "cut-cable");
         let text = fs::read_to_string(example(&format!("{name}.txt"))).expect("the text");
         let trace = fs::read(example(&format!("{name}.trace"))).expect("the trace");

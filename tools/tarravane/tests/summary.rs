@@ -46,8 +46,14 @@ class C: no start; no clear
 class D: no start; no clear
 events:
   ALERT0: 3 events, first at 16, last at 24
+equal wires: none
+switched on: ALERT0 at 2, class A at 14, LOCK of class A at 14
+switched off: none
 shadow writes: 7 staged, 7 committed; dropped none; open at the end none
 other refusals: none
+at the end:
+  class A: EN 1, LOCK 1, ACCUM_THRESH 2, locked, clear locked; Terminal, ACCUM_CNT 3
+  classes B, C, D: EN 0, LOCK 0, ACCUM_THRESH 0, not locked; Idle
 "
     );
 }
@@ -66,8 +72,15 @@ class C: no start; no clear
 class D: no start; no clear
 events:
   ALERT247: 1 event, at 21
+equal wires: none
+switched on: ALERT247 at 2, class B at 18, LOCK of class B at 18, interrupt B at 20
+switched off: none
 shadow writes: 9 staged, 9 committed; dropped none; open at the end none
 other refusals: none
+at the end:
+  class A: EN 0, LOCK 0, ACCUM_THRESH 0, not locked; Idle
+  class B: EN 1, LOCK 1, ACCUM_THRESH 100, locked, clear locked; Terminal, ACCUM_CNT 1
+  classes C, D: EN 0, LOCK 0, ACCUM_THRESH 0, not locked; Idle
 "
     );
 }
@@ -79,8 +92,9 @@ fn the_silly_threshold() {
     for line in [
         "class A: 1 start; clears accepted none, refused at 20",
         "  start at 19 by ALERT0; locked, LOCK set; Ph0 19, Ph1 20, Ph2 21, Ph3 22, Term 23",
-        "  1 (no register): 1 time",
-        "  14 (lock with a threshold of 65535): 1 time",
+        "settings changed again: CLASSA_ACCUM_THRESH at 17",
+        "  1 (no register): 1 time, at 9",
+        "  14 (lock with a threshold of 65535): 1 time, at 12",
     ] {
         assert!(text.contains(&format!("{line}\n")), "{text}");
     }
@@ -92,15 +106,22 @@ fn refusals_are_counted_by_number() {
     let refusals = "\
 events:
   ALERT0: 1 event, at 19
+equal wires: none
+switched on: ALERT0 at 2, class A at 6, LOCK of class A at 6
+switched off: none
+settings changed again: CLASSA_ACCUM_THRESH at 15
 shadow writes: 5 staged, 4 committed; dropped at 13; open at the end none
 other refusals, by number:
-  1 (no register): 2 times
-  2 (write only or read only): 2 times
-  3 (locked): 1 time
-  4 (too wide): 1 time
-  5 (malformed): 1 time
-  12 (second write differs): 1 time
-  14 (lock with a threshold of 65535): 1 time
+  1 (no register): 2 times, at 7, 18
+  2 (write only or read only): 2 times, at 8, 9
+  3 (locked): 1 time, at 17
+  4 (too wide): 1 time, at 10
+  5 (malformed): 1 time, at 19
+  12 (second write differs): 1 time, at 13
+  14 (lock with a threshold of 65535): 1 time, at 11
+at the end:
+  class A: EN 1, LOCK 1, ACCUM_THRESH 100, locked; Idle, ACCUM_CNT 1
+  classes B, C, D: EN 0, LOCK 0, ACCUM_THRESH 0, not locked; Idle
 ";
     assert!(text.ends_with(refusals), "{text}");
 }
@@ -137,15 +158,24 @@ fn a_start_that_is_cleared() {
         ]
     );
     assert_eq!(
-        all[all.len() - 7..],
+        all[all.len() - 16..],
         [
             "events:",
             "  ALERT0: 1 event, at 17",
-            "  ALERT1: 1 event, at 22; 1 while disabled",
+            "  ALERT1: 1 event, at 22; 1 while disabled, at 22",
             "  ALERT2: 1 event, at 18",
             "  LOC_ALERT2: 1 occurrence, at 17",
+            "equal wires:",
+            "  ALERT1: 17-17",
+            "  ALERT2: 17-17",
+            "  ALERT3: 17-17",
+            "switched on: ALERT0 at 2, ALERT2 at 4, ALERT3 at 6, LOC_ALERT2 at 10, class A at 16",
+            "switched off: line 1 of class A at 16, line 2 of class A at 16, line 3 of class A at 16",
             "shadow writes: 8 staged, 8 committed; dropped none; open at the end none",
             "other refusals: none",
+            "at the end:",
+            "  class A: EN 1, LOCK 0, ACCUM_THRESH 0, not locked; Idle",
+            "  classes B, C, D: EN 0, LOCK 0, ACCUM_THRESH 0, not locked; Idle",
         ]
     );
 }
@@ -215,7 +245,7 @@ fn two_classes_on_one_line() {
     );
 }
 
-/// Starts, clears and lines beyond those that are kept are counted.
+/// Of starts, clears and lines the first and the last are shown, and those between counted.
 #[test]
 fn long_lists_are_counted() {
     let head = "alerts 1\nconfigure ALERT0_EN 1\nconfigure CLASSA_PHASE0_CYC 1000\nconfigure CLASSA_CTRL 0x5\n";
@@ -224,16 +254,26 @@ fn long_lists_are_counted() {
     let ticks = "8, 12, 16, 20, 24, 28, 32, 36";
     assert_eq!(
         all[1],
-        format!("class A: 20 starts; clears accepted at {ticks} and 12 more, refused none")
+        format!("class A: 20 starts; clears accepted at {ticks} and 9 more, then 76, 80, 84, refused none")
     );
     let starts = starts(&all);
-    assert_eq!(starts.len(), 2 * 8 + 1);
+    assert_eq!(starts.len(), 2 * 8 + 1 + 2 * 3);
     assert_eq!(
         starts[14],
         "  start at 35 by ALERT0; not locked, no LOCK; Ph0 35, cleared 36"
     );
     assert_eq!(starts[15], "    line 0 35-35");
-    assert_eq!(starts[16], "  and 12 later starts");
+    assert_eq!(starts[16], "  and 9 more starts, then");
+    for (at, tick) in [(17, 75), (19, 79), (21, 83)] {
+        let cleared = tick + 1;
+        assert_eq!(
+            starts[at],
+            format!(
+                "  start at {tick} by ALERT0; not locked, no LOCK; Ph0 {tick}, cleared {cleared}"
+            )
+        );
+        assert_eq!(starts[at + 1], format!("    line 0 {tick}-{tick}"));
+    }
     let blink = "configure CLASSA_CTRL 0x1\nconfigure CLASSA_CTRL 0x5\n".repeat(10);
     let all = summary(&format!("{head}none wires 0=10\n{blink}"));
     assert!(
@@ -241,7 +281,11 @@ fn long_lists_are_counted() {
         "{}",
         all[3]
     );
-    assert!(all[3].ends_with(", line 0 35-36 and 3 more"), "{}", all[3]);
+    assert!(
+        all[3].ends_with(", line 0 35-36, line 0 39-40, line 0 43-44, line 0 47-end"),
+        "{}",
+        all[3]
+    );
 }
 
 /// A 0 that is written to CLR clears nothing, and a value that is too wide is no clear.
@@ -256,12 +300,12 @@ fn what_is_no_clear() {
         "class D: no start; clears accepted at 4, refused none"
     );
     assert_eq!(
-        all[6..],
+        all[9..13],
         [
             "shadow writes: none",
             "other refusals, by number:",
-            "  2 (write only or read only): 1 time",
-            "  4 (too wide): 1 time",
+            "  2 (write only or read only): 1 time, at 3",
+            "  4 (too wide): 1 time, at 2",
         ]
     );
 }
@@ -283,14 +327,17 @@ fn shadow_writes_are_counted() {
         write LOC_ALERT6_EN 0",
     );
     assert_eq!(
-        all[5..],
+        all[5..14],
         [
             "events:",
-            "  LOC_ALERT5: 1 occurrence, at 6",
+            "  LOC_ALERT5: 1 occurrence, at 6; 1 while its class was off, at 6",
+            "equal wires: none",
+            "switched on: LOC_ALERT5 at 2",
+            "switched off: none",
             "shadow writes: 6 staged, 1 committed; dropped at 4, 6, 9; open at the end LOC_ALERT6_EN, CLASSB_TIMEOUT_CYC",
             "other refusals, by number:",
-            "  3 (locked): 1 time",
-            "  12 (second write differs): 1 time",
+            "  3 (locked): 1 time, at 9",
+            "  12 (second write differs): 1 time, at 6",
         ]
     );
 }
@@ -300,6 +347,111 @@ fn shadow_writes_are_counted() {
 fn open_stages_beyond_those_that_are_kept_are_counted() {
     let writes: String = (0..12).map(|i| format!("write ALERT{i}_EN 1\n")).collect();
     let all = summary(&format!("alerts 12\n{writes}"));
-    assert!(all[6].starts_with("shadow writes: 12 staged, 0 committed; dropped none; open"));
-    assert!(all[6].ends_with(", ALERT7_EN and 4 more"), "{}", all[6]);
+    let line = &all[9];
+    assert!(line.starts_with("shadow writes: 12 staged, 0 committed; dropped none; open"));
+    assert!(
+        line.ends_with(", ALERT7_EN and 1 more, then ALERT9_EN, ALERT10_EN, ALERT11_EN"),
+        "{line}"
+    );
+}
+
+/// What was switched off and on, the event meanwhile, the cut cable, and what each class is at the end.
+#[test]
+fn a_theft_without_a_start() {
+    assert_eq!(
+        of_example("switched-off"),
+        "\
+alerts: 2; records of 75 bytes, edition wires; ticks: 40
+class A: no start; no clear
+class B: no start; no clear
+class C: no start; no clear
+class D: no start; no clear
+events:
+  ALERT0: 1 event, at 20; 1 while disabled, at 20
+equal wires:
+  ALERT1: 29-34, 36-38
+switched on: ALERT0 at 2, ALERT1 at 4, class A at 14, LOCK of class A at 14
+switched off: ALERT0 at 17, class A at 19
+switched on again: class A at 25, ALERT0 at 27
+ping timer: off
+escalation wires: at rest
+shadow writes: 11 staged, 11 committed; dropped none; open at the end none
+other refusals: none
+at the end:
+  class A: EN 1, LOCK 1, ACCUM_THRESH 0, not locked; Idle
+  classes B, C, D: EN 0, LOCK 0, ACCUM_THRESH 0, not locked; Idle
+"
+    );
+}
+
+/// A class without a line takes no event, whatever its EN.
+#[test]
+fn a_class_without_a_line_is_off() {
+    let all = summary(
+        "alerts 1
+        configure ALERT0_EN 1
+        configure CLASSA_CTRL 0x1
+        none wires 0=10",
+    );
+    let event = "  ALERT0: 1 event, at 5; 1 while its class was off, at 5";
+    assert_eq!(all[6], event);
+    let end = "  class A: EN 1, no line enabled, LOCK 0, ACCUM_THRESH 0, not locked; Idle";
+    assert_eq!(all[all.len() - 2], end);
+}
+
+/// Every switch by its name: local alerts, lines, LOCK, interrupts; settings that are changed again.
+#[test]
+fn every_switch_has_its_name() {
+    let all = summary(
+        "alerts 1
+        configure LOC_ALERT5_EN 1
+        configure CLASSD_CTRL 0x3
+        configure CLASSD_CTRL 0x31
+        configure LOC_ALERT5_EN 0
+        write INTR_ENABLE 9
+        write INTR_ENABLE 1
+        configure CLASSB_TIMEOUT_CYC 7
+        configure CLASSB_TIMEOUT_CYC 8
+        configure ALERT0_CLASS 3
+        configure ALERT0_CLASS 0
+        configure CLASSD_CTRL 0xf1",
+    );
+    assert_eq!(
+        all[7..11],
+        [
+            "switched on: LOC_ALERT5 at 2, class D at 4, LOCK of class D at 4, interrupt A at 9, interrupt D at 9",
+            "switched off: line 0 of class D at 4, line 1 of class D at 4, line 2 of class D at 4, line 3 of class D at 4, \
+             LOCK of class D at 6, LOC_ALERT5 at 8, interrupt D at 10",
+            "switched on again: line 2 of class D at 6, line 3 of class D at 6",
+            "settings changed again: CLASSB_TIMEOUT_CYC at 14, ALERT0_CLASS at 18, CLASSD_CTRL at 20",
+        ]
+    );
+}
+
+/// A part of a trace: what began before it is told as it stands there, and what goes on after it as still on.
+#[test]
+fn a_part_of_a_trace() {
+    let seal = example("broken-seal.trace");
+    let of = |words: &[&str]| explained(&[&["--summary", &seal], words].concat(), &[]);
+    let all = of(&["--from", "28", "--to", "31"]);
+    assert_eq!(all[0], "alerts: 2; records of 24 bytes; ticks: 28 to 31");
+    assert_eq!(all[1], "class A: Ph1 before 28; no start; no clear");
+    assert_eq!(all[5], "events: none");
+    let end = "  class A: EN 1, LOCK 1, ACCUM_THRESH 2, locked, clear locked; Phase 2, ACCUM_CNT 3";
+    assert_eq!(all[all.len() - 2], end);
+    let all = of(&["--to=28"]);
+    assert_eq!(all[0], "alerts: 2; records of 24 bytes; ticks: 1 to 28");
+    assert_eq!(all[3], "    line 0 24-26, line 1 from 27, still on at 28");
+    let (all, said) = common::ended("explain", &["--summary", &seal, "--from", "38"], &[], 0);
+    let all = String::from_utf8(all).expect("text");
+    assert!(
+        all.starts_with("alerts: 2; records of 24 bytes; ticks: none\n"),
+        "{all}"
+    );
+    assert_eq!(said, ["--from 38: the trace has only 37 ticks"]);
+    let cable = explained(
+        &["--summary", &example("switched-off.trace"), "--to", "37"],
+        &[],
+    );
+    assert_eq!(cable[8], "  ALERT1: 29-34, from 36, still equal at 37");
 }

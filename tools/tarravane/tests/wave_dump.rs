@@ -270,7 +270,7 @@ fn a_file_and_standard_input_give_one_dump() {
         assert!(by_name.contains(names[0]) && kept.contains(names[1]));
         assert_eq!(by_name.replace(names[0], names[1]), kept);
     }
-    assert_eq!(folder.names(), ["a.trace", "a.vcd"]);
+    assert_eq!(folder.names(), ["a.gtkw", "a.trace", "a.vcd"]);
 }
 
 /// Only alerts that move; all of them by --all, and none at N and above.
@@ -488,4 +488,56 @@ fn the_lines_pairs_are_shown_tick_by_tick() {
             assert_eq!(dump.at("lines.LINE0_BACK", tick), "1");
         }
     }
+}
+
+/// The signals that a view names, without the range of a pair.
+fn viewed(view: &str) -> Vec<String> {
+    let lines = view.lines();
+    lines
+        .filter(|line| !line.starts_with(['[', '*', '@', '-']))
+        .map(|line| line.trim_end_matches("[1:0]").to_string())
+        .collect()
+}
+
+/// The view beside a dump names each of its signals once, in its scope, accesses first.
+#[test]
+fn a_view_stands_beside_the_dump() {
+    let folder = Folder::new("view");
+    let (to, view) = (folder.path("a.vcd"), folder.path("a.gtkw"));
+    for name in examples("trace") {
+        let trace = example(&format!("{name}.trace"));
+        given("wave", &[&trace, "-o", &to], &[]);
+        let dump = Dump::parse(&fs::read_to_string(&to).expect("the dump"));
+        let text = fs::read_to_string(&view).expect("the view");
+        assert!(text.starts_with("[*] tarravane: "));
+        assert!(text.contains("\n[dumpfile] \"a.vcd\"\n[savefile] \"a.gtkw\"\n"));
+        let (mut shown, mut names) = (viewed(&text), dump.names.clone());
+        let first = [
+            "access.KIND",
+            "access.REGISTER",
+            "access.VALUE",
+            "access.ANSWER",
+        ];
+        assert_eq!(shown[..4], first);
+        shown.sort();
+        names.sort();
+        assert_eq!(shown, names);
+        let pairs = names.iter().filter(|name| dump.signals[*name].bits == 2);
+        for pair in pairs {
+            assert!(text.contains(&format!("\n{pair}[1:0]\n")), "{pair}");
+        }
+    }
+}
+
+/// What a user has saved under the view's name stays.
+#[test]
+fn a_view_of_a_user_is_left() {
+    let folder = Folder::new("user-view");
+    let (to, view) = (folder.path("a.vcd"), folder.path("a.gtkw"));
+    let saved = "[*] GTKWave Analyzer\n";
+    fs::write(&view, saved).expect("a view");
+    let (_, said) = ended("wave", &[&example("broken-seal.trace"), "-o", &to], &[], 0);
+    let left = format!("{view} is not of this tool: it is left as it is");
+    assert_eq!(said, [left]);
+    assert_eq!(fs::read_to_string(&view).expect("the view"), saved);
 }

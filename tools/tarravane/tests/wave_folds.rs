@@ -1,6 +1,8 @@
 //! `wave -o FILE.svg`: what is folded, so that every picture has its size.
 mod common;
 
+use common::folder::Folder;
+use common::given;
 use common::ran::briefs;
 use common::records::{configure, off_rest, record, start};
 use common::svg::{check_size, check_spans, numbers, texts};
@@ -9,6 +11,7 @@ use handler::registers::{Field, Setting};
 use handler::{Edition, Wires};
 use harness::generate::{self, Kind};
 use harness::rng::Rng;
+use std::fs;
 
 /// Rest, with an event in the middle: the calm before it and after its handshake is folded, and counted.
 #[test]
@@ -60,6 +63,33 @@ fn what_matters_is_shown() {
     assert!(folds.contains(&"300 ticks folded".to_string()), "{folds:?}");
     assert_eq!(numbers(&picture), ["301", "602", "603", "903", "904"]);
     check_size(&picture);
+}
+
+/// A boot's writes and locks are folded together, and what comes after it has the room.
+#[test]
+fn the_locks_of_a_boot_are_folded() {
+    let folder = Folder::new("boot-folds");
+    let (boot, whole) = (folder.path("boot.trace"), folder.path("attack.txt"));
+    given("boot", &["PROD", "--trace", &boot], &[]);
+    let text = String::from_utf8(given("record", &["--back", &boot], &[])).expect("text");
+    let ticks = text.lines().count() - 2;
+    let attack = "none wires 14=10\nnone\nread CLASSA_STATE\nwrite CLASSA_CLR 1\n";
+    fs::write(&whole, format!("{text}{attack}")).expect("a text");
+    let picture = picture(&given("record", &[&whole], &[]), &[]);
+    let folds = texts(&picture, "fold");
+    assert_eq!(folds.len(), 2, "{folds:?}");
+    assert!(
+        folds.contains(&format!("{ticks} ticks folded")),
+        "{folds:?}"
+    );
+    assert!(
+        folds
+            .iter()
+            .any(|fold| fold.ends_with(" accesses, 21 locks")),
+        "{folds:?}"
+    );
+    let after: Vec<String> = (1..=4).map(|tick| (ticks + tick).to_string()).collect();
+    assert_eq!(numbers(&picture), after);
 }
 
 /// Every record is as wide as any, every alert moves, and all classes go on and on.

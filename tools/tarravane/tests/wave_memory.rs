@@ -42,5 +42,5 @@ fn a_long_trace_in_little_memory() {
         drop(to);
         assert!(run.wait().expect("it ends").success(), "{ending}");
     }
-    assert_eq!(folder.names(), ["a.svg", "a.vcd"]);
+    assert_eq!(folder.names(), ["a.gtkw", "a.svg", "a.vcd"]);
 }

@@ -76,7 +76,7 @@ fn the_caption_answers() {
     assert_eq!(
         told,
         [
-            "first event: ALERT0 at 16",
+            "first event of an enabled alert: ALERT0 at 16",
             "class A: 1 start; clears accepted none, refused at 26",
             "start at 24 by ALERT0; locked, LOCK set; Ph0 24, Ph1 27, Ph2 30, Ph3 33, Term 36; \
              line 0 24-26, line 1 27-29, line 2 30-32, line 3 33-35",
@@ -88,7 +88,7 @@ fn the_caption_answers() {
         none wires 1=10\nnone wires 0=10 2=10\n";
     let disabled = given("record", &["-"], disabled.as_bytes());
     let told = texts(&picture(&disabled, &[]), "told");
-    assert_eq!(told[0], "first event: ALERT2 at 4");
+    assert_eq!(told[0], "first event of an enabled alert: ALERT2 at 4");
     let none = picture(&start(Edition::NEWEST, 1), &[]);
     assert_eq!(texts(&none, "told")[0], "no event of an enabled alert");
 }
@@ -179,10 +179,11 @@ fn staged_writes_are_told_apart() {
     assert_eq!(
         texts(&picture, "told"),
         [
-            "first event: LOC_ALERT5 at 4",
+            "first event of an enabled alert: LOC_ALERT5 at 4",
             "classes A, B, C, D: no start; no clear",
+            "events that started nothing: LOC_ALERT5: 1 occurrence, at 4; 1 while its class was off, at 4",
             "shadow writes: 4 staged, 1 committed; dropped at 4, 6; open at the end CLASSA_TIMEOUT_CYC",
-            "other refusals: 12 (second write differs): 1 time",
+            "other refusals: 12 (second write differs): 1 time, at 4",
         ]
     );
 }
@@ -220,9 +221,13 @@ fn alerts_that_rose_or_broke_have_lanes() {
         "ALERT1",
         "ALERT2",
         "LOC_ALERT2",
-        "class A",
+        "accesses",
     ];
     assert_eq!(lanes[..6], inputs);
+    assert_eq!(
+        texts(&picture, "still"),
+        ["classes A, B, C, D: Idle; interrupts A, B, C, D: off; lines 0, 1, 2, 3: off"]
+    );
     let all = given("record", &["-"], b"alerts 9\nnone wires 0-8=10\n");
     let lanes = texts(&common::wave::picture(&all, &[]), "lane");
     assert_eq!(lanes[8..10], ["ALERT7", "1 more alert"]);
@@ -297,4 +302,46 @@ fn names_stay_text() {
         xml::check(&picture);
         assert_eq!(texts(&picture, "title"), [shown]);
     }
+}
+
+/// What never moves takes one line together, and what ends the picture before the trace is still on.
+#[test]
+fn what_never_moves_takes_one_line() {
+    let picture = picture(&trace("broken-seal"), &["--to", "28"]);
+    let lanes = [
+        "tick",
+        "ALERT0",
+        "class A",
+        "line 0",
+        "line 1",
+        "accesses",
+        "all the time",
+    ];
+    assert_eq!(texts(&picture, "lane"), lanes);
+    let still = "classes B, C, D: Idle; interrupts A, B, C, D: off; lines 2, 3: off";
+    assert_eq!(texts(&picture, "still"), [still]);
+    let told = texts(&picture, "told");
+    assert!(
+        told[2].ends_with("; line 0 24-26, line 1 from 27, still on at 28"),
+        "{}",
+        told[2]
+    );
+}
+
+/// The theft without an escalation is told above its picture.
+#[test]
+fn the_caption_tells_what_was_switched_off() {
+    let told = texts(&picture(&trace("switched-off"), &[]), "told");
+    assert_eq!(
+        told,
+        [
+            "no event of an enabled alert",
+            "classes A, B, C, D: no start; no clear",
+            "events that started nothing: ALERT0: 1 event, at 20; 1 while disabled, at 20",
+            "equal wires: ALERT1: 29-34, 36-38",
+            "switched off: ALERT0 at 17, class A at 19",
+            "switched on again: class A at 25, ALERT0 at 27",
+            "other refusals: none",
+        ]
+    );
 }

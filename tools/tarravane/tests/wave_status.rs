@@ -130,7 +130,7 @@ fn a_file_is_replaced_whole_or_not_at_all() {
         let mode = fs::metadata(&to).expect("the file").permissions().mode();
         assert_eq!(mode & 0o777, 0o600);
     }
-    assert_eq!(folder.names(), ["a.svg", "a.vcd"]);
+    assert_eq!(folder.names(), ["a.gtkw", "a.svg", "a.vcd"]);
 }
 
 /// What is no file by its name is read once, and kept where it is needed again.

@@ -119,5 +119,5 @@ fn a_row_with_room_is_as_ever() {
     let wide = [&locked[..], &["--wide"]].concat();
     assert_eq!(rows(&wide, &[]), rows(&locked, &[]));
     let changes = ["--only-changes", "--wide", &seal];
-    assert_eq!(rows(&changes, &[]).len(), 9);
+    assert_eq!(rows(&changes, &[]).len(), 16);
 }

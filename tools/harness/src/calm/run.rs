@@ -1,7 +1,6 @@
 //! The run over calm calls, one seed for each state.
 
 use super::beside::{beside_plain, beside_reference, enough};
-use super::found::Found;
 use super::joined::joined;
 use super::met::{always_hit, Kind};
 use super::plain::Plain;
@@ -10,6 +9,7 @@ use super::start::{start, Start};
 use super::subject::Calm;
 use super::summary::Summary;
 use super::way::{Way, WAYS, WEIGHTS};
+use super::Found;
 use crate::calls::Odd;
 use crate::rng::Rng;
 use crate::spoil::Place;
@@ -147,7 +147,7 @@ pub fn try_calms(calm: Calm, seed: u64, states: u64, summary: &mut Summary) -> O
             return Some(Found {
                 seed,
                 way: name,
-                ticks,
+                what: format!("{ticks} calm ticks"),
                 odd,
             });
         }

@@ -2,10 +2,10 @@
 
 use super::beside::{back_odd, dump_odd};
 use super::changed::{all, some, Seen};
-use super::found::Found;
 use super::made::{made, Made, WAYS};
 use super::subject::Subject;
 use super::summary::Summary;
+use super::Found;
 use crate::calls::reference_of;
 use crate::entries::Buffer;
 use crate::rng::Rng;

@@ -31,8 +31,8 @@ fn the_default_set_finds_every_slip() {
         slip(&mut engine);
         match found_with(&engine) {
             Some(found) => println!(
-                "{name}: seed {} ({}), {} ticks beside {}, {}",
-                found.seed, found.way, found.ticks, found.odd.call, found.odd.field
+                "{name}: seed {} ({}), {}: {}, {}",
+                found.seed, found.way, found.what, found.odd.call, found.odd.field
             ),
             None => missed.push(name),
         }

@@ -1,5 +1,6 @@
 //! The words after `boot`.
-use super::{is_option, number, Asked};
+use super::words::{once, Word, Words};
+use super::{number, Asked};
 use handler::boot::BOOT_ALERTS;
 use handler::{Lifecycle, ALERTS};
 
@@ -35,36 +36,23 @@ fn file(word: &str) -> Result<String, String> {
     }
 }
 
-/// Takes the word after an option, once.
-fn take<T>(
-    place: &mut Option<T>,
-    option: &str,
-    word: Option<&String>,
-    read: fn(&str) -> Result<T, String>,
-) -> Result<(), String> {
-    let wanted = || format!("{option} wants a word after it");
-    let given = read(word.ok_or_else(wanted)?)?;
-    match place.replace(given) {
-        Some(_) => Err(format!("boot takes one {option}")),
-        None => Ok(()),
-    }
-}
-
 pub fn parse(words: &[String]) -> Result<Asked<Boot>, String> {
     let (mut named, mut count, mut trace) = (None, None, None);
-    let mut options = true;
-    let mut rest = words.iter();
-    while let Some(word) = rest.next() {
-        match word.as_str() {
-            "--" if options => options = false,
-            "--help" | "-h" if options => return Ok(Asked::Help),
-            "--alerts" if options => take(&mut count, word, rest.next(), alerts)?,
-            "--trace" if options => take(&mut trace, word, rest.next(), file)?,
-            option if options && is_option(option) => {
-                return Err(format!("boot has no option {option}"))
+    let mut words = Words::new("boot", words);
+    while let Some(word) = words.take()? {
+        match word {
+            Word::Option("--help" | "-h") => return Ok(Asked::Help),
+            Word::Option("--alerts") => {
+                let word = words.value("--alerts wants a word after it")?;
+                once(&mut count, alerts(word)?, "boot takes one --alerts")?;
             }
-            _ if named.is_some() => return Err("boot takes one lifecycle".to_string()),
-            _ => named = Some(lifecycle(word)?),
+            Word::Option("--trace") => {
+                let word = words.value("--trace wants a word after it")?;
+                once(&mut trace, file(word)?, "boot takes one --trace")?;
+            }
+            Word::Option(_) => return words.unknown(),
+            Word::Plain(_) if named.is_some() => return Err("boot takes one lifecycle".to_string()),
+            Word::Plain(word) => named = Some(lifecycle(word)?),
         }
     }
     let lifecycle = named.ok_or("boot wants a lifecycle")?;

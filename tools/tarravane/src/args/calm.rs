@@ -1,5 +1,6 @@
 //! The words after `calm`.
-use super::{is_option, number, range, Asked};
+use super::words::{once, Word, Words};
+use super::{number, range, Asked};
 use crate::range::Range;
 use crate::text::wires;
 use crate::text::word::shown;
@@ -28,8 +29,7 @@ fn ticks(word: &str) -> Result<u32, String> {
 }
 
 /// `rest`, or the pairs that a text has after `wires`, parted by commas.
-fn parse_wires(word: Option<&String>) -> Result<Wires, String> {
-    let word = word.ok_or("--wires wants rest, or I=PQ or I-J=PQ and more of them after commas")?;
+fn parse_wires(word: &str) -> Result<Wires, String> {
     if word == "rest" {
         return Ok(Wires::REST);
     }
@@ -37,25 +37,27 @@ fn parse_wires(word: Option<&String>) -> Result<Wires, String> {
     wires::parse(Edition::NEWEST, pairs).map_err(|problem| format!("--wires: {problem}"))
 }
 
+/// What is said where no wires follow.
+const WIRES: &str = "--wires wants rest, or I=PQ or I-J=PQ and more of them after commas";
+
 pub fn parse(words: &[String]) -> Result<Asked<Calm>, String> {
     let (mut trace, mut count, mut wires) = (None, None, None);
-    let (mut range, mut options) = (Range::ALL, true);
-    let mut rest = words.iter();
-    while let Some(word) = rest.next() {
-        match word.as_str() {
-            "--" if options => options = false,
-            "--help" | "-h" if options => return Ok(Asked::Help),
-            "--to" if options => range::take(&mut range, word, rest.next())?,
-            "--wires" if options && wires.is_some() => {
-                return Err("calm takes one --wires".to_string())
+    let mut range = Range::ALL;
+    let mut words = Words::new("calm", words);
+    while let Some(word) = words.take()? {
+        match word {
+            Word::Option("--help" | "-h") => return Ok(Asked::Help),
+            Word::Option("--to") => range::take(&mut range, "--to", &mut words)?,
+            Word::Option("--wires") => {
+                let given = parse_wires(words.value(WIRES)?)?;
+                once(&mut wires, given, "calm takes one --wires")?;
             }
-            "--wires" if options => wires = Some(parse_wires(rest.next())?),
-            option if options && is_option(option) => {
-                return Err(format!("calm has no option {option}"))
+            Word::Option(_) => return words.unknown(),
+            Word::Plain(word) if trace.is_none() => trace = Some(word.to_string()),
+            Word::Plain(word) if count.is_none() => count = Some(ticks(word)?),
+            Word::Plain(_) => {
+                return Err("calm takes one trace and one number of ticks".to_string())
             }
-            _ if trace.is_none() => trace = Some(word.clone()),
-            _ if count.is_none() => count = Some(ticks(word)?),
-            _ => return Err("calm takes one trace and one number of ticks".to_string()),
         }
     }
     let trace = trace.ok_or("calm wants a trace, a file or - for standard input")?;
@@ -132,7 +134,7 @@ mod tests {
             ("t 1.5", ticks("1.5")),
             ("t 0x10", ticks("0x10")),
             ("t -", ticks("-")),
-            ("t -1", "calm has no option -1".to_string()),
+            ("t -1", ticks("-1")),
             (
                 "t 1 2",
                 "calm takes one trace and one number of ticks".to_string(),

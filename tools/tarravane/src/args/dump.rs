@@ -1,5 +1,6 @@
 //! The words after `dump`.
-use super::{is_option, range, Asked};
+use super::words::{once, Word, Words};
+use super::{range, Asked};
 
 #[derive(Debug, PartialEq, Eq)]
 pub struct Dump {
@@ -19,35 +20,26 @@ pub enum Which {
     FirstStart,
 }
 
-/// Takes the state that an option names, once.
-fn choose(which: &mut Which, chosen: Which) -> Result<(), String> {
-    match std::mem::replace(which, chosen) {
-        Which::Last => Ok(()),
-        _ => Err("dump takes one of --at and --at-start, once".to_string()),
-    }
-}
-
 pub fn parse(words: &[String]) -> Result<Asked<Dump>, String> {
-    let (mut trace, mut to, mut which) = (None, None, Which::Last);
-    let mut options = true;
-    let mut rest = words.iter();
-    while let Some(word) = rest.next() {
-        match word.as_str() {
-            "--" if options => options = false,
-            "--help" | "-h" if options => return Ok(Asked::Help),
-            "--at" if options => choose(&mut which, Which::After(range::tick(word, rest.next())?))?,
-            "--at-start" if options => choose(&mut which, Which::FirstStart)?,
-            "-o" if options && to.is_some() => return Err("dump takes one -o".to_string()),
-            "-o" if options => to = Some(rest.next().ok_or("-o wants a file")?.clone()),
-            option if options && is_option(option) => {
-                return Err(format!("dump has no option {option}"))
+    let (mut trace, mut to, mut which) = (None, None, None);
+    let mut words = Words::new("dump", words);
+    let twice = "dump takes one of --at and --at-start, once";
+    while let Some(word) = words.take()? {
+        match word {
+            Word::Option("--help" | "-h") => return Ok(Asked::Help),
+            Word::Option("--at") => {
+                let tick = range::tick("--at", &mut words)?;
+                once(&mut which, Which::After(tick), twice)?;
             }
-            _ if trace.is_some() => return Err("dump takes one trace".to_string()),
-            _ => trace = Some(word.clone()),
+            Word::Option("--at-start") => once(&mut which, Which::FirstStart, twice)?,
+            Word::Option("-o") => words.output(&mut to)?,
+            Word::Option(_) => return words.unknown(),
+            Word::Plain(word) => once(&mut trace, word.to_string(), "dump takes one trace")?,
         }
     }
     let trace = trace.ok_or("dump wants a trace: a file, or - for standard input")?;
     let to = to.filter(|to| to != "-");
+    let which = which.unwrap_or(Which::Last);
     Ok(Asked::Run(Dump { trace, to, which }))
 }
 

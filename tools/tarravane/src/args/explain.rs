@@ -1,115 +1,136 @@
 //! The words after `explain`.
-use super::{is_option, range, Asked};
+use super::style::Named;
+use super::words::{once, Word, Words};
+use super::{range, Asked};
 use crate::range::Range;
-use handler::registers::Naming;
+use crate::style::Style;
 
 #[derive(Debug, PartialEq, Eq)]
 pub struct Explain {
     pub trace: String,
+    pub range: Range,
+    pub style: Style,
     pub shown: Shown,
+    /// As JSON, an object in a line.
+    pub json: bool,
 }
 
 /// What of the trace is shown.
-#[derive(Debug, PartialEq, Eq)]
+#[derive(Clone, Copy, Debug, PartialEq, Eq)]
 pub enum Shown {
     Rows(Rows),
-    Summary(Naming),
+    Summary,
 }
 
-#[derive(Clone, Copy, Debug, PartialEq, Eq)]
+#[derive(Clone, Copy, Debug, Default, PartialEq, Eq)]
 pub struct Rows {
-    pub range: Range,
     pub only_changes: bool,
     pub wide: bool,
-    pub naming: Naming,
 }
 
-/// Every row, in at most 120 columns.
-const ALL: Rows = Rows {
-    range: Range::ALL,
-    only_changes: false,
-    wide: false,
-    naming: Naming::Ours,
-};
-
-fn shown(rows: Rows, summary: bool) -> Result<Shown, String> {
-    let naming = rows.naming;
+fn shown(rows: Rows, summary: bool, json: bool) -> Result<Shown, String> {
+    if json && rows.wide {
+        return Err("--json has all that --wide has: one of them is enough".to_string());
+    }
     match summary {
-        true if Rows { naming, ..rows } != (Rows { naming, ..ALL }) => {
-            Err("--summary has no rows: of the other options only --papers goes with it".into())
+        true if rows != Rows::default() => {
+            Err("--summary has no rows: --only-changes and --wide do not go with it".to_string())
         }
-        true => Ok(Shown::Summary(naming)),
-        false => {
-            range::check(rows.range)?;
-            Ok(Shown::Rows(rows))
-        }
+        true => Ok(Shown::Summary),
+        false => Ok(Shown::Rows(rows)),
     }
 }
 
 pub fn parse(words: &[String]) -> Result<Asked<Explain>, String> {
-    let (mut trace, mut rows) = (None, ALL);
-    let (mut summary, mut options) = (false, true);
-    let mut rest = words.iter();
-    while let Some(word) = rest.next() {
-        match word.as_str() {
-            "--" if options => options = false,
-            "--help" | "-h" if options => return Ok(Asked::Help),
-            "--from" | "--to" if options => range::take(&mut rows.range, word, rest.next())?,
-            "--only-changes" if options => rows.only_changes = true,
-            "--wide" if options => rows.wide = true,
-            "--papers" if options => rows.naming = Naming::Papers,
-            "--summary" if options => summary = true,
-            option if options && is_option(option) => {
-                return Err(format!("explain has no option {option}"))
-            }
-            _ if trace.is_some() => return Err("explain takes one trace".to_string()),
-            _ => trace = Some(word.clone()),
+    let (mut trace, mut range, mut named) = (None, Range::ALL, Named::default());
+    let (mut rows, mut summary, mut json) = (Rows::default(), false, false);
+    let mut words = Words::new("explain", words);
+    while let Some(word) = words.take()? {
+        match word {
+            Word::Option("--help" | "-h") => return Ok(Asked::Help),
+            Word::Option(end @ ("--from" | "--to")) => range::take(&mut range, end, &mut words)?,
+            Word::Option("--only-changes") => rows.only_changes = true,
+            Word::Option("--wide") => rows.wide = true,
+            Word::Option("--summary") => summary = true,
+            Word::Option("--json") => json = true,
+            Word::Option(option) if named.take(option, &mut words)? => {}
+            Word::Option(_) => return words.unknown(),
+            Word::Plain(word) => once(&mut trace, word.to_string(), "explain takes one trace")?,
         }
     }
     let trace = trace.ok_or("explain wants a trace: a file, or - for standard input")?;
-    let shown = shown(rows, summary)?;
-    Ok(Asked::Run(Explain { trace, shown }))
+    range::check(range)?;
+    let shown = shown(rows, summary, json)?;
+    Ok(Asked::Run(Explain {
+        trace,
+        range,
+        style: named.style()?,
+        shown,
+        json,
+    }))
 }
 
 #[cfg(test)]
 mod tests {
     use super::super::tests;
     use super::*;
+    use crate::clock::Clock;
+    use handler::registers::Naming;
+
+    const ALL: Shown = Shown::Rows(Rows {
+        only_changes: false,
+        wide: false,
+    });
 
     fn parsed(line: &str) -> Result<Asked<Explain>, String> {
         tests::parsed(parse, line)
     }
 
-    fn asked(trace: &str, shown: Shown) -> Result<Asked<Explain>, String> {
-        let trace = trace.to_string();
-        Ok(Asked::Run(Explain { trace, shown }))
+    fn asked(trace: &str, range: Range, shown: Shown) -> Explain {
+        Explain {
+            trace: trace.to_string(),
+            range,
+            style: Style::PLAIN,
+            shown,
+            json: false,
+        }
     }
 
     #[test]
     fn options_stand_before_or_after_the_trace() {
-        let some = Rows {
-            range: Range { from: 3, to: 9 },
+        let some = Shown::Rows(Rows {
             only_changes: true,
             wide: true,
-            naming: Naming::Papers,
-        };
-        let line = "--from 3 t --papers --to 9 --only-changes --wide";
-        assert_eq!(parsed(line), asked("t", Shown::Rows(some)));
-        assert_eq!(parsed("-"), asked("-", Shown::Rows(ALL)));
-        let summary = |naming| asked("t", Shown::Summary(naming));
-        assert_eq!(parsed("t --summary"), summary(Naming::Ours));
-        assert_eq!(parsed("--papers t --summary"), summary(Naming::Papers));
+        });
+        let range = Range { from: 3, to: 9 };
+        for line in [
+            "--from 3 t --papers --to 9 --only-changes --wide",
+            "--from=3 --papers --to=9 --only-changes --wide t",
+        ] {
+            let mut wanted = asked("t", range, some);
+            wanted.style.naming = Naming::Papers;
+            assert_eq!(parsed(line), Ok(Asked::Run(wanted)), "{line}");
+        }
+        let mut wanted = asked("t", Range::ALL, Shown::Summary);
+        wanted.json = true;
+        wanted.style.names = true;
+        wanted.style.clock = Some(Clock::parse("2026-03-01T04:00:00", "0.5").expect("a clock"));
+        let line = "--json t --names --start=2026-03-01T04:00:00 --tick 0.5 --summary";
+        assert_eq!(parsed(line), Ok(Asked::Run(wanted)));
+        let run = |trace, range, shown| Ok(Asked::Run(asked(trace, range, shown)));
+        assert_eq!(parsed("-"), run("-", Range::ALL, ALL));
+        let summary = |range| run("t", range, Shown::Summary);
+        assert_eq!(parsed("t --summary"), summary(Range::ALL));
+        assert_eq!(parsed("--to 9 t --from 3 --summary"), summary(range));
     }
 
     #[test]
     fn no_option_follows_two_hyphens() {
-        assert_eq!(parsed("-- t"), asked("t", Shown::Rows(ALL)));
-        assert_eq!(parsed("-- --help"), asked("--help", Shown::Rows(ALL)));
-        assert_eq!(
-            parsed("--summary -- -x"),
-            asked("-x", Shown::Summary(Naming::Ours))
-        );
-        assert_eq!(parsed("-- --"), asked("--", Shown::Rows(ALL)));
+        let run = |trace, shown| Ok(Asked::Run(asked(trace, Range::ALL, shown)));
+        assert_eq!(parsed("-- t"), run("t", ALL));
+        assert_eq!(parsed("-- --help"), run("--help", ALL));
+        assert_eq!(parsed("--summary -- -x"), run("-x", Shown::Summary));
+        assert_eq!(parsed("-- --"), run("--", ALL));
     }
 
     #[test]
@@ -121,15 +142,26 @@ mod tests {
             "a -- b",
             "t --from",
             "t --from 0",
+            "t --from=",
+            "t --wide=1",
             "t --to x",
             "t --from 4 --to 3",
             "t --all",
             "t -x",
             "t --summary --wide",
-            "t --summary --to 3",
+            "t --json --wide",
+            "t --start 2026-03-01T04:00:00",
+            "t --tick 1",
+            "t --start now --tick 1",
+            "t --start 2026-03-01T04:00:00 --tick 0",
+            "t --tick 1 --tick 1 --start 2026-03-01T04:00:00",
+            "t --summary --from 4 --to 3",
             "t --summary --papers --only-changes",
         ] {
             assert!(parsed(line).is_err(), "{line}");
         }
+        let beyond = "t --from 99999999999999999999";
+        let why = "--from 99999999999999999999: no trace has a tick above 18446744073709551615";
+        assert_eq!(parsed(beyond), Err(why.to_string()));
     }
 }

@@ -1,28 +1,29 @@
 //! The words after `read`.
-use super::{is_option, Asked};
+use super::words::{once, Word, Words};
+use super::Asked;
 
 #[derive(Debug, PartialEq, Eq)]
 pub struct Read {
     pub file: String,
     pub json: bool,
+    /// Alerts with their names in document 002.
+    pub names: bool,
 }
 
 pub fn parse(words: &[String]) -> Result<Asked<Read>, String> {
-    let (mut file, mut json, mut options) = (None, false, true);
-    for word in words {
-        match word.as_str() {
-            "--" if options => options = false,
-            "--help" | "-h" if options => return Ok(Asked::Help),
-            "--json" if options => json = true,
-            option if options && is_option(option) => {
-                return Err(format!("read has no option {option}"))
-            }
-            _ if file.is_some() => return Err("read takes one dump".to_string()),
-            _ => file = Some(word.clone()),
+    let (mut file, mut json, mut names) = (None, false, false);
+    let mut words = Words::new("read", words);
+    while let Some(word) = words.take()? {
+        match word {
+            Word::Option("--help" | "-h") => return Ok(Asked::Help),
+            Word::Option("--json") => json = true,
+            Word::Option("--names") => names = true,
+            Word::Option(_) => return words.unknown(),
+            Word::Plain(word) => once(&mut file, word.to_string(), "read takes one dump")?,
         }
     }
     let file = file.ok_or("read wants a dump: a file, or - for standard input")?;
-    Ok(Asked::Run(Read { file, json }))
+    Ok(Asked::Run(Read { file, json, names }))
 }
 
 #[cfg(test)]
@@ -33,8 +34,8 @@ mod tests {
     #[test]
     fn options_stand_before_or_after_the_file() {
         let asked = |file: &str, json| {
-            let file = file.to_string();
-            Ok(Asked::Run(Read { file, json }))
+            let (file, names) = (file.to_string(), false);
+            Ok(Asked::Run(Read { file, json, names }))
         };
         assert_eq!(parsed(parse, "d"), asked("d", false));
         assert_eq!(parsed(parse, "- --json"), asked("-", true));

@@ -1,5 +1,6 @@
 //! The words after `record`.
-use super::{is_option, Asked};
+use super::words::{once, Word, Words};
+use super::Asked;
 
 #[derive(Debug, PartialEq, Eq)]
 pub struct Record {
@@ -12,20 +13,14 @@ pub struct Record {
 
 pub fn parse(words: &[String]) -> Result<Asked<Record>, String> {
     let (mut from, mut to, mut back) = (None, None, false);
-    let mut options = true;
-    let mut rest = words.iter();
-    while let Some(word) = rest.next() {
-        match word.as_str() {
-            "--" if options => options = false,
-            "--help" | "-h" if options => return Ok(Asked::Help),
-            "--back" if options => back = true,
-            "-o" if options && to.is_some() => return Err("record takes one -o".to_string()),
-            "-o" if options => to = Some(rest.next().ok_or("-o wants a file")?.clone()),
-            option if options && is_option(option) => {
-                return Err(format!("record has no option {option}"))
-            }
-            _ if from.is_some() => return Err("record takes one file, or -".to_string()),
-            _ => from = Some(word.clone()),
+    let mut words = Words::new("record", words);
+    while let Some(word) = words.take()? {
+        match word {
+            Word::Option("--help" | "-h") => return Ok(Asked::Help),
+            Word::Option("--back") => back = true,
+            Word::Option("-o") => words.output(&mut to)?,
+            Word::Option(_) => return words.unknown(),
+            Word::Plain(word) => once(&mut from, word.to_string(), "record takes one file, or -")?,
         }
     }
     let wanted = if back { "a trace" } else { "a text" };

@@ -1,6 +1,9 @@
 //! The words after `wave`.
-use super::{is_option, range, Asked};
+use super::style::Named;
+use super::words::{once, Word, Words};
+use super::{range, Asked};
 use crate::range::Range;
+use crate::style::Style;
 
 #[derive(Debug, PartialEq, Eq)]
 pub struct Wave {
@@ -8,6 +11,8 @@ pub struct Wave {
     /// The file that is written; its ending names the form.
     pub to: String,
     pub form: Form,
+    /// How the picture names alerts and ticks.
+    pub style: Style,
 }
 
 #[derive(Debug, PartialEq, Eq)]
@@ -58,27 +63,35 @@ pub fn parse(words: &[String]) -> Result<Asked<Wave>, String> {
         all: false,
         range: Range::ALL,
     };
-    let mut options = true;
-    let mut rest = words.iter();
-    while let Some(word) = rest.next() {
-        match word.as_str() {
-            "--" if options => options = false,
-            "--help" | "-h" if options => return Ok(Asked::Help),
-            "--all" if options => asked.all = true,
-            "--from" | "--to" if options => range::take(&mut asked.range, word, rest.next())?,
-            "-o" if options && to.is_some() => return Err("wave takes one -o".to_string()),
-            "-o" if options => to = Some(rest.next().ok_or("-o wants a file")?.clone()),
-            option if options && is_option(option) => {
-                return Err(format!("wave has no option {option}"))
+    let mut named = Named::default();
+    let mut words = Words::new("wave", words);
+    while let Some(word) = words.take()? {
+        match word {
+            Word::Option("--help" | "-h") => return Ok(Asked::Help),
+            Word::Option("--all") => asked.all = true,
+            Word::Option(end @ ("--from" | "--to")) => {
+                range::take(&mut asked.range, end, &mut words)?;
             }
-            _ if trace.is_some() => return Err("wave takes one trace".to_string()),
-            _ => trace = Some(word.clone()),
+            Word::Option("-o") => words.output(&mut to)?,
+            Word::Option(option @ ("--names" | "--start" | "--tick")) => {
+                named.take(option, &mut words)?;
+            }
+            Word::Option(_) => return words.unknown(),
+            Word::Plain(word) => once(&mut trace, word.to_string(), "wave takes one trace")?,
         }
     }
     let trace = trace.ok_or("wave wants a trace: a file, or - for standard input")?;
     let to = to.ok_or("wave wants -o and a file that ends in .vcd or .svg")?;
-    let form = form(&to, &asked)?;
-    Ok(Asked::Run(Wave { trace, to, form }))
+    let (form, style) = (form(&to, &asked)?, named.style()?);
+    if form != Form::Picture(asked.range) && style != Style::PLAIN {
+        return Err("--names, --start and --tick are for a picture (.svg)".to_string());
+    }
+    Ok(Asked::Run(Wave {
+        trace,
+        to,
+        form,
+        style,
+    }))
 }
 
 #[cfg(test)]
@@ -92,7 +105,13 @@ mod tests {
 
     fn asked(trace: &str, to: &str, form: Form) -> Result<Asked<Wave>, String> {
         let [trace, to] = [trace, to].map(str::to_string);
-        Ok(Asked::Run(Wave { trace, to, form }))
+        let style = Style::PLAIN;
+        Ok(Asked::Run(Wave {
+            trace,
+            to,
+            form,
+            style,
+        }))
     }
 
     #[test]
@@ -135,6 +154,9 @@ mod tests {
             "t -o a.vcd --to 2",
             "t -o a.vcd --wide",
             "t -o a.vcd -x",
+            "t -o a.vcd --names",
+            "t -o a.svg --start 2026-03-01T04:00:00",
+            "t -o a.svg --papers",
         ] {
             assert!(parsed(line).is_err(), "{line}");
         }

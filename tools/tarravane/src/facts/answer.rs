@@ -21,6 +21,16 @@ fn done(t: &Tick) -> &'static str {
     }
 }
 
+/// In one word: refused, read, done, staged, committed or none.
+pub fn outcome(t: &Tick) -> &'static str {
+    match (refused(t), t.input.access) {
+        (Some(_), _) => "refused",
+        (None, Access::Read(_)) => "read",
+        (None, Access::Write(..)) => done(t),
+        (None, _) => "none",
+    }
+}
+
 /// In short: why it was refused, the value read, what a write did, `-` where there was no access.
 pub fn short(t: &Tick) -> String {
     match (refused(t), t.input.access) {

@@ -28,7 +28,7 @@ pub fn records(handler: Handler, text: &str) -> Vec<u8> {
             Ok(Line::Raw(record)) => record,
             other => panic!("{other:?}"),
         };
-        ends.run(edition, &record);
+        ends.tick(edition, &record);
         all.extend(record);
     }
     all

@@ -1,6 +1,7 @@
 //! Starts of escalations.
 use super::clears::{self, Clear};
 use super::events::{self, Source};
+use super::settings::is_lock_set;
 use super::tick::Tick;
 use handler::Class;
 
@@ -8,9 +9,6 @@ use handler::Class;
 pub const IDLE: u32 = 0;
 pub const TIMEOUT: u32 = 1;
 pub const PHASE_0: u32 = 4;
-
-/// CTRL's bit for LOCK.
-const LOCK: u16 = 1 << 1;
 
 #[derive(Clone, Debug, PartialEq, Eq)]
 pub struct Start {
@@ -45,6 +43,6 @@ pub fn start(t: &Tick, k: usize) -> Option<Start> {
     Some(Start {
         by: trigger(t, k),
         locked: after.regwen == 0,
-        lock: after.ctrl & LOCK != 0,
+        lock: is_lock_set(after),
     })
 }

@@ -1,6 +1,6 @@
 //! One tick.
 use handler::registers::Register;
-use handler::{Access, Edition, Handler, Heard, Input, Refusal, Sample, Word};
+use handler::{Access, Edition, Handler, Heard, Input, Refusal, Sample, Wires, Word};
 
 /// The refusal of a malformed record.
 pub const MALFORMED: Refusal = Refusal(5);
@@ -18,6 +18,8 @@ pub struct Tick {
     pub heard: Heard,
     /// The word of the tick before; 0 before the first.
     pub last: Word,
+    /// The alerts' wires in the tick before; at rest before the first.
+    pub last_wires: Wires,
     pub word: Word,
 }
 
@@ -33,6 +35,7 @@ impl Tick {
             after: new,
             heard: new.hear(Access::Nothing, Sample::AT_REST),
             last: Word::default(),
+            last_wires: Wires::REST,
             word: Word::default(),
         }
     }

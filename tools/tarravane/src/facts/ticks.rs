@@ -3,7 +3,7 @@ use super::tick::{Tick, MALFORMED};
 use crate::progress::Progress;
 use crate::source::filled;
 use crate::trace::{cut, record};
-use handler::{Access, Edition, Handler, Heard, Input, Word};
+use handler::{Access, Edition, Handler, Heard, Input, Wires, Word};
 use std::io::Read;
 
 pub struct Ticks<'a, R> {
@@ -12,6 +12,7 @@ pub struct Ticks<'a, R> {
     edition: Edition,
     handler: Handler,
     word: Word,
+    wires: Wires,
     number: u64,
     left: usize,
 }
@@ -48,9 +49,15 @@ impl<'a, R: Read> Ticks<'a, R> {
             edition,
             handler,
             word: Word::default(),
+            wires: Wires::REST,
             number: 0,
             left: 0,
         }
+    }
+
+    /// The state after the ticks that were run.
+    pub fn handler(&self) -> &Handler {
+        &self.handler
     }
 
     /// How many ticks were run.
@@ -73,7 +80,7 @@ impl<'a, R: Read> Ticks<'a, R> {
             self.left = have;
             return Ok(None);
         }
-        let (before, last) = (self.handler, self.word);
+        let (before, last, last_wires) = (self.handler, self.word, self.wires);
         let mut words = [Word::default()];
         let (after, answer) = before.batch(edition, &record, &mut words);
         if let Err(refusal) = answer.value() {
@@ -82,6 +89,7 @@ impl<'a, R: Read> Ticks<'a, R> {
         self.number += 1;
         (self.handler, self.word) = (after, words[0]);
         let input = record::input(edition, &record);
+        self.wires = input.sample.alerts;
         Ok(Some(Tick {
             number: self.number,
             edition,
@@ -91,6 +99,7 @@ impl<'a, R: Read> Ticks<'a, R> {
             before,
             after,
             last,
+            last_wires,
             word: words[0],
         }))
     }

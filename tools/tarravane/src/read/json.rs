@@ -1,30 +1,16 @@
-//! The same as one JSON object. Names are letters, digits and _, so that nothing in a text is to be escaped.
+//! The same as one JSON object.
 use super::{locks, said, Judged, Verdict};
+use crate::json::{list, maybe, object as object_of, text};
 use crate::names::whole_state;
+use crate::style::alert_name;
 use handler::registers::{Field, Register, LETTERS, MAP};
 use handler::{Content, ShownClass, LOCALS};
 
-fn text(word: impl ToString) -> String {
-    format!("\"{}\"", word.to_string())
-}
-
-fn list(all: impl Iterator<Item = String>) -> String {
-    format!("[{}]", all.collect::<Vec<_>>().join(","))
-}
-
-fn object_of(pairs: &[(&str, String)]) -> String {
-    let pairs = pairs
-        .iter()
-        .map(|(name, value)| format!("\"{name}\":{value}"));
-    format!("{{{}}}", pairs.collect::<Vec<_>>().join(","))
-}
-
 fn class((k, class): (usize, &ShownClass)) -> String {
-    let ticks = said::ticks(class).map_or("null".to_string(), |ticks| ticks.to_string());
     object_of(&[
         ("class", text(LETTERS[k])),
         ("state", text(whole_state(class.state))),
-        ("ticks", ticks),
+        ("ticks", maybe(said::ticks(class))),
         ("accum_cnt", class.accum.to_string()),
     ])
 }
@@ -45,9 +31,14 @@ fn stage((register, value): (Register, u32)) -> String {
     ])
 }
 
-fn whole(content: &Content, bytes: String) -> String {
+/// The names of the alerts below N in document 002.
+fn alert_names(content: &Content) -> String {
+    list((0..content.n).filter_map(alert_name).map(text))
+}
+
+fn whole(content: &Content, bytes: String, named: bool) -> String {
     let names = |all: Vec<Register>| list(all.into_iter().map(text));
-    object_of(&[
+    let mut pairs = vec![
         ("dump", text("whole")),
         ("bytes", bytes),
         ("alerts", content.n.to_string()),
@@ -59,13 +50,18 @@ fn whole(content: &Content, bytes: String) -> String {
         ("locked", names(locks::of(content, true))),
         ("not_locked", names(locks::of(content, false))),
         ("half_done", list(content.staged().into_iter().map(stage))),
-    ])
+    ];
+    if named {
+        pairs.push(("names", alert_names(content)));
+    }
+    object_of(&pairs)
 }
 
-pub fn object(judged: &Judged) -> String {
+/// `named`: with the alerts' names.
+pub(super) fn object(judged: &Judged, named: bool) -> String {
     let bytes = judged.bytes.len().to_string();
     let object = match &judged.verdict {
-        Verdict::Whole(content) => whole(content, bytes),
+        Verdict::Whole(content) => whole(content, bytes, named),
         Verdict::Cut(missing) => object_of(&[
             ("dump", text("cut")),
             ("bytes", bytes),

@@ -24,12 +24,12 @@ fn stages(content: &Content) -> Vec<String> {
     content.staged().into_iter().map(one).collect()
 }
 
-fn whole(content: &Content, bytes: usize) -> Vec<String> {
+fn whole(content: &Content, bytes: usize, named: bool) -> Vec<String> {
     let s = if content.n == 1 { "" } else { "s" };
     let mut all = vec![format!("dump of {} alert{s}: {bytes} bytes", content.n)];
     let classes = content.classes.iter().enumerate();
     all.extend(classes.map(|(k, class)| said::class(k, class)));
-    all.extend(part("causes", said::causes(content), "none"));
+    all.extend(part("causes", said::causes(content, named), "none"));
     for (title, locked) in [("locked", true), ("not locked", false)] {
         let lines = said::locks(&locks::of(content, locked));
         all.extend(part(title, lines, "nothing"));
@@ -68,10 +68,11 @@ fn damaged(read: &[u8]) -> String {
     format!("damaged: {what}, no dump and no start of one{why}; nothing of it can be trusted")
 }
 
-pub fn page(judged: &Judged) -> String {
+/// `named`: with the alerts' names.
+pub(super) fn page(judged: &Judged, named: bool) -> String {
     let length = judged.bytes.len();
     let lines = match &judged.verdict {
-        Verdict::Whole(content) => whole(content, length),
+        Verdict::Whole(content) => whole(content, length, named),
         Verdict::Cut(missing) => vec![cut(length, *missing)],
         Verdict::Damaged => vec![damaged(&judged.bytes)],
     };

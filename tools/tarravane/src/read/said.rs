@@ -1,6 +1,7 @@
 //! Parts of the page in words.
 use crate::names::whole_state;
 use crate::runs::parts;
+use crate::style::alert_name;
 use crate::summary::words::ranges;
 use handler::registers::{Field, Register, Setting, LETTERS};
 use handler::{Content, ShownClass, LOCALS};
@@ -50,15 +51,25 @@ fn wrapped(text: &str) -> Vec<String> {
     all
 }
 
+/// The alerts in a line, or each in one of its own with its name in document 002.
+fn alerts(alerts: &[usize], named: bool) -> Vec<String> {
+    let one = |i: &usize| match alert_name(*i) {
+        None => format!("  ALERT{i}"),
+        Some(name) => format!("  ALERT{i} ({name})"),
+    };
+    match alerts {
+        [] => Vec::new(),
+        _ if named => alerts.iter().map(one).collect(),
+        _ => wrapped(&format!("ALERT{}", ranges(alerts))),
+    }
+}
+
 /// The causes that are set: the alerts', then each local alert's with what it means.
-pub fn causes(content: &Content) -> Vec<String> {
-    let alerts: Vec<usize> = (0..content.n)
+pub fn causes(content: &Content, named: bool) -> Vec<String> {
+    let caused: Vec<usize> = (0..content.n)
         .filter(|i| content.is_caused(Register::Alert(Field::Cause, *i)))
         .collect();
-    let mut all = match alerts[..] {
-        [] => Vec::new(),
-        _ => wrapped(&format!("ALERT{}", ranges(&alerts))),
-    };
+    let mut all = alerts(&caused, named);
     let locals = (0..LOCALS).filter(|j| content.is_caused(Register::Local(Field::Cause, *j)));
     all.extend(locals.map(|j| format!("  LOC_ALERT{j}: {}", occurs(j))));
     all

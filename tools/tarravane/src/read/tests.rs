@@ -26,7 +26,7 @@ fn states(n: usize) -> Vec<Handler> {
 }
 
 fn lines(bytes: Vec<u8>) -> Vec<String> {
-    let page = page::page(&judged(bytes));
+    let page = page::page(&judged(bytes), false);
     page.lines().map(str::to_string).collect()
 }
 

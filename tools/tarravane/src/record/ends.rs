@@ -16,14 +16,18 @@ impl Ends {
         }
     }
 
-    /// Goes on by these records.
-    pub fn run(&mut self, edition: Edition, records: &[u8]) {
-        for record in records.chunks_exact(edition.bytes()) {
-            let mut word = [Word::default()];
-            self.handler = self.handler.batch(edition, record, &mut word).0;
-            let sent = LinePairs::sound(self.handler.links.senders.last);
-            self.receivers = self.receivers.listen(sent).receivers;
-        }
+    /// The handler after the ticks so far.
+    pub fn handler(&self) -> &Handler {
+        &self.handler
+    }
+
+    /// Goes on by a record, and gives its word.
+    pub fn tick(&mut self, edition: Edition, record: &[u8]) -> Word {
+        let mut word = [Word::default()];
+        self.handler = self.handler.batch(edition, record, &mut word).0;
+        let sent = LinePairs::sound(self.handler.links.senders.last);
+        self.receivers = self.receivers.listen(sent).receivers;
+        word[0]
     }
 
     /// The pairs of the coming tick: on these lines what the receivers send, on the others what is given.

@@ -1,25 +1,27 @@
 //! A trace that grows by the lines of a text. The bytes of a tick's record are written for it; bytes that the text has itself
-//! are passed as they are.
-use super::ends::Ends;
+//! are passed as they are. Memory stays bounded: what is written goes to the spool.
+use super::run::Run;
+use super::warnings::Warnings;
 use crate::names;
 use crate::source::AT_ONCE;
+use crate::spool::Spool;
 use crate::text::line::Line;
 use crate::trace::record::written;
 use crate::trace::Start;
 use handler::{Access, Edition, Input, Refusal};
 
-#[derive(Default)]
 pub struct Grown {
     /// Nothing before the first line.
     start: Option<Start>,
-    bytes: Vec<u8>,
+    /// Has the spool the start?
+    begun: bool,
+    spool: Spool,
     /// Ticks that are not written yet, and the line of each: the writer is asked for many at once.
     inputs: Vec<Input>,
     lines: Vec<u64>,
     cut: bool,
-    /// The receivers at the lines' ends, once a tick has asked for them, and the bytes that they have heard.
-    ends: Option<Ends>,
-    heard: usize,
+    /// The ticks as the library runs them; nothing where N is refused.
+    run: Option<Run>,
 }
 
 /// Why there is no record of such an input, if there is none.
@@ -34,6 +36,18 @@ fn refused(edition: Edition, input: &Input) -> Option<String> {
 }
 
 impl Grown {
+    pub fn new(spool: Spool) -> Grown {
+        Grown {
+            start: None,
+            begun: false,
+            spool,
+            inputs: Vec::new(),
+            lines: Vec::new(),
+            cut: false,
+            run: None,
+        }
+    }
+
     /// The edition, where the text has come to it.
     pub fn edition(&self) -> Option<Edition> {
         self.start.map(|start| start.edition)
@@ -53,73 +67,99 @@ impl Grown {
     pub fn begin(&mut self, edition: Edition, n: Option<u8>) {
         let start = Start { edition, n };
         self.start = Some(start);
-        self.bytes = start.bytes();
+        self.run = start.made().ok().map(|handler| Run::new(edition, handler));
     }
 
     pub fn is_cut(&self) -> bool {
         self.cut
     }
 
-    /// What is written so far.
-    pub fn bytes(&self) -> &[u8] {
-        &self.bytes
-    }
-
-    pub fn add(&mut self, number: u64, line: Line) -> Result<(), String> {
+    /// Adds a line so many times.
+    pub fn add(
+        &mut self,
+        number: u64,
+        times: u32,
+        line: &Line,
+        warnings: &mut Warnings,
+    ) -> Result<(), String> {
         if self.cut {
             return Err(format!("line {number}: nothing follows cut"));
         }
-        match line {
-            Line::Tick(input, 0) => self.add_tick(number, input),
-            Line::Tick(input, sound) => self.add_sound(number, input, sound),
-            Line::Raw(record) => self.add_bytes(&record),
-            Line::Cut(left) => {
-                self.cut = true;
-                self.add_bytes(&left)
+        for _ in 0..times {
+            match line {
+                Line::Tick(input, 0) => self.add_tick(number, *input, warnings)?,
+                Line::Tick(input, sound) => self.add_sound(number, *input, *sound, warnings)?,
+                Line::Raw(record) => {
+                    self.write(warnings)?;
+                    self.keep(record, &[number], warnings)?;
+                }
+                Line::Cut(left) => {
+                    self.cut = true;
+                    self.write(warnings)?;
+                    self.keep(left, &[], warnings)?;
+                }
             }
         }
+        Ok(())
     }
 
-    fn add_tick(&mut self, number: u64, input: Input) -> Result<(), String> {
+    fn add_tick(
+        &mut self,
+        number: u64,
+        input: Input,
+        warnings: &mut Warnings,
+    ) -> Result<(), String> {
         self.inputs.push(input);
         self.lines.push(number);
         match self.inputs.len() {
-            AT_ONCE => self.write(),
+            AT_ONCE => self.write(warnings),
             _ => Ok(()),
         }
     }
 
     /// A tick in which the receivers of these lines are sound. Where N is refused no tick runs, and their pairs stay at rest.
-    fn add_sound(&mut self, number: u64, input: Input, sound: u32) -> Result<(), String> {
-        self.write()?;
-        let start = self.start();
-        if self.ends.is_none() {
-            self.ends = start.made().ok().map(Ends::new);
-            self.heard = start.bytes().len();
+    fn add_sound(
+        &mut self,
+        number: u64,
+        mut input: Input,
+        sound: u32,
+        warnings: &mut Warnings,
+    ) -> Result<(), String> {
+        self.write(warnings)?;
+        if let Some(run) = &self.run {
+            input.sample.receive = run.answer(sound, input.sample.receive);
         }
-        let mut input = input;
-        if let Some(ends) = &mut self.ends {
-            ends.run(start.edition, &self.bytes[self.heard..]);
-            self.heard = self.bytes.len();
-            input.sample.receive = ends.answer(sound, input.sample.receive);
-        }
-        self.add_tick(number, input)
+        self.add_tick(number, input, warnings)
     }
 
-    fn add_bytes(&mut self, bytes: &[u8]) -> Result<(), String> {
-        self.write()?;
-        self.bytes.extend_from_slice(bytes);
-        Ok(())
+    /// Keeps bytes, which are records of these lines or what is left after the last.
+    fn keep(&mut self, bytes: &[u8], lines: &[u64], warnings: &mut Warnings) -> Result<(), String> {
+        let failed = |e| format!("cannot keep the trace: {e}");
+        if !self.begun {
+            self.begun = true;
+            self.spool.add(&self.start().bytes()).map_err(failed)?;
+        }
+        if let Some(run) = &mut self.run {
+            run.go(bytes, lines, warnings);
+        }
+        self.spool.add(bytes).map_err(failed)
     }
 
     /// Has the ticks that are left written.
-    pub fn write(&mut self) -> Result<(), String> {
+    pub fn write(&mut self, warnings: &mut Warnings) -> Result<(), String> {
         let records = written(self.start().edition, &self.inputs);
         let records = records.map_err(|refusal| self.first_refused(refusal))?;
-        self.bytes.extend(records);
+        let lines = std::mem::take(&mut self.lines);
         self.inputs.clear();
-        self.lines.clear();
-        Ok(())
+        self.keep(&records, &lines, warnings)
+    }
+
+    /// All of it; the lines that staged and were never committed are warned of.
+    pub fn end(self, warnings: &mut Warnings) -> Spool {
+        if let Some(run) = &self.run {
+            run.end(warnings);
+        }
+        self.spool
     }
 
     /// The first line whose tick is refused, and why.

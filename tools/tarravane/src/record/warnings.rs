@@ -9,13 +9,36 @@ use handler::{Access, Edition};
 /// The most lines of a text that are warned of; those after them are counted.
 const MOST: usize = 10;
 
+/// The first lines of a kind, and how many more there are.
+#[derive(Default)]
+struct Some {
+    first: Vec<String>,
+    more: u64,
+}
+
+impl Some {
+    fn add(&mut self, line: String) {
+        match self.first.len() < MOST {
+            true => self.first.push(line),
+            false => self.more += 1,
+        }
+    }
+
+    fn say(&self, of: &str) {
+        self.first.iter().for_each(|line| say(line));
+        if self.more > 0 {
+            say(&format!("{} more lines {of}", self.more));
+        }
+    }
+}
+
 #[derive(Default)]
 pub struct Warnings {
     /// Of the whole text.
     all: Vec<String>,
-    /// Of its lines.
-    lines: Vec<String>,
-    more: u64,
+    /// Of lines that name alerts at N and above, and of those that stage and are never committed.
+    alerts: Some,
+    stages: Some,
 }
 
 /// Is it a register of an alert at N or above?
@@ -57,20 +80,19 @@ impl Warnings {
         if found.is_empty() {
             return;
         }
-        if self.lines.len() < MOST {
-            let found = found.join(", ");
-            self.lines
-                .push(format!("line {number}: alerts is {n}: {found}"));
-        } else {
-            self.more += 1;
-        }
+        let found = found.join(", ");
+        self.alerts
+            .add(format!("line {number}: alerts is {n}: {found}"));
+    }
+
+    /// A line that stages and is never committed.
+    pub fn add_stage(&mut self, warning: String) {
+        self.stages.add(warning);
     }
 
     pub fn say(&self) {
-        self.lines.iter().for_each(|line| say(line));
-        if self.more > 0 {
-            say(&format!("{} more lines of such alerts", self.more));
-        }
+        self.alerts.say("of such alerts");
+        self.stages.say("that are never committed");
         self.all.iter().for_each(|line| say(line));
     }
 }

@@ -1,5 +1,6 @@
 //! The causes that a tick sets.
-use handler::Handler;
+use crate::facts::tick::Tick;
+use crate::style::Style;
 
 /// Names with the numbers that are newly 1, each as it is written after the one before: ` ALERT0`, `,5`.
 fn newly(name: &str, before: &[u8], after: &[u8]) -> Vec<String> {
@@ -16,7 +17,8 @@ fn newly(name: &str, before: &[u8], after: &[u8]) -> Vec<String> {
 }
 
 /// The causes that were 0 before the tick and are 1 after it.
-pub fn set(before: &Handler, after: &Handler) -> Vec<String> {
+pub fn set(t: &Tick) -> Vec<String> {
+    let (before, after) = (&t.before, &t.after);
     let mut all = newly("ALERT", &before.alerts.cause, &after.alerts.cause);
     all.extend(newly(
         "LOC_ALERT",
@@ -24,6 +26,15 @@ pub fn set(before: &Handler, after: &Handler) -> Vec<String> {
         &after.locals.cause,
     ));
     all
+}
+
+/// The same, each alert with its name.
+pub fn named(style: &Style, t: &Tick) -> String {
+    let (before, after) = (&t.before.alerts.cause, &t.after.alerts.cause);
+    let alerts = (0..after.len()).filter(|&i| before[i] < after[i]);
+    let alerts: String = alerts.map(|i| format!(" {}", style.alert(i))).collect();
+    let locals = newly("LOC_ALERT", &t.before.locals.cause, &t.after.locals.cause);
+    alerts + &locals.concat()
 }
 
 /// The columns that they take at least.

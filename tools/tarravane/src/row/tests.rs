@@ -2,9 +2,10 @@
 use super::{row, wide_row, HEADER, WIDTH};
 use crate::facts::played::{pinging, played};
 use crate::facts::tick::Tick;
+use crate::style::Style;
 use crate::trace::record;
 use handler::registers::Naming;
-use handler::{Access, Edition, Handler, Sample, Word, ALERTS, WORDS};
+use handler::{Access, Edition, Handler, Sample, Wires, Word, ALERTS, WORDS};
 
 /// A state as wide as any: all classes counting, every cause set, hundreds of stages open.
 fn widest(before: Handler) -> Handler {
@@ -66,6 +67,7 @@ fn tick(edition: Edition, before: Handler, first: u64) -> Tick {
         after: widest(before),
         heard: before.hear(Access::Nothing, Sample::AT_REST),
         last: Word::default(),
+        last_wires: Wires::REST,
         word: Word(words[0].0 | 0xFF << 56 | u64::from(u32::MAX)),
     }
 }
@@ -82,7 +84,13 @@ fn the_widest_row_fits() {
                 for number in [1, 9_999_999_999] {
                     tick.number = number;
                     for naming in [Naming::Ours, Naming::Papers] {
-                        let text = row(naming, &tick);
+                        let names = naming == Naming::Papers;
+                        let style = Style {
+                            naming,
+                            names,
+                            ..Style::PLAIN
+                        };
+                        let text = row(&style, &tick);
                         assert!(text.len() <= WIDTH, "{} columns: {text}", text.len());
                     }
                 }
@@ -94,7 +102,7 @@ fn the_widest_row_fits() {
 /// What stands in a text's rows from the causes' column on, in wide rows and in those of 120 columns.
 fn ends(handler: Handler, text: &str) -> Vec<[String; 2]> {
     let end = |row: String| row.get(106..).unwrap_or("").to_string();
-    let both = |t: &Tick| [wide_row(Naming::Ours, t), row(Naming::Ours, t)].map(end);
+    let both = |t: &Tick| [wide_row(&Style::PLAIN, t), row(&Style::PLAIN, t)].map(end);
     played(handler, text).iter().map(both).collect()
 }
 
@@ -109,12 +117,12 @@ fn receivers_that_are_not_ready_are_named() {
         none wires 0=10
         none";
     let wanted = [
-        ["", ""],
+        ["[disabled 0,2]", "[disabled 0,2]"],
         ["[ack 0,2]", "[ack 0,2]"],
         ["[ack 2] [pause1 0]", "^2"],
         ["[pause1 2] [pause2 0]", "^2"],
         ["[pause2 0,2]", "[pause2 0,2]"],
-        ["", ""],
+        ["[disabled 0]", "[disabled 0]"],
         ["[ack 0]", "[ack 0]"],
     ];
     assert_eq!(ends(Handler::new(3).0, text), wanted);
@@ -123,7 +131,7 @@ fn receivers_that_are_not_ready_are_named() {
 /// What stands in a text's rows after the last class.
 fn notes(handler: Handler, text: &str) -> Vec<String> {
     let end = |t: &Tick| {
-        let row = row(Naming::Ours, t);
+        let row = row(&Style::PLAIN, t);
         let (_, end) = row.rsplit_once("Idle").expect("an idle class");
         end.trim_start().to_string()
     };
@@ -139,7 +147,7 @@ fn pings_are_named() {
         write PING_TIMEOUT_CYC 2
         write PING_TIMEOUT_CYC 2";
     let wanted = [
-        "[ping 7]",
+        "-1 [ping 7]",
         "[ack 0] [ping 7] [answer 7] [turn line 0 in 10]",
         "^2",
         "^2 [1 staged]",
@@ -198,7 +206,7 @@ fn wrong_answers_are_named() {
     ];
     assert_eq!(notes(Handler::new(9).0, text), wanted);
     let all = played(Handler::new(9).0, "none receive 0-3=00");
-    let row = row(Naming::Ours, &all[0]);
+    let row = row(&Style::PLAIN, &all[0]);
     assert!(row.ends_with(" Id !4"), "{row}");
 }
 

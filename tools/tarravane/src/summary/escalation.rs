@@ -1,9 +1,13 @@
 //! One escalation of a class, from its start to its clear.
 use super::spans::Spans;
-use super::words;
+use super::telling::Telling;
+use super::words::{self, source_name};
+use crate::facts::events::Source;
 use crate::facts::starts::{Start, IDLE};
 use crate::facts::tick::Tick;
+use crate::json::{list, maybe, object, text};
 use crate::names;
+use crate::style::Style;
 
 pub struct Escalation {
     at: u64,
@@ -37,26 +41,47 @@ impl Escalation {
         state != IDLE
     }
 
-    fn by(&self) -> String {
+    fn by(&self, told: &Telling) -> String {
         match self.start.by[..] {
             [] => "the timeout".to_string(),
-            _ => words::sources(&self.start.by),
+            _ => words::sources(told.style, &self.start.by),
         }
     }
 
+    pub fn json(&self) -> String {
+        let source = |source: &Source| text(source_name(&Style::PLAIN, *source));
+        let place = |(state, tick): &(u32, u64)| {
+            object(&[
+                ("state", text(names::whole_state(*state))),
+                ("tick", tick.to_string()),
+            ])
+        };
+        object(&[
+            ("tick", self.at.to_string()),
+            ("by", list(self.start.by.iter().map(source))),
+            ("locked", self.start.locked.to_string()),
+            ("lock", self.start.lock.to_string()),
+            ("entered", list(self.entered.iter().map(place))),
+            ("cleared", maybe(self.cleared)),
+            ("lines", self.spans.json()),
+        ])
+    }
+
     /// The start and the places that it came to, and the lines on the way.
-    pub fn words(&self) -> [String; 2] {
+    pub fn words(&self, told: &Telling) -> [String; 2] {
         let Start { locked, lock, .. } = self.start;
         let locked = if locked { "locked" } else { "not locked" };
         let lock = if lock { "LOCK set" } else { "no LOCK" };
-        let first = |(state, tick): &(u32, u64)| format!("{} {tick}", names::state(*state));
+        let first =
+            |(state, tick): &(u32, u64)| format!("{} {}", names::state(*state), told.tick(*tick));
         let mut places: Vec<String> = self.entered.iter().map(first).collect();
-        places.extend(self.cleared.map(|tick| format!("cleared {tick}")));
+        let cleared = self.cleared.map(|tick| told.tick(tick));
+        places.extend(cleared.map(|tick| format!("cleared {tick}")));
         let places = places.join(", ");
-        let (at, by) = (self.at, self.by());
+        let (at, by) = (told.tick(self.at), self.by(told));
         [
             format!("start at {at} by {by}; {locked}, {lock}; {places}"),
-            self.spans.words(),
+            self.spans.words(told),
         ]
     }
 }

@@ -1,4 +1,5 @@
 //! The first tick with an event of an enabled alert, or with a local alert.
+use super::telling::Telling;
 use super::words;
 use crate::facts::events::{alerts, is_enabled, locals, Source};
 use crate::facts::tick::Tick;
@@ -19,9 +20,12 @@ impl First {
         }
     }
 
-    pub fn words(&self) -> String {
+    pub fn words(&self, told: &Telling) -> String {
         match &self.0 {
-            Some((tick, all)) => format!("first event: {} at {tick}", words::sources(all)),
+            Some((tick, all)) => {
+                let (by, tick) = (words::sources(told.style, all), told.tick(*tick));
+                format!("first event of an enabled alert: {by} at {tick}")
+            }
             None => "no event of an enabled alert".to_string(),
         }
     }

@@ -1,24 +1,12 @@
 //! The lines' pairs: when each was on, and the answers that were wrong.
+use super::seen::Seen;
+use super::telling::Telling;
 use super::words::count;
 use crate::facts::pairs::{faults, sent, Fault};
 use crate::facts::tick::Tick;
+use crate::json::{list, maybe, object, text};
 use crate::text::receive::levels;
 use handler::LINES;
-
-#[derive(Clone, Copy, Default)]
-struct Seen {
-    count: u64,
-    first: u64,
-    last: u64,
-}
-
-impl Seen {
-    fn add(&mut self, tick: u64) {
-        self.count += 1;
-        self.first = if self.count == 1 { tick } else { self.first };
-        self.last = tick;
-    }
-}
 
 #[derive(Default)]
 struct Line {
@@ -33,8 +21,9 @@ impl Line {
         self.on.count == 0 && self.wrong.count == 0
     }
 
-    fn on(&self) -> String {
+    fn on(&self, told: &Telling) -> String {
         let Seen { count, first, last } = self.on;
+        let [first, last] = [first, last].map(|tick| told.tick(tick));
         match count {
             0 => "pair never on".to_string(),
             1 => format!("pair on in 1 tick, {first}"),
@@ -43,11 +32,12 @@ impl Line {
     }
 
     /// What came first in place of the right answer, and how often.
-    fn wrong(&self) -> Option<String> {
+    fn wrong(&self, told: &Telling) -> Option<String> {
         let fault = self.first_wrong?;
         let number = count(self.wrong.count, "wrong answer");
         let (came, right) = (levels(fault.came), levels(fault.right));
         let Seen { count, first, last } = self.wrong;
+        let [first, last] = [first, last].map(|tick| told.tick(tick));
         let last = match count {
             1 => String::new(),
             _ => format!(", last at {last}"),
@@ -56,6 +46,20 @@ impl Line {
             "{number}, first at {first}: {came}, not {right}{last}"
         ))
     }
+}
+
+fn json((e, line): (usize, &Line)) -> String {
+    let wrong = line.first_wrong.map(|fault| {
+        let mut all = line.wrong.json();
+        all.push(("came", text(levels(fault.came))));
+        all.push(("right", text(levels(fault.right))));
+        object(&all)
+    });
+    object(&[
+        ("line", e.to_string()),
+        ("pair_on", object(&line.on.json())),
+        ("wrong", maybe(wrong)),
+    ])
 }
 
 #[derive(Default)]
@@ -80,13 +84,20 @@ impl Lines {
         }
     }
 
+    /// The lines whose pairs move; null where the edition has no receive pairs.
+    pub fn json(&self) -> String {
+        let loud = self.all.iter().enumerate();
+        let loud = loud.filter(|(_, line)| !line.is_quiet());
+        maybe(self.told.then(|| list(loud.map(json))))
+    }
+
     /// Each line that is not quiet, where the edition has receive pairs.
-    pub fn lines(&self) -> Vec<String> {
+    pub fn lines(&self, told: &Telling) -> Vec<String> {
         let words = |(e, line): (usize, &Line)| {
             let wrong = line
-                .wrong()
+                .wrong(told)
                 .unwrap_or_else(|| "no wrong answer".to_string());
-            format!("  line {e}: {}; {wrong}", line.on())
+            format!("  line {e}: {}; {wrong}", line.on(told))
         };
         let loud = self.all.iter().enumerate();
         let loud: Vec<String> = loud
@@ -101,9 +112,9 @@ impl Lines {
     }
 
     /// The lines with wrong answers.
-    pub fn short_lines(&self) -> Vec<String> {
+    pub fn short_lines(&self, told: &Telling) -> Vec<String> {
         let all = self.all.iter().enumerate();
-        all.filter_map(|(e, line)| Some(format!("line {e}: {}", line.wrong()?)))
+        all.filter_map(|(e, line)| Some(format!("line {e}: {}", line.wrong(told)?)))
             .collect()
     }
 }

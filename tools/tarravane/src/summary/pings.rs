@@ -1,8 +1,10 @@
 //! The ping timer: when it went on, and what became of its pings.
 use super::kept::Kept;
+use super::telling::Telling;
 use super::words::count;
 use crate::facts::tick::Tick;
 use crate::facts::timer::{begins, ping, turn, End};
+use crate::json::{maybe, object, text};
 use crate::names;
 use handler::Whose;
 
@@ -38,11 +40,24 @@ impl Pings {
             Some(End::Answered) => self.answered += 1,
             Some(End::Closed) => self.closed += 1,
             Some(End::Unsent) => self.unsent += 1,
-            Some(End::Failed) => {
-                self.failed.push((ping.of, t.number));
-            }
+            Some(End::Failed) => self.failed.push((ping.of, t.number)),
             None => {}
         }
+    }
+
+    pub fn json(&self) -> String {
+        let failed = |(of, tick): &(Whose, u64)| {
+            object(&[("of", text(names::pinged(*of))), ("tick", tick.to_string())])
+        };
+        object(&[
+            ("on", maybe(self.on)),
+            ("pings", self.sent.to_string()),
+            ("answered", self.answered.to_string()),
+            ("failed", self.failed.json(failed)),
+            ("closed", self.closed.to_string()),
+            ("unsent", self.unsent.to_string()),
+            ("open", maybe(self.open.map(|of| text(names::pinged(of))))),
+        ])
     }
 
     /// How many pings there were, and what became of them.
@@ -66,19 +81,19 @@ impl Pings {
         }
     }
 
-    /// Where the timer is on at last, that and each failed ping; where it is off, that. Whose an older edition nothing.
-    pub fn lines(&self) -> Vec<String> {
+    /// Where the timer is on at last, that and each failed ping; where it is off, that. In an older edition nothing.
+    pub fn lines(&self, told: &Telling) -> Vec<String> {
         match self.on {
-            Some(_) => self.short_lines(),
+            Some(_) => self.short_lines(told),
             None if self.told => vec!["ping timer: off".to_string()],
             None => Vec::new(),
         }
     }
 
     /// Nothing where the timer is off.
-    pub fn short_lines(&self) -> Vec<String> {
+    pub fn short_lines(&self, told: &Telling) -> Vec<String> {
         let on = match self.on {
-            Some(on) => on,
+            Some(on) => told.tick(on),
             None => return Vec::new(),
         };
         let unsent = match self.unsent {
@@ -87,7 +102,9 @@ impl Pings {
         };
         let mut all = vec![format!("ping timer: on at {on}; {}{unsent}", self.pings())];
         if self.failed.count() > 0 {
-            let one = |(of, tick): &(Whose, u64)| format!("{} at {tick}", names::pinged(*of));
+            let one = |(of, tick): &(Whose, u64)| {
+                format!("{} at {}", names::pinged(*of), told.tick(*tick))
+            };
             all.push(format!("  failed: {}", self.failed.words(one)));
         }
         all

@@ -1,7 +1,10 @@
-//! Refusals other than of clears, counted by their number.
+//! Refusals other than of clears, by their number, with their ticks.
+use super::kept::Kept;
+use super::telling::Telling;
 use super::words::count;
 use crate::facts::clears::{clear, Clear};
 use crate::facts::tick::Tick;
+use crate::json::{list, object};
 use handler::CLASSES;
 
 /// The refusals that a tick of a trace gets.
@@ -16,7 +19,7 @@ const NAMES: [(u8, &str); 7] = [
 ];
 
 #[derive(Default)]
-pub struct Refusals([u64; NAMES.len()]);
+pub struct Refusals([Kept<u64>; NAMES.len()]);
 
 impl Refusals {
     pub fn add(&mut self, t: &Tick) {
@@ -29,20 +32,35 @@ impl Refusals {
         }
         let at = NAMES.iter().position(|(number, _)| *number == refusal.0);
         if let Some(at) = at {
-            self.0[at] += 1;
+            self.0[at].push(t.number);
         }
     }
 
-    /// How often each was given, of those that were.
-    fn words(&self) -> Vec<String> {
-        let all = NAMES.iter().zip(self.0);
-        all.filter(|(_, count)| *count > 0)
-            .map(|((number, name), times)| format!("{number} ({name}): {}", count(times, "time")))
+    pub fn json(&self) -> String {
+        let one = |((number, _), ticks): (&(u8, &str), &Kept<u64>)| {
+            object(&[
+                ("refusal", number.to_string()),
+                ("ticks", ticks.json(u64::to_string)),
+            ])
+        };
+        let all = NAMES.iter().zip(&self.0);
+        list(all.filter(|(_, ticks)| ticks.count() > 0).map(one))
+    }
+
+    /// How often each was given and when, of those that were.
+    fn words(&self, told: &Telling) -> Vec<String> {
+        let one = |((number, name), ticks): (&(u8, &str), &Kept<u64>)| {
+            let times = count(ticks.count(), "time");
+            format!("{number} ({name}): {times}, {}", told.at(ticks))
+        };
+        let all = NAMES.iter().zip(&self.0);
+        all.filter(|(_, ticks)| ticks.count() > 0)
+            .map(one)
             .collect()
     }
 
-    pub fn lines(&self) -> Vec<String> {
-        let mut all = self.words();
+    pub fn lines(&self, told: &Telling) -> Vec<String> {
+        let mut all = self.words(told);
         if all.is_empty() {
             return vec!["other refusals: none".to_string()];
         }
@@ -50,10 +68,10 @@ impl Refusals {
         [vec!["other refusals, by number:".to_string()], all].concat()
     }
 
-    pub fn line(&self) -> String {
-        match &self.words()[..] {
+    pub fn line(&self, told: &Telling) -> String {
+        match &self.words(told)[..] {
             [] => "other refusals: none".to_string(),
-            all => format!("other refusals: {}", all.join(", ")),
+            all => format!("other refusals: {}", all.join("; ")),
         }
     }
 }

@@ -1,12 +1,14 @@
 //! The spans in which a class drives a line.
 use super::kept::Kept;
+use super::telling::Telling;
 use crate::facts::lines::drives;
 use crate::facts::tick::Tick;
+use crate::json::{maybe, object};
 
 struct Span {
     line: usize,
     from: u64,
-    /// The last tick; none where the line is on at the end of the trace.
+    /// The last tick; none where the line is still on.
     to: Option<u64>,
 }
 
@@ -32,16 +34,26 @@ impl Spans {
     }
 
     fn end(&mut self, line: usize, last: u64) {
-        let mut open = self.0.first_mut().iter_mut();
+        let mut open = self.0.iter_mut();
         if let Some(span) = open.find(|span| span.line == line && span.to.is_none()) {
             span.to = Some(last);
         }
     }
 
-    pub fn words(&self) -> String {
+    pub fn json(&self) -> String {
+        self.0.json(|span| {
+            object(&[
+                ("line", span.line.to_string()),
+                ("from", span.from.to_string()),
+                ("to", maybe(span.to)),
+            ])
+        })
+    }
+
+    pub fn words(&self, told: &Telling) -> String {
         let span = |span: &Span| {
-            let to = span.to.map_or("end".to_string(), |to| to.to_string());
-            format!("line {} {}-{to}", span.line, span.from)
+            let ticks = told.span(span.from, span.to, "on");
+            format!("line {} {ticks}", span.line)
         };
         match self.0.count() {
             0 => "no line".to_string(),

@@ -1,6 +1,7 @@
 //! Words that the parts of a summary share.
 use crate::facts::events::Source;
 use crate::runs::parts;
+use crate::style::Style;
 
 /// So many of a thing: `no start`, `1 start`, `2 starts`.
 pub fn count(number: u64, thing: &str) -> String {
@@ -25,8 +26,20 @@ pub fn ranges(numbers: &[usize]) -> String {
     words.collect::<Vec<_>>().join(",")
 }
 
+/// An alert, with its name where that is asked for, or a local alert.
+pub fn source_name(style: &Style, source: Source) -> String {
+    match source {
+        Source::Alert(i) => style.alert(i),
+        Source::Local(j) => format!("LOC_ALERT{j}"),
+    }
+}
+
 /// The sources of a trigger: `ALERT0,1,4-9 LOC_ALERT2`.
-pub fn sources(all: &[Source]) -> String {
+pub fn sources(style: &Style, all: &[Source]) -> String {
+    if style.names {
+        let one = |source: &Source| source_name(style, *source);
+        return all.iter().map(one).collect::<Vec<_>>().join(", ");
+    }
     let (mut alerts, mut locals) = (Vec::new(), Vec::new());
     for source in all {
         match source {
@@ -55,6 +68,7 @@ mod tests {
 
     #[test]
     fn neighbours_are_a_range() {
+        let sources = |all: &[Source]| super::sources(&Style::PLAIN, all);
         let alerts = |numbers: &[usize]| -> Vec<Source> {
             numbers.iter().map(|i| Source::Alert(*i)).collect()
         };

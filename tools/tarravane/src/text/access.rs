@@ -1,6 +1,7 @@
 //! The access of a tick: `none`, `read REGISTER` or `write REGISTER VALUE`.
 use super::word::{number, shown};
 use crate::names;
+use crate::nearest::nearest;
 use handler::registers::Naming;
 use handler::{Access, Edition};
 
@@ -11,7 +12,16 @@ fn register(edition: Edition, verb: &str, word: Option<&str>) -> Result<u16, Str
     let number = || number(word).and_then(|n| u16::try_from(n).ok());
     names::number(edition, word)
         .or_else(number)
-        .ok_or_else(|| format!("no such register: {}", shown(word)))
+        .ok_or_else(|| unknown(edition, word))
+}
+
+/// What is said of a register that there is not, with the nearest names.
+fn unknown(edition: Edition, word: &str) -> String {
+    let why = format!("no such register: {}", shown(word));
+    match &nearest(edition, word)[..] {
+        [] => why,
+        names => format!("{why} (nearest: {})", names.join(", ")),
+    }
 }
 
 fn value(word: Option<&str>) -> Result<u32, String> {
@@ -102,8 +112,9 @@ mod tests {
         for (edition, most) in [(Edition::Alerts64, 64), (Edition::Pings, 248)] {
             let read = |i: usize| parsed(edition, &format!("read ALERT{i}_EN"));
             assert!(read(most - 1).is_ok());
-            let problem = format!("no such register: ALERT{most}_EN");
-            assert_eq!(read(most), Err(problem));
+            let problem = format!("no such register: ALERT{most}_EN (nearest: ");
+            let said = read(most).expect_err("no such alert");
+            assert!(said.starts_with(&problem), "{said}");
         }
     }
 
@@ -122,7 +133,8 @@ mod tests {
             }
             for edition in [Edition::Alerts64, Edition::Alerts248] {
                 let problem = format!("no such register: {name}");
-                assert_eq!(parsed(edition, &text), Err(problem));
+                let said = parsed(edition, &text).expect_err("no timer");
+                assert!(said.starts_with(&problem), "{said}");
             }
         }
     }
@@ -137,7 +149,10 @@ mod tests {
             ("read", "read wants a register"),
             ("write", "write wants a register"),
             ("write INTR_STATE", "write wants a register and a value"),
-            ("read CLASSA_CTL", "no such register: CLASSA_CTL"),
+            (
+                "read CLASSA_CTL",
+                "no such register: CLASSA_CTL (nearest: CLASSA_CTRL)",
+            ),
             ("read 65536", "no such register: 65536"),
             ("read -1", "no such register: -1"),
             (

@@ -103,6 +103,12 @@ fn runs(wires: Wires) -> Vec<Run> {
     all
 }
 
+/// Each alert that is not at (0,1), with its pair.
+pub fn each(wires: Wires) -> impl Iterator<Item = (usize, (bool, bool))> {
+    let pair = move |i: usize| (is_set(&wires.pos, i), is_set(&wires.neg, i));
+    alert_bits::alerts(off_rest(wires)).map(move |i| (i, pair(i)))
+}
+
 /// The words of the wires, with a space before each; nothing where all are at rest.
 pub fn words(wires: Wires) -> String {
     let mut text = String::new();

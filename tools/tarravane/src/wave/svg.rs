@@ -24,7 +24,8 @@ use crate::facts::{tick::Tick, ticks::Ticks};
 use crate::output::Failure;
 use crate::progress::Progress;
 use crate::range::Range;
-use crate::summary::Summary;
+use crate::style::Style;
+use crate::summary::{Summary, Telling};
 use crate::trace::title;
 use alerts::Alerts;
 use cell::Cell;
@@ -39,11 +40,12 @@ fn drawn(
     handler: Handler,
     from: &mut impl Read,
     range: Range,
+    style: &Style,
 ) -> Result<Drawn, Failure> {
     let edition = trace.start.edition;
     let mut ticks = Ticks::new(from, trace.name, edition, handler);
     let mut progress = Progress::new("tick", trace.records());
-    let (mut folds, mut summary) = (Folds::default(), Summary::default());
+    let (mut folds, mut summary) = (Folds::default(), Summary::new(&handler));
     let mut last = Alerts::new(&Tick::before_first(edition, handler));
     let reached = ticks.walk(range.to, &mut progress, |tick| {
         summary.add(tick);
@@ -57,14 +59,19 @@ fn drawn(
     if !reached {
         range.tell_missed(ticks.number());
     }
+    let told = Telling {
+        style,
+        stopped: reached.then(|| ticks.number()),
+    };
     Ok(Drawn {
         name: shown_name(trace.name),
         title: title(edition, handler.n),
         made: made_by(edition),
         cells: folds.fitted(),
-        told: summary.short_lines(),
+        told: summary.short_lines(&told),
         ticks: ticks.number(),
         cut: ticks.cut(),
+        clock: style.clock.clone(),
     })
 }
 
@@ -73,11 +80,12 @@ pub fn write(
     trace: &Opened,
     from: &mut impl Read,
     range: Range,
+    style: &Style,
     out: &mut dyn Write,
 ) -> Result<Option<String>, Failure> {
     let (picture, damage) = match trace.start.made() {
         Ok(handler) => {
-            let drawn = drawn(trace, handler, from, range)?;
+            let drawn = drawn(trace, handler, from, range, style)?;
             (draw(&drawn), drawn.cut)
         }
         Err(why) => {

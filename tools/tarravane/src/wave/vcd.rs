@@ -7,6 +7,7 @@ mod id;
 mod moved;
 mod signal;
 mod value;
+mod view;
 
 use super::made::made_by;
 use super::opened::{shown_name, Opened};
@@ -22,6 +23,13 @@ use moved::Moved;
 use signal::scopes;
 use std::io::{Read, Write};
 use std::path::Path;
+pub use view::MARK;
+
+/// What was written: what makes the trace a damaged one, and a view for GTKWave.
+pub struct Written {
+    pub damage: Option<String>,
+    pub view: String,
+}
 
 /// What a first look at a trace finds.
 struct Looked {
@@ -77,22 +85,24 @@ impl Played<'_> {
         head(self.trace, vec![title, time])
     }
 
-    /// Writes the dump of what was looked at; of all ticks and alerts where nothing was. Tells how a cut trace ends.
+    /// Writes the dump of what was looked at; of all ticks and alerts where nothing was.
     fn dump(
         &self,
         from: &mut impl Read,
         looked: Option<&Looked>,
+        to: &str,
         out: &mut dyn Write,
-    ) -> Result<Option<String>, Failure> {
+    ) -> Result<Written, Failure> {
         let edition = self.trace.start.edition;
         let all = Moved::all(self.handler.n, edition);
         let moved = looked.map_or(&all, |looked| &looked.moved);
         let zero = Tick::before_first(edition, self.handler);
-        let mut dump = Dump::begin(out, &self.head(), &scopes(moved), &zero)?;
+        let scopes = scopes(moved);
+        let mut dump = Dump::begin(out, &self.head(), &scopes, &zero)?;
         let mut ticks = self.ticks(from);
         let mut progress = Progress::new("tick", self.trace.records());
-        let to = looked.map_or(u64::MAX, |looked| looked.ticks);
-        let reached = ticks.walk(to, &mut progress, |tick| {
+        let last = looked.map_or(u64::MAX, |looked| looked.ticks);
+        let reached = ticks.walk(last, &mut progress, |tick| {
             dump.add(tick).map_err(Failure::Write)
         })?;
         let cut = match looked {
@@ -101,29 +111,35 @@ impl Played<'_> {
             None => ticks.cut(),
         };
         dump.end(ticks.number(), cut.as_deref().unwrap_or("whole"))?;
-        Ok(cut)
+        Ok(Written {
+            damage: cut,
+            view: view::text(&shown_name(to), &scopes, ticks.number()),
+        })
     }
 }
 
-/// Writes the dump to a file of this name; `all`: also of alerts that never move. Tells what makes the trace a damaged one.
+/// Writes the dump to a file of this name; `all`: also of alerts that never move.
 pub fn write(
     trace: &Opened,
     from: &mut impl Read,
     all: bool,
     to: &str,
     out: &mut dyn Write,
-) -> Result<Option<String>, Failure> {
+) -> Result<Written, Failure> {
     let handler = match trace.start.made() {
         Ok(handler) => handler,
         Err(why) => {
             let why = format!("refused: {why}");
             dump::refused(out, &head(trace, vec![]), &why)?;
-            return Ok(Some(why));
+            return Ok(Written {
+                damage: Some(why),
+                view: view::text(&shown_name(to), &[], 0),
+            });
         }
     };
     let played = Played { trace, handler };
     if all {
-        return played.dump(from, None, out);
+        return played.dump(from, None, to, out);
     }
     let again = match trace.bytes {
         Some(_) => Again::File(trace.name),
@@ -132,7 +148,7 @@ pub fn write(
     let mut records = again.records(trace.start)?;
     let looked = played.look(&mut records)?;
     records = again.records(trace.start)?;
-    played.dump(&mut records, Some(&looked), out)
+    played.dump(&mut records, Some(&looked), to, out)
 }
 
 #[cfg(test)]

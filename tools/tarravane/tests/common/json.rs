@@ -5,6 +5,7 @@ use std::str::Chars;
 #[derive(Debug, PartialEq, Eq)]
 pub enum Json {
     Null,
+    Bool(bool),
     Number(u64),
     Text(String),
     List(Vec<Json>),
@@ -41,6 +42,18 @@ impl Json {
             Json::Number(number) => *number,
             other => panic!("no number: {other:?}"),
         }
+    }
+
+    /// The names of an object's values, as they stand.
+    pub fn names(&self) -> Vec<&str> {
+        match self {
+            Json::Object(pairs) => pairs.iter().map(|(name, _)| &name[..]).collect(),
+            other => panic!("no object: {other:?}"),
+        }
+    }
+
+    pub fn numbers(&self) -> Vec<u64> {
+        self.list().iter().map(Json::number).collect()
     }
 
     pub fn texts(&self) -> Vec<String> {
@@ -101,6 +114,14 @@ fn value(chars: &mut Peekable<Chars>) -> Json {
         'n' => {
             expect(chars, "null");
             Json::Null
+        }
+        't' => {
+            expect(chars, "true");
+            Json::Bool(true)
+        }
+        'f' => {
+            expect(chars, "false");
+            Json::Bool(false)
         }
         '"' => Json::Text(text(chars)),
         '[' => Json::List(entries(chars, ["[", "]"], value)),

@@ -81,9 +81,10 @@ pub fn ended(command: &str, words: &[&str], input: &[u8], status: i32) -> (Vec<u
     (output.stdout, said)
 }
 
-/// What a run that goes well writes.
+/// What a run that goes well writes. Texts of tests may stage what they never commit.
 pub fn given(command: &str, words: &[&str], input: &[u8]) -> Vec<u8> {
-    let (written, said) = ended(command, words, input, 0);
+    let (written, mut said) = ended(command, words, input, 0);
+    said.retain(|line| !line.contains("never committed"));
     assert!(said.is_empty(), "{said:?}");
     written
 }
@@ -94,6 +95,11 @@ pub fn refused(command: &str, words: &[&str], input: &[u8]) -> String {
     assert!(written.is_empty(), "{words:?}");
     assert_eq!(said.len(), 1, "{said:?}");
     said.remove(0)
+}
+
+/// The trace of a text; what is warned of is not looked at.
+pub fn recorded(text: &str) -> Vec<u8> {
+    ended("record", &["-"], text.as_bytes(), 0).0
 }
 
 /// What is said of a text that gives no trace.

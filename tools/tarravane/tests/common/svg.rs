@@ -38,9 +38,28 @@ fn state_name(number: u32) -> &'static str {
     }
 }
 
-/// Spans follow each other from the first tick to the last, and each state is that of all its ticks.
+/// Does the line of what never moves name it?
+fn is_still(picture: &str, one: &str, many: &str, name: char, what: &str) -> bool {
+    let lines = texts(picture, "still");
+    let mut parts = lines.iter().flat_map(|line| line.split("; "));
+    parts.any(|part| match part.split_once(": ") {
+        Some((names, is)) => {
+            let names = names.strip_prefix(many).or_else(|| names.strip_prefix(one));
+            is == what && names.map_or(false, |names| names.contains(name))
+        }
+        None => false,
+    })
+}
+
+/// Spans follow each other from the first tick to the last, and each state is that of all its ticks; a class without a span is Idle.
 fn check_states(picture: &str, all: &[Brief], k: usize, from: u64, to: u64) {
     let mut next = from;
+    if is_still(picture, "class ", "classes ", LETTERS[k], "Idle") {
+        let all = &all[from as usize - 1..to as usize];
+        assert!(all.iter().all(|t| t.states[k] == 0));
+        assert!(spans(picture, &format!("class {}", LETTERS[k])).is_empty());
+        return;
+    }
     for (state, first, last) in spans(picture, &format!("class {}", LETTERS[k])) {
         assert_eq!(first, next);
         next = last + 1;
@@ -82,6 +101,12 @@ pub fn check_spans(picture: &str, all: &[Brief], from: u64, to: u64) {
         let name = format!("interrupt {}", LETTERS[k]);
         check_output(picture, &name, &interrupts, from, to);
         check_output(picture, &format!("line {k}"), &lines, from, to);
+        let names = texts(picture, "lane");
+        let still = is_still(picture, "interrupt ", "interrupts ", LETTERS[k], "off");
+        assert_eq!(still, !names.contains(&name));
+        let line = char::from(b'0' + k as u8);
+        let still = is_still(picture, "line ", "lines ", line, "off");
+        assert_eq!(still, !names.contains(&format!("line {k}")));
     }
 }
 

@@ -14,7 +14,10 @@ pub fn wave(trace: &[u8], ending: &str, words: &[&str], status: i32) -> (String,
     let (printed, said) = ended("wave", &words, trace, status);
     assert!(printed.is_empty());
     assert!(status == 0 || said.len() == 1, "{said:?}");
-    assert_eq!(folder.names(), [format!("a.{ending}")]);
+    match ending {
+        "vcd" => assert_eq!(folder.names(), ["a.gtkw", "a.vcd"]),
+        _ => assert_eq!(folder.names(), [format!("a.{ending}")]),
+    }
     (fs::read_to_string(&file).expect("the file"), said)
 }
 

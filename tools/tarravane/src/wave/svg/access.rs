@@ -1,5 +1,6 @@
 //! What a picture shows of the accesses in one tick, or in several that are folded.
 use crate::facts::answer;
+use crate::facts::locks::locked;
 use crate::facts::stages::{change, Change};
 use crate::facts::tick::Tick;
 use crate::text::access::words;
@@ -26,6 +27,8 @@ pub struct Said {
 pub struct Accesses {
     pub count: u64,
     pub refused: u64,
+    /// Locks that fall.
+    pub locks: u64,
     /// The access of a single tick.
     pub one: Option<Said>,
 }
@@ -59,6 +62,7 @@ impl Accesses {
         Accesses {
             count: one.is_some().into(),
             refused: refused.into(),
+            locks: locked(t).len() as u64,
             one,
         }
     }
@@ -67,6 +71,7 @@ impl Accesses {
         Accesses {
             count: self.count + next.count,
             refused: self.refused + next.refused,
+            locks: self.locks + next.locks,
             one: None,
         }
     }

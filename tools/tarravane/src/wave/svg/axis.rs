@@ -2,6 +2,7 @@
 use super::cell::Cell;
 use super::layout::{text_width, LEFT, RIGHT, SMALL, WIDEST};
 use super::page::Page;
+use crate::clock::Clock;
 
 #[derive(Clone, Copy)]
 pub struct Place {
@@ -23,14 +24,8 @@ impl Place {
 pub struct Axis<'a> {
     pub cells: &'a [Cell],
     pub places: Vec<Place>,
-}
-
-/// The number of a tick; of a fold the last one and the first one, as they stand from the right.
-fn numbers(cell: &Cell) -> Vec<String> {
-    match cell.is_fold() {
-        true => vec![cell.last.to_string(), cell.first.to_string()],
-        false => vec![cell.first.to_string()],
-    }
+    /// The times of ticks, where they are given.
+    clock: Option<&'a Clock>,
 }
 
 /// The numbers in one line.
@@ -42,7 +37,7 @@ fn numbers_in_line(cell: &Cell) -> String {
 }
 
 impl<'a> Axis<'a> {
-    pub fn new(cells: &'a [Cell]) -> Axis<'a> {
+    pub fn new(cells: &'a [Cell], clock: Option<&'a Clock>) -> Axis<'a> {
         let units: usize = cells.iter().map(Cell::units).sum();
         let unit = ((RIGHT - LEFT) / units.max(1) as f64).min(WIDEST);
         let mut x = LEFT;
@@ -55,7 +50,11 @@ impl<'a> Axis<'a> {
             }
         });
         let places = places.collect();
-        Axis { cells, places }
+        Axis {
+            cells,
+            places,
+            clock,
+        }
     }
 
     pub fn with_places(&self) -> impl Iterator<Item = (&Cell, Place)> {
@@ -67,16 +66,34 @@ impl<'a> Axis<'a> {
         self.places.last().map_or(LEFT, |place| place.end())
     }
 
-    /// Have all numbers room beside each other?
+    /// The number of a tick, and its time.
+    fn number(&self, tick: u64) -> String {
+        match self.clock {
+            None => tick.to_string(),
+            Some(clock) => format!("{tick}  {}", clock.short(tick)),
+        }
+    }
+
+    /// The number of a tick; of a fold the last one and the first one, as they stand from the right.
+    fn numbers(&self, cell: &Cell) -> Vec<String> {
+        match cell.is_fold() {
+            true => vec![self.number(cell.last), self.number(cell.first)],
+            false => vec![self.number(cell.first)],
+        }
+    }
+
+    /// Have all numbers room beside each other? Times run down.
     fn is_level(&self) -> bool {
-        self.with_places()
-            .all(|(cell, place)| text_width(&numbers_in_line(cell), SMALL) < place.width)
+        self.clock.is_none()
+            && self
+                .with_places()
+                .all(|(cell, place)| text_width(&numbers_in_line(cell), SMALL) < place.width)
     }
 
     /// Draws the numbers, level where all have room, else running down.
     pub fn draw(&self, page: &mut Page) {
         let level = self.is_level();
-        let all = self.cells.iter().flat_map(numbers);
+        let all = self.cells.iter().flat_map(|cell| self.numbers(cell));
         let widths = all.map(|number| text_width(&number, SMALL));
         let height = if level {
             SMALL
@@ -96,7 +113,7 @@ impl<'a> Axis<'a> {
                     let class = format!("{class} level");
                     page.text(&class, place.middle(), bottom, &numbers_in_line(cell));
                 }
-                false => page.lines_down(class, place, bottom, &numbers(cell)),
+                false => page.lines_down(class, place, bottom, &self.numbers(cell)),
             }
         }
         page.y = bottom + 7.0;

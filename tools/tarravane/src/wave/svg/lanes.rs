@@ -6,11 +6,13 @@ mod outputs;
 mod pairs;
 mod receivers;
 mod spans;
+mod still;
 mod timer;
 
 use super::axis::Axis;
 use super::layout::LEFT;
 use super::page::Page;
+use still::Parted;
 
 /// What is free between groups of lanes.
 const BETWEEN: f64 = 7.0;
@@ -48,20 +50,31 @@ fn cut_line(page: &mut Page, axis: &Axis, from: f64, to: f64) {
     page.path("cut", axis.end() + 2.0, from, &format!("V{to:.1}"));
 }
 
+/// After a group that has a lane.
+fn leave_room(page: &mut Page, lanes: &[usize]) {
+    if !lanes.is_empty() {
+        page.y += BETWEEN;
+    }
+}
+
 pub fn draw(page: &mut Page, axis: &Axis, cut: bool) {
     let (under, top) = (page.mark(), page.y);
     alerts::draw(page, axis);
     timer::draw(page, axis);
-    classes::draw(page, axis);
-    page.y += BETWEEN;
-    outputs::draw_interrupts(page, axis);
-    page.y += BETWEEN;
-    outputs::draw_lines(page, axis);
-    page.y += BETWEEN;
+    let parted = Parted::new(axis);
+    classes::draw(page, axis, &parted.classes);
+    leave_room(page, &parted.classes);
+    outputs::draw_interrupts(page, axis, &parted.interrupts);
+    leave_room(page, &parted.interrupts);
+    outputs::draw_lines(page, axis, &parted.lines);
+    leave_room(page, &parted.lines);
+    let still = page.y;
+    page.y += parted.height() + BETWEEN;
     accesses::draw_marks(page, axis);
     let bottom = page.y;
     page.insert(under, grid(axis, top, bottom));
     tears(page, axis, top, bottom);
+    parted.draw(page, still);
     if cut {
         cut_line(page, axis, top, bottom);
     }

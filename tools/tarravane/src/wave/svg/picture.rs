@@ -6,6 +6,7 @@ use super::lanes;
 use super::layout::{MARGIN, RIGHT};
 use super::legend;
 use super::page::Page;
+use crate::clock::Clock;
 
 /// What is drawn of a trace.
 pub struct Drawn {
@@ -19,6 +20,8 @@ pub struct Drawn {
     /// The last tick that was read.
     pub ticks: u64,
     pub cut: Option<String>,
+    /// The times of ticks, where they are given.
+    pub clock: Option<Clock>,
 }
 
 /// The most characters of a name that are shown.
@@ -63,18 +66,28 @@ fn ticks(drawn: &Drawn) -> String {
     }
 }
 
+/// What the numbers of the caption are.
+fn told_by(drawn: &Drawn) -> String {
+    let clock = drawn.clock.as_ref();
+    let clock = clock.map(|clock| format!("; {}", clock.words()));
+    format!(
+        "What happened (numbers are ticks{})",
+        clock.unwrap_or_default()
+    )
+}
+
 pub fn draw(drawn: &Drawn) -> String {
     let mut page = Page::new(22.0);
     heading(&mut page, &drawn.name);
     about(&mut page, drawn);
-    line(&mut page, "head", "What happened (numbers are ticks)");
+    line(&mut page, "head", &told_by(drawn));
     caption::draw(&mut page, &drawn.told);
     if let Some(cut) = &drawn.cut {
         line(&mut page, "bad", cut);
     }
     page.y += 14.0;
     if !drawn.cells.is_empty() {
-        let axis = Axis::new(&drawn.cells);
+        let axis = Axis::new(&drawn.cells, drawn.clock.as_ref());
         axis.draw(&mut page);
         lanes::draw(&mut page, &axis, drawn.cut.is_some());
         let handshake = drawn.cells.iter().any(Cell::has_handshake);

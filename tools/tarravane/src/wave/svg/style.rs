@@ -25,6 +25,7 @@ text{font-family:'DejaVu Sans',Verdana,Arial,sans-serif;font-size:10px;fill:#000
 .small,.number,.fold,.said,.refused{font-size:8px}
 .number.level,.on,.short{text-anchor:middle}
 .fold{fill:#555;font-style:italic}
+.still{fill:#555;font-size:9px;stroke:#fff;stroke-width:3px;paint-order:stroke}
 .refused{fill:#D55E00;font-weight:bold}
 .short{font-size:7.5px}
 .s3.on,.s3.short{fill:#fff}

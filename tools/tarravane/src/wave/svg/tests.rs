@@ -8,6 +8,7 @@ use crate::facts::played::{pinging, played, records};
 use crate::facts::tick::Tick;
 use crate::output::Failure;
 use crate::range::Range;
+use crate::style::Style;
 use crate::trace::Start;
 use handler::{Edition, Handler, Place};
 
@@ -39,6 +40,7 @@ fn picture_of(handler: Handler, text: &str) -> String {
         handler,
         &mut &records(handler, text)[..],
         Range::ALL,
+        &Style::PLAIN,
     );
     match drawn {
         Ok(drawn) => picture::draw(&drawn),
@@ -76,7 +78,7 @@ fn what_matters_weighs_more() {
     use Weight::*;
     let wanted = [
         Calm, Write, Write, Read, Alert, Handshake, Calm, Alert, Alert, Handshake, Calm, Change,
-        Change, Change, Write, Turn, Change, Alert, Write, Write, Change, Turn,
+        Change, Write, Write, Turn, Change, Alert, Write, Write, Change, Turn,
     ];
     let weights: Vec<Weight> = all.iter().map(|cell| cell.weight).collect();
     assert_eq!(weights, wanted);
@@ -172,7 +174,7 @@ fn receivers_and_pings_are_drawn_where_they_move() {
             "{title}"
         );
     }
-    for missing in ["ALERT0 ping", "ALERT2 ping", "ALERT2: "] {
+    for missing in ["ALERT0 ping", "ALERT2 ping", "<title>ALERT2: "] {
         assert!(!picture.contains(missing), "{missing}");
     }
     assert!(picture.contains(">acknowledged</text>"));

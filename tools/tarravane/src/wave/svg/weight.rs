@@ -1,7 +1,8 @@
 //! How much a tick matters in a picture.
-use crate::facts::changes::{changes, turns};
+use crate::facts::changes::{happens, turns};
 use crate::facts::clears::clear;
 use crate::facts::events;
+use crate::facts::settings::switches_off;
 use crate::facts::tick::Tick;
 use crate::facts::timer::{ping, End};
 use handler::{Access, CLASSES};
@@ -14,11 +15,12 @@ pub enum Weight {
     /// A receiver goes on in its handshake.
     Handshake,
     Read,
+    /// It may configure or lock: a boot is a long run of such writes.
     Write,
     /// Wires that move, an event, a local alert, a ping that is sent, answered or closed.
     Alert,
-    /// A cause, an accumulator or a lock changes, an access is refused, a stage is dropped, the ping timer goes on, a ping
-    /// fails, or a line's answer is wrong.
+    /// A cause or an accumulator changes, an access is refused, a stage is dropped, something is switched off, the ping timer
+    /// goes on, a ping fails, or a line's answer is wrong.
     Change,
     /// A state, a line or an interrupt changes, or a clear is asked for.
     Turn,
@@ -48,7 +50,7 @@ pub fn weight(t: &Tick, moved: bool, goes_on: bool) -> Weight {
     let occurs = events::alerts(t).next().is_some() || events::locals(t).next().is_some();
     match t.input.access {
         _ if turns(t) || asks_clear => Weight::Turn,
-        _ if changes(t) => Weight::Change,
+        _ if happens(t) || switches_off(t) => Weight::Change,
         _ if moved || occurs || pings(t) => Weight::Alert,
         Access::Write(..) => Weight::Write,
         Access::Nothing if goes_on => Weight::Handshake,

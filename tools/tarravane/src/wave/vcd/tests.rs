@@ -32,7 +32,8 @@ fn fewer_ticks_are_told() {
     let looked = played.look(&mut &bytes[..]).map_err(why).expect("ticks");
     let dump = |bytes: &[u8]| {
         let mut out = Vec::new();
-        let done = played.dump(&mut &bytes[..], Some(&looked), &mut out);
+        let done = played.dump(&mut &bytes[..], Some(&looked), "a.vcd", &mut out);
+        let done = done.map(|written| written.damage);
         done.map_err(why)
     };
     assert_eq!(dump(&bytes), Ok(None));
@@ -56,7 +57,7 @@ fn alert_signals(handler: Handler, text: &str) -> Vec<String> {
     let (played, bytes) = (Played { trace, handler }, records(handler, text));
     let looked = played.look(&mut &bytes[..]).map_err(why).expect("ticks");
     let mut out = Vec::new();
-    let dump = played.dump(&mut &bytes[..], Some(&looked), &mut out);
+    let dump = played.dump(&mut &bytes[..], Some(&looked), "a.vcd", &mut out);
     dump.map_err(why).expect("a dump");
     let text = String::from_utf8(out).expect("text");
     let names = text

@@ -36,6 +36,7 @@ fn folded(cell: &Cell) -> Vec<String> {
     let inside = [
         (alerts.count, count(alerts.count, "event")),
         (accesses.count, accesses_in_words(accesses.count)),
+        (accesses.locks, count(accesses.locks, "lock")),
         (accesses.refused, format!("{} refused", accesses.refused)),
     ];
     let inside = inside.into_iter().filter(|(number, _)| *number > 0);

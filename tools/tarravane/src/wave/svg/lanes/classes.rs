@@ -6,7 +6,6 @@ use super::super::style;
 use super::spans::{spans, Span};
 use crate::names;
 use handler::registers::LETTERS;
-use handler::CLASSES;
 
 const HEIGHT: f64 = 20.0;
 const STEP: f64 = 24.0;
@@ -42,8 +41,9 @@ fn title(k: usize, span: &Span<u32>) -> String {
     format!("class {}: {state}, {}", LETTERS[k], span.ticks())
 }
 
-pub fn draw(page: &mut Page, axis: &Axis) {
-    for k in 0..CLASSES {
+/// Draws these classes.
+pub fn draw(page: &mut Page, axis: &Axis, classes: &[usize]) {
+    for &k in classes {
         page.lane_name(&format!("class {}", LETTERS[k]), HEIGHT);
         let y = page.y;
         for span in spans(axis, |cell| cell.states[k].value()) {

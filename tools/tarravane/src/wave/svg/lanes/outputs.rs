@@ -5,7 +5,6 @@ use super::super::page::Page;
 use super::spans::spans;
 use super::{begin, pairs};
 use handler::registers::LETTERS;
-use handler::{CLASSES, LINES};
 
 const HEIGHT: f64 = 10.0;
 const STEP: f64 = 14.0;
@@ -26,15 +25,17 @@ pub fn draw_lane(page: &mut Page, axis: &Axis, name: &str, of: impl Fn(&Cell) ->
     page.y += STEP;
 }
 
-pub fn draw_interrupts(page: &mut Page, axis: &Axis) {
-    for k in 0..CLASSES {
+/// Draws the interrupts of these classes.
+pub fn draw_interrupts(page: &mut Page, axis: &Axis, classes: &[usize]) {
+    for &k in classes {
         let name = format!("interrupt {}", LETTERS[k]);
         draw_lane(page, axis, &name, |cell| cell.interrupts[k].value());
     }
 }
 
-pub fn draw_lines(page: &mut Page, axis: &Axis) {
-    for e in 0..LINES {
+/// Draws these lines.
+pub fn draw_lines(page: &mut Page, axis: &Axis, lines: &[usize]) {
+    for &e in lines {
         let name = format!("line {e}");
         draw_lane(page, axis, &name, |cell| cell.lines[e].value());
         pairs::draw(page, axis, e);

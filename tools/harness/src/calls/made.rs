@@ -1,24 +1,25 @@
-//! A difference that a run over dumps found.
+//! A difference that a run found which makes something of each state: calm
+//! ticks, a dump, bytes.
 
-use crate::calls::Odd;
+use super::odd::Odd;
 use std::fmt;
 
-/// A state whose dump, or bytes made of it, show a difference.
+/// A state of which what is made shows a difference.
 #[derive(Debug)]
-pub struct Found {
+pub struct FoundMade {
     /// The seed of the state: a run of one state with it repeats it.
     pub seed: u64,
     /// How the state was made.
     pub way: &'static str,
-    /// What was written or read.
+    /// What was made of it.
     pub what: String,
     /// What differs.
     pub odd: Odd,
 }
 
-impl fmt::Display for Found {
+impl fmt::Display for FoundMade {
     fn fmt(&self, out: &mut fmt::Formatter) -> fmt::Result {
-        let Found {
+        let FoundMade {
             seed,
             way,
             what,
