@@ -110,7 +110,7 @@ add-i : tie.Need-add-i Inv-loop μ-loop
 add-i c =
     let test = c .before .before .before .before .before .before .before .before .before in
     let begin = test .before .before .before .before .before in
-    search (test .loop-test .taken, begin .pre .2, begin .good .1 .1 .1 .0 .1, needs)
+    omega (arith, test .loop-test .taken, begin .pre .2, begin .good .1 .1 .1 .0 .1)
 
 loop-less : tie.Need-loop-less Inv-loop μ-loop
 loop-less c = omega (arith, c .before .before .before .before .before .before .before .before .before .loop-test .taken)
@@ -148,7 +148,7 @@ add-i-2 : tie.Need-add-i-2 Inv-loop μ-loop
 add-i-2 c =
     let test = c .before .before .before .before .before .before .before .before .before .before .before .before .before .before .before .before .before .before in
     let begin = test .before .before .before .before .before in
-    search (test .loop-test .taken, begin .pre .2, begin .good .1 .1 .1 .0 .1, needs)
+    omega (arith, test .loop-test .taken, begin .pre .2, begin .good .1 .1 .1 .0 .1)
 
 loop-less-2 : tie.Need-loop-less-2 Inv-loop μ-loop
 loop-less-2 c = omega (arith, c .before .before .before .before .before .before .before .before .before .before .before .before .before .before .before .before .before .before .loop-test .taken)
@@ -198,7 +198,7 @@ add-i-3 : tie.Need-add-i-3 Inv-loop μ-loop
 add-i-3 c =
     let test = c .before .before .before .before .before .before .before .before .before .before .before .before .before .before .before .before .before .before .before in
     let begin = test .before .before .before .before .before in
-    search (test .loop-test .taken, begin .pre .2, begin .good .1 .1 .1 .0 .1, needs)
+    omega (arith, test .loop-test .taken, begin .pre .2, begin .good .1 .1 .1 .0 .1)
 
 loop-less-3 : tie.Need-loop-less-3 Inv-loop μ-loop
 loop-less-3 c = omega (arith, c .before .before .before .before .before .before .before .before .before .before .before .before .before .before .before .before .before .before .before .loop-test .taken)
@@ -240,7 +240,7 @@ add-i-4 : tie.Need-add-i-4 Inv-loop μ-loop
 add-i-4 c =
     let test = c .before .before .before .before .before .before .before .before .before .before .before .before .before in
     let begin = test .before .before .before .before .before in
-    search (test .loop-test .taken, begin .pre .2, begin .good .1 .1 .1 .0 .1, needs)
+    omega (arith, test .loop-test .taken, begin .pre .2, begin .good .1 .1 .1 .0 .1)
 
 loop-less-4 : tie.Need-loop-less-4 Inv-loop μ-loop
 loop-less-4 c = omega (arith, c .before .before .before .before .before .before .before .before .before .before .before .before .before .loop-test .taken)
