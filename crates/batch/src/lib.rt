@@ -1,4 +1,5 @@
 // "Traces": a batch fills a lent list of 64-bit words, one per record.
+#![tactic(auto)]
 ghost use Rattle.std.specs.Prelude.{◌≡◌, true, ◌++◌, map, ◌≤◌, length, drop};
 ghost use Rattle.escalation.specs.Escalation.{Demand3};
 ghost use Rattle.rules.specs.Answer.{number};
@@ -28,7 +29,7 @@ use trace_rules::Edition;
 
 // The state that a batch leaves, and its answer.
 #[repr(C)]
-#[derive(Drop)]
+#[derive(Clone, Copy)]
 pub struct Batched {
     pub handler: Handler,
     pub answer: i64,

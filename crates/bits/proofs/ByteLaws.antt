@@ -17,6 +17,8 @@ bytes_fit (b ∷ bs) h = one (h 0) (bytes_fit bs (λ i. h (suc i)))
 -- and what fits it is a list of bytes
 fit_byte : (count : ℕ) (bs : List ℕ) → Fit (replicate count 8) bs → (i : ℕ) → get_or bs i 0 < 2 ^ 8
 fit_byte zero [] none i = pow_pos 8
+fit_byte zero (b ∷ bs) f i = elim f [ ]
+fit_byte (suc count) [] f i = elim f [ ]
 fit_byte (suc count) (b ∷ bs) (one h f) zero = h
 fit_byte (suc count) (b ∷ bs) (one h f) (suc i) = fit_byte count bs f i
 

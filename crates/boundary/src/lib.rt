@@ -1,5 +1,6 @@
 // The handler for callers in C and Rust: making one, one tick and what it hears, a batch, calm ticks in one go, the trace writer, and the boot policy. Any state may
 // come in, and any bytes are one.
+#![tactic(auto)]
 ghost use Rattle.std.specs.Prelude.{◌≡◌, true};
 ghost use Rattle.batch.specs.BatchedBy.{BatchedBy};
 ghost use Rattle.bits.specs.Bits.{bit};
@@ -51,7 +52,7 @@ fn access_by(kind: u8, register: u16, value: u32) -> Access
 // What comes in on the wires, and the entropy word: the alerts' pairs, and the positive and negative wires of the lines' receive pairs, line 0 at the
 // lowest bit; bits from 4 up count for nothing.
 #[repr(C)]
-#[derive(Drop)]
+#[derive(Clone, Copy)]
 pub struct Wired {
     pub alerts: Wires,
     pub word: u32,

@@ -10,7 +10,7 @@ use class_rules::Class;
 use link_rules::Senders;
 
 // The classes and the senders after the ticks, and how many words the list now has.
-#[derive(Drop)]
+#[derive(Clone, Copy)]
 pub struct Advanced {
     pub classes: [Class; 4],
     pub senders: Senders,

@@ -22,7 +22,7 @@ use samples::sample;
 pub const SETTLE: u64 = 3;
 
 // The state after the ticks, its lines, and how many words the list now has.
-#[derive(Drop)]
+#[derive(Clone, Copy)]
 pub struct Rested {
     pub handler: Handler,
     pub lines: u32,

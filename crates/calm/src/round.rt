@@ -10,7 +10,7 @@ use handler::output::lines_on;
 use link_rules::Senders;
 
 // The classes and the senders after it, and the lines before and after its plain tick.
-#[derive(Drop)]
+#[derive(Clone, Copy)]
 pub struct Round {
     pub classes: [Class; 4],
     pub senders: Senders,

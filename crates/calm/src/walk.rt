@@ -14,7 +14,7 @@ use handler::tick::{no_output, tick};
 use rules::{Access, Handler, Input, Output, Sample, Wires};
 
 // The state after some ticks, the outputs of the last, and how many words the list now has.
-#[derive(Drop)]
+#[derive(Clone, Copy)]
 pub struct Walked {
     pub handler: Handler,
     pub output: Output,

@@ -1,15 +1,16 @@
 // Request (xii), skip the calm: types. Its definitions are in specs/, what is true of them in crate calm_laws.
+#![tactic(auto)]
 use rules::{Handler, Output};
 
 // Why a calm call does not begin. No access gives these, so that they stand apart from an access's refusals.
-#[derive(Drop)]
+#[derive(Clone, Copy)]
 pub enum Bar {
     BadState,
     TimerOn,
     ShortList,
 }
 
-#[derive(Drop)]
+#[derive(Clone, Copy)]
 pub enum Verdict {
     Runs,
     Barred(Bar),
@@ -17,7 +18,7 @@ pub enum Verdict {
 
 // What a calm call gives: the state after its ticks, the answer as one signed number, and the outputs of the last tick.
 #[repr(C)]
-#[derive(Drop)]
+#[derive(Clone, Copy)]
 pub struct Calmed {
     pub handler: Handler,
     pub answer: i64,

@@ -1,5 +1,6 @@
 // The cases of document 01 that are run, its slips that look right, the waves of the public papers, the handshake, the ping timer, the escalation
 // wires and a class with no lines, through the code's own tick, the trace writer and shadow writes. What each prints is held to the file `stdout`.
+#![tactic(auto)]
 mod play; // play.rt: one tick, played and shown
 mod refusals; // refusals.rt: answers of single accesses
 mod slips; // slips.rt: "Slips that look right"

@@ -1,7 +1,8 @@
 // The types of one class. Its rules are the definitions in specs/.
+#![tactic(auto)]
 
 // The states of a class ("The class is in one of seven states").
-#[derive(Drop)]
+#[derive(Clone, Copy)]
 pub enum ClassState {
     Idle,
     Timeout,
@@ -15,7 +16,7 @@ pub enum ClassState {
 // The registers of a class's block. STATE is held as its number, since any number may come in, and in 32 bits, so that a class has no
 // padding; refusal 7 judges it by its 3 bits.
 #[repr(C)]
-#[derive(Drop)]
+#[derive(Clone, Copy)]
 pub struct Class {
     // PHASE0_CYC to PHASE3_CYC
     pub lengths: [u32; 4],
@@ -38,7 +39,7 @@ pub struct Class {
 }
 
 // What a class meets in a tick.
-#[derive(Drop)]
+#[derive(Clone, Copy)]
 pub struct Signals {
     // the class has an event
     pub event: bool,
@@ -49,7 +50,7 @@ pub struct Signals {
 }
 
 // A class's state and count.
-#[derive(Drop)]
+#[derive(Clone, Copy)]
 pub struct Place {
     pub state: ClassState,
     pub count: u32,

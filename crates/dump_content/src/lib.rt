@@ -1,3 +1,4 @@
 // Request (xiv): the content of a dump, for callers.
+#![tactic(auto)]
 pub mod read;
 pub mod shown;

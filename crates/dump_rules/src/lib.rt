@@ -1,17 +1,18 @@
 // Request (xiv), the dump: types. Its definitions are in specs/, laws and examples of them in proofs/.
+#![tactic(auto)]
 
 // No register has this number or one above it.
 pub const REGISTERS: usize = 1344;
 
 // Why no dump is written.
-#[derive(Drop)]
+#[derive(Clone, Copy)]
 pub enum Unwritten {
     BadState,
     ShortBuffer,
 }
 
 // Why no content is read: the bytes are the start of a dump, cut, or no bytes; they are neither a dump nor that.
-#[derive(Drop)]
+#[derive(Clone, Copy)]
 pub enum Unread {
     CutDump,
     NoDump,
@@ -20,7 +21,7 @@ pub enum Unread {
 // ---- The content for callers. Wide enough that no struct has padding. ----
 
 #[repr(C)]
-#[derive(Drop)]
+#[derive(Clone, Copy)]
 pub struct ContentClass {
     // STATE, ESC_CNT and ACCUM_CNT
     pub state: u32,
@@ -30,7 +31,7 @@ pub struct ContentClass {
 
 // What a dump shows, by register number; where the answer is a refusal all else is 0.
 #[repr(C)]
-#[derive(Drop)]
+#[derive(Clone, Copy)]
 pub struct Content {
     pub answer: i64,
     pub n: usize,

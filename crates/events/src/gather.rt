@@ -8,7 +8,7 @@ use masks::places::{after, first, live};
 use rules::{MOST, WORDS};
 
 // The alerts' causes, and the classes that their events are assigned to.
-#[derive(Drop)]
+#[derive(Clone, Copy)]
 pub struct Gathered {
     pub cause: [u8; MOST],
     pub hits: u8,

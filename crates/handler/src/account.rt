@@ -12,7 +12,7 @@ use state::valid::is_valid;
 // The alerts with an event, enabled or not, and those whose open ping is answered, alert i at bit 63 - i % 64 of word i / 64; the local
 // alerts that occur, local 0 at the lowest bit; and the tick's answer.
 #[repr(C)]
-#[derive(Drop)]
+#[derive(Clone, Copy)]
 pub struct Account {
     pub events: [u64; WORDS],
     pub answers: [u64; WORDS],

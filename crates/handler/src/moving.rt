@@ -17,7 +17,7 @@ use samples::rest::{are_new, does_only_send, wait};
 use senders::send::send;
 
 // Whether a tick is known to be such a one, and then what it moves and puts out; and whether it is known that the count alone moves and no line is on.
-#[derive(Drop)]
+#[derive(Clone, Copy)]
 pub struct Moving {
     pub holds: bool,
     pub rests: bool,

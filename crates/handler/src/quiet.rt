@@ -15,14 +15,14 @@ use samples::links::hear_quiet;
 use samples::pace::Met;
 
 // Whether a tick is known to be such a one, and then what step 2 leaves for the links.
-#[derive(Drop)]
+#[derive(Clone, Copy)]
 pub struct Quiet {
     pub holds: bool,
     pub met: Met,
 }
 
 // What it moves beside the links, the classes and INTR_STATE, and the interrupts and lines that it puts out.
-#[derive(Drop)]
+#[derive(Clone, Copy)]
 pub struct Moved {
     pub classes: [Class; 4],
     pub state: u16,

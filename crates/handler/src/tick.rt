@@ -21,7 +21,7 @@ use state::valid::is_valid;
 
 // What a tick gives: the state, the answer as one signed number, and the outputs.
 #[repr(C)]
-#[derive(Drop)]
+#[derive(Clone, Copy)]
 pub struct Answered {
     pub handler: Handler,
     pub answer: i64,
@@ -29,7 +29,7 @@ pub struct Answered {
 }
 
 // What steps 2 to 5 give, but for the pairs: a word of a trace needs no more.
-#[derive(Drop)]
+#[derive(Clone, Copy)]
 pub struct Finished {
     pub handler: Handler,
     pub interrupts: u8,

@@ -1,1 +1,2 @@
 // Laws of the rules: definitions and theorems alone, in specs/ and proofs/.
+#![tactic(auto)]

@@ -1,7 +1,8 @@
 // The types of what stands between the wires and the registers, one alert at a time. Its rules are the definitions in specs/.
+#![tactic(auto)]
 
 // Where an alert's receiver stands in the handshake, request (viii).
-#[derive(Drop)]
+#[derive(Clone, Copy)]
 pub enum Handshake {
     // it takes a rise
     Ready,
@@ -14,7 +15,7 @@ pub enum Handshake {
 }
 
 // One alert's receiver: where it stands, the level of its ping pair, and whether a ping is open.
-#[derive(Drop)]
+#[derive(Clone, Copy)]
 pub struct Receiver {
     pub stands: Handshake,
     pub level: bool,
@@ -22,7 +23,7 @@ pub struct Receiver {
 }
 
 // What it is given in a tick: whether its ping is asked for, and its wire pair.
-#[derive(Drop)]
+#[derive(Clone, Copy)]
 pub struct Given {
     pub asks: bool,
     pub pos: bool,
@@ -30,7 +31,7 @@ pub struct Given {
 }
 
 // What it gives in a tick.
-#[derive(Drop)]
+#[derive(Clone, Copy)]
 pub struct Received {
     // the receiver after it
     pub receiver: Receiver,
@@ -44,7 +45,7 @@ pub struct Received {
 
 // The ping timer's turn, request (ix). Every value of each field means something.
 #[repr(C)]
-#[derive(Drop)]
+#[derive(Clone, Copy)]
 pub struct Turn {
     // even: an alert's turn; odd: that of line number / 2 % 4
     pub number: u8,
@@ -55,7 +56,7 @@ pub struct Turn {
 }
 
 // What the timer meets in a tick.
-#[derive(Drop)]
+#[derive(Clone, Copy)]
 pub struct Meets {
     // register 6 was 1 before the tick; it becomes 1 in this tick
     pub runs: bool,
@@ -74,7 +75,7 @@ pub struct Meets {
 }
 
 // Where an escalation receiver stands, by its pair in the ticks before, request (xi).
-#[derive(Drop)]
+#[derive(Clone, Copy)]
 pub enum Response {
     // off: nothing to answer
     Quiet,
@@ -87,21 +88,21 @@ pub enum Response {
 }
 
 // An escalation receiver on sound wires: where it stands, and the answer that it sends in the coming tick.
-#[derive(Drop)]
+#[derive(Clone, Copy)]
 pub struct SoundReceiver {
     pub stands: Response,
     pub answer: bool,
 }
 
 // An escalation receiver on any wires: broken if they were equal in the last tick.
-#[derive(Drop)]
+#[derive(Clone, Copy)]
 pub struct EscalationReceiver {
     pub sound: SoundReceiver,
     pub broken: bool,
 }
 
 // The sender of one escalation line.
-#[derive(Drop)]
+#[derive(Clone, Copy)]
 pub struct Sender {
     // the line was on in the last tick; the last tick was the first of its being on
     pub on: bool,
@@ -112,7 +113,7 @@ pub struct Sender {
 
 // The senders of the four lines, bit e for line e; bits from 4 up are never looked at. Any bits are four senders.
 #[repr(C)]
-#[derive(Drop)]
+#[derive(Clone, Copy)]
 pub struct Senders {
     pub on: u32,
     pub first: u32,
@@ -124,7 +125,7 @@ pub struct Senders {
 }
 
 // What a sender is given in a tick: the line, and whether the line's ping opens.
-#[derive(Drop)]
+#[derive(Clone, Copy)]
 pub struct Drive {
     pub line: bool,
     pub ping: bool,
@@ -132,7 +133,7 @@ pub struct Drive {
 
 // The receivers at the ends of the four lines, bit e for line e; bits from 4 up are never looked at. Any bits are four receivers, and 0 are four new ones.
 #[repr(C)]
-#[derive(Drop)]
+#[derive(Clone, Copy)]
 pub struct LineReceivers {
     // where it stands: its pair in the last tick, and 0 0 quiet, 1 0 checking, 0 1 answering, 1 1 escalating
     pub last: u32,
@@ -145,7 +146,7 @@ pub struct LineReceivers {
 
 // What they give in a tick.
 #[repr(C)]
-#[derive(Drop)]
+#[derive(Clone, Copy)]
 pub struct Listened {
     // the receivers after it
     pub receivers: LineReceivers,

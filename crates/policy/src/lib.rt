@@ -1,8 +1,9 @@
 // Request (vi), boot policy: types. Its definitions are in specs/, examples of them in proofs/, the theorems in crate boot_laws.
+#![tactic(auto)]
 use rules::Handler;
 
 // How an alert is marked: a class, or X for none.
-#[derive(Drop)]
+#[derive(Clone, Copy)]
 pub enum Mark {
     A,
     B,
@@ -11,7 +12,7 @@ pub enum Mark {
     X,
 }
 
-#[derive(Drop)]
+#[derive(Clone, Copy)]
 pub enum Lifecycle {
     Raw,
     Prod,
@@ -22,7 +23,7 @@ pub enum Lifecycle {
 }
 
 // Why a boot does not begin.
-#[derive(Drop)]
+#[derive(Clone, Copy)]
 pub enum Bar {
     BadState,
     FewAlerts,
@@ -31,7 +32,7 @@ pub enum Bar {
 // What a boot gives: the state reached, the answer as one signed number, and the register at which it stopped, 0 where at none.
 // The spare bytes are 0: they are where padding would be.
 #[repr(C)]
-#[derive(Drop)]
+#[derive(Clone, Copy)]
 pub struct Installed {
     pub handler: Handler,
     pub answer: i64,
@@ -40,7 +41,7 @@ pub struct Installed {
 }
 
 // How far a boot came, and whether it goes on.
-#[derive(Drop)]
+#[derive(Clone, Copy)]
 pub struct Progress {
     pub reached: Installed,
     pub going: bool,

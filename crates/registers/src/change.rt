@@ -20,7 +20,7 @@ use register_file::stage::stage_of;
 use rules::{Access, Answer, Effects, Handler, Refusal, Register, Setting, Verdict};
 
 // The value is stored at one register, and the code put at the stage of one; Unassigned is none.
-#[derive(Drop)]
+#[derive(Clone, Copy)]
 pub struct Change {
     pub stored: Register,
     pub value: u32,
@@ -31,7 +31,7 @@ pub struct Change {
 }
 
 // What an accepted write stores and stages.
-#[derive(Drop)]
+#[derive(Clone, Copy)]
 struct Written {
     stored: Register,
     value: u32,

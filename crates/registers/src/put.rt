@@ -14,7 +14,7 @@ use rules::{
 };
 
 // The small parts anew. Of the alerts' columns the place in each that gets the value, and of their stages' the place that gets the code; 248 is none.
-#[derive(Drop)]
+#[derive(Clone, Copy)]
 pub struct Put {
     pub classes: [Class; 4],
     pub class_stages: [ClassStages; 4],

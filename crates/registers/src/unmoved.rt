@@ -11,7 +11,7 @@ use register_file::stage::stage_of;
 use rules::{Access, Answer, Handler, Register, Verdict};
 
 // Whether an access is known to leave the state as it is, and its answer then.
-#[derive(Drop)]
+#[derive(Clone, Copy)]
 pub struct Unmoved {
     pub holds: bool,
     pub answer: Answer,

@@ -3,7 +3,7 @@ ghost use Rattle.std.specs.Prelude.{◌+◌, ◌≤◌, ◌≡◌, length, take}
 ghost use Rattle.io.specs.Counts.{IsPrefixLen};
 
 // How many bytes a read gave, and whether it failed. No bytes: the input ended or the read failed.
-#[derive(Drop)]
+#[derive(Clone, Copy)]
 pub struct Got {
     pub count: usize,
     pub failed: bool,

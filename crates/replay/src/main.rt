@@ -1,4 +1,5 @@
 // "The program reads from standard input one byte N, then records, and prints each word".
+#![tactic(auto)]
 mod input;
 mod records;
 mod rest;
@@ -19,7 +20,7 @@ use trace::edition::{ALERTS_64_BYTES, ALERTS_248_BYTES, PINGS_BYTES, WIRES_BYTES
 use trace_rules::Edition;
 
 // The state after a turn, how many bytes wait at the start of the buffer, and whether another turn follows.
-#[derive(Drop)]
+#[derive(Clone, Copy)]
 struct Turn {
     handler: Handler,
     rest: usize,
@@ -27,7 +28,7 @@ struct Turn {
 }
 
 // A byte that was read, or that the input ended.
-#[derive(Drop)]
+#[derive(Clone, Copy)]
 enum Byte {
     Read(u8),
     Missing,

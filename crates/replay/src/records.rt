@@ -16,7 +16,7 @@ pub const TURN: usize = 2048;
 pub const TEXT: usize = TURN * 17;
 
 // The state after a part's records, and how many bytes of text they gave.
-#[derive(Drop)]
+#[derive(Clone, Copy)]
 pub struct Replayed {
     pub handler: Handler,
     pub written: usize,

@@ -1,4 +1,5 @@
 // The types of the handler. Its rules, document 01 section by section, are the definitions in specs/.
+#![tactic(auto)]
 use class_rules::Class;
 use link_rules::{Meets, Senders, Turn};
 
@@ -11,7 +12,7 @@ pub const WORDS: usize = 4;
 // padding, so that equal states are equal bytes and none of a caller's old bytes leave in one; 7 judges each register by its own bits. ----
 
 #[repr(C)]
-#[derive(Drop)]
+#[derive(Clone, Copy)]
 pub struct Interrupts {
     // INTR_STATE and INTR_ENABLE: class 0 is the lowest bit
     pub state: u16,
@@ -19,7 +20,7 @@ pub struct Interrupts {
 }
 
 #[repr(C)]
-#[derive(Drop)]
+#[derive(Clone, Copy)]
 pub struct Locals {
     pub regwen: [u8; 7],
     pub en: [u8; 7],
@@ -28,7 +29,7 @@ pub struct Locals {
 }
 
 #[repr(C)]
-#[derive(Drop)]
+#[derive(Clone, Copy)]
 pub struct Alerts {
     pub regwen: [u8; MOST],
     pub en: [u8; MOST],
@@ -38,7 +39,7 @@ pub struct Alerts {
 
 // The alerts' receivers, request (viii): alert i has bit 63 - i % 64 of word i / 64 in each. Any bits are a receiver.
 #[repr(C)]
-#[derive(Drop)]
+#[derive(Clone, Copy)]
 pub struct Receivers {
     // where it stands: 0 0 ready, 0 1 acknowledged, 1 1 and 1 0 the first and the second tick of the pause
     pub pausing: [u64; WORDS],
@@ -50,7 +51,7 @@ pub struct Receivers {
 
 // What stands between the wires and the registers. Steps 3 to 5 do not look at it, and a tick writes it last.
 #[repr(C)]
-#[derive(Drop)]
+#[derive(Clone, Copy)]
 pub struct Links {
     pub receivers: Receivers,
     // request (ix): the ping timer's turn, and the lines whose ping is open, line 0 at the lowest bit; bits from 4 up are never looked at
@@ -63,7 +64,7 @@ pub struct Links {
 
 // The ping timer's registers, request (ix): REGWEN, timeout and enable.
 #[repr(C)]
-#[derive(Drop)]
+#[derive(Clone, Copy)]
 pub struct Timer {
     pub timeout: u32,
     pub regwen: u16,
@@ -73,7 +74,7 @@ pub struct Timer {
 // Stages, request (v): what the first of two equal writes left at a shadowed register. A stage's code is 0 for none, and the staged
 // value plus 1.
 #[repr(C)]
-#[derive(Drop)]
+#[derive(Clone, Copy)]
 pub struct ClassStages {
     pub lengths: [u64; 4],
     pub timeout: u64,
@@ -82,21 +83,21 @@ pub struct ClassStages {
 }
 
 #[repr(C)]
-#[derive(Drop)]
+#[derive(Clone, Copy)]
 pub struct AlertStages {
     pub en: [u8; MOST],
     pub class: [u8; MOST],
 }
 
 #[repr(C)]
-#[derive(Drop)]
+#[derive(Clone, Copy)]
 pub struct LocalStages {
     pub en: [u32; 7],
     pub class: [u32; 7],
 }
 
 #[repr(C)]
-#[derive(Drop)]
+#[derive(Clone, Copy)]
 pub struct Stages {
     pub classes: [ClassStages; 4],
     pub alerts: AlertStages,
@@ -106,7 +107,7 @@ pub struct Stages {
 }
 
 #[repr(C)]
-#[derive(Drop)]
+#[derive(Clone, Copy)]
 pub struct Handler {
     pub n: usize,
     pub links: Links,
@@ -121,7 +122,7 @@ pub struct Handler {
 // ---- Registers: a register number decoded into kind and index. ----
 
 // The registers that there is one of.
-#[derive(Drop)]
+#[derive(Clone, Copy)]
 pub enum Single {
     IntrState,
     IntrEnable,
@@ -132,7 +133,7 @@ pub enum Single {
 }
 
 // The registers of an alert or a local alert.
-#[derive(Drop)]
+#[derive(Clone, Copy)]
 pub enum Field {
     Regwen,
     En,
@@ -141,7 +142,7 @@ pub enum Field {
 }
 
 // The registers of a class's block.
-#[derive(Drop)]
+#[derive(Clone, Copy)]
 pub enum Setting {
     Regwen,
     Ctrl,
@@ -155,7 +156,7 @@ pub enum Setting {
     State,
 }
 
-#[derive(Drop)]
+#[derive(Clone, Copy)]
 pub enum Register {
     Only(Single),
     Local(Field, usize),
@@ -166,7 +167,7 @@ pub enum Register {
 
 // What can be done with a register: read and written, the same where a written 1 clears, the same where a written 1 sets and a 0 does
 // nothing, only read, only written.
-#[derive(Drop)]
+#[derive(Clone, Copy)]
 pub enum Way {
     Both,
     OneClears,
@@ -176,7 +177,7 @@ pub enum Way {
 }
 
 // What locks a register: nothing, the REGWEN or the CLR_REGWEN of its alert or class.
-#[derive(Drop)]
+#[derive(Clone, Copy)]
 pub enum Guard {
     Free,
     ByRegwen,
@@ -184,7 +185,7 @@ pub enum Guard {
 }
 
 // What is known of a register, a row of the register map.
-#[derive(Drop)]
+#[derive(Clone, Copy)]
 pub struct Row {
     pub bits: u8,
     pub way: Way,
@@ -199,7 +200,7 @@ pub struct Row {
 
 // ---- What goes in. ----
 
-#[derive(Drop)]
+#[derive(Clone, Copy)]
 pub enum Access {
     Nothing,
     Read(u16),
@@ -210,7 +211,7 @@ pub enum Access {
 
 // The wire pair of alert i is at bit 63 - i % 64 of words i / 64.
 #[repr(C)]
-#[derive(Drop)]
+#[derive(Clone, Copy)]
 pub struct Wires {
     pub pos: [u64; WORDS],
     pub neg: [u64; WORDS],
@@ -218,21 +219,21 @@ pub struct Wires {
 
 // What comes back from the lines, line 0 at the lowest bit; bits from 4 up count for nothing. Request (xi): the receive pairs' positive and negative wires;
 // request (ix): from older records, whose pairs nobody checks, the lines whose ping is answered.
-#[derive(Drop)]
+#[derive(Clone, Copy)]
 pub enum Receive {
     Pairs(u32, u32),
     Answers(u32),
 }
 
 // What comes in on the wires, and the entropy word.
-#[derive(Drop)]
+#[derive(Clone, Copy)]
 pub struct Sample {
     pub alerts: Wires,
     pub word: u32,
     pub receive: Receive,
 }
 
-#[derive(Drop)]
+#[derive(Clone, Copy)]
 pub struct Input {
     pub access: Access,
     pub sample: Sample,
@@ -240,7 +241,7 @@ pub struct Input {
 
 // ---- What comes out. ----
 
-#[derive(Drop)]
+#[derive(Clone, Copy)]
 pub enum Refusal {
     NoRegister,
     WrongWay,
@@ -257,14 +258,14 @@ pub enum Refusal {
     SillyThreshold,
 }
 
-#[derive(Drop)]
+#[derive(Clone, Copy)]
 pub enum Verdict {
     Accepted,
     Refused(Refusal),
 }
 
 // An answer, before it becomes one signed number.
-#[derive(Drop)]
+#[derive(Clone, Copy)]
 pub enum Answer {
     Done,
     Value(u32),
@@ -273,7 +274,7 @@ pub enum Answer {
 
 // The lines' pairs, line 0 at the lowest bit.
 #[repr(C)]
-#[derive(Drop)]
+#[derive(Clone, Copy)]
 pub struct LinePairs {
     pub pos: u32,
     pub neg: u32,
@@ -282,7 +283,7 @@ pub struct LinePairs {
 // Interrupts and lines, class and line 0 at the lowest bits, in 32 bits so that there is no padding; each alert's acknowledge and ping pair, and each
 // line's escalation pair.
 #[repr(C)]
-#[derive(Drop)]
+#[derive(Clone, Copy)]
 pub struct Output {
     pub interrupts: u32,
     pub lines: u32,
@@ -293,14 +294,14 @@ pub struct Output {
 
 // A handler that was made, and the signed number that answers.
 #[repr(C)]
-#[derive(Drop)]
+#[derive(Clone, Copy)]
 pub struct Made {
     pub handler: Handler,
     pub answer: i64,
 }
 
 // What step 1 hands to the later steps.
-#[derive(Drop)]
+#[derive(Clone, Copy)]
 pub struct Effects {
     // the classes with an accepted clear, class 0 at the lowest bit
     pub clears: u8,
@@ -312,7 +313,7 @@ pub struct Effects {
 
 // What step 2 hears in a tick: the receivers after it, the alerts with an event and those whose open ping is answered, alert i at bit
 // 63 - i % 64 of word i / 64, and the local alerts that are raised, local 0 at the lowest bit. Which of them are enabled is not looked at.
-#[derive(Drop)]
+#[derive(Clone, Copy)]
 pub struct Heard {
     pub receivers: Receivers,
     pub events: [u64; WORDS],
@@ -325,14 +326,14 @@ pub struct Heard {
 }
 
 // The state after step 1, the answer, and the effects.
-#[derive(Drop)]
+#[derive(Clone, Copy)]
 pub struct Accessed {
     pub handler: Handler,
     pub answer: Answer,
     pub effects: Effects,
 }
 
-#[derive(Drop)]
+#[derive(Clone, Copy)]
 pub struct Ticked {
     pub handler: Handler,
     pub answer: Answer,

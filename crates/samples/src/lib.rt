@@ -1,4 +1,5 @@
 // Step 2 of a tick: the samples. First what is heard, then what it does.
+#![tactic(auto)]
 mod receive; // receive.rt: the receivers, 64 alerts at a time
 mod back; // back.rt: what comes back from the lines
 pub mod pace; // pace.rt: the ping timer among the receivers and the lines
@@ -16,7 +17,7 @@ use events::gather::gather;
 use rules::{Handler, Heard};
 
 // The state after step 2, and the classes that something is assigned to, class 0 at the lowest bit.
-#[derive(Drop)]
+#[derive(Clone, Copy)]
 pub struct Sampled {
     pub handler: Handler,
     pub assigned: u8,

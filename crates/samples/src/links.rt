@@ -7,7 +7,7 @@ use crate::pace::{Met, pace};
 use rules::{Links, Sample, Timer, WORDS};
 
 // What is left for the links, and whether nothing else comes of step 2.
-#[derive(Drop)]
+#[derive(Clone, Copy)]
 pub struct Quiet {
     pub met: Met,
     pub quiet: bool,

@@ -16,7 +16,7 @@ pub fn raise(broken: bool, wrong: bool, alert: bool, line: bool, raises: u8) -> 
 }
 
 // The local alerts' causes, and the classes that those that occur are assigned to.
-#[derive(Drop)]
+#[derive(Clone, Copy)]
 pub struct Occurred {
     pub cause: [u8; 7],
     pub hits: u8,

@@ -17,7 +17,7 @@ use timer::turn::{does_fail, does_open, is_line, is_open};
 
 // What step 2 leaves for the links: the receivers after it, what the timer met, whether the receive pairs are checked, and whether the answers to
 // the open ping were right up to now.
-#[derive(Drop)]
+#[derive(Clone, Copy)]
 pub struct Met {
     pub receivers: Receivers,
     pub meets: Meets,
@@ -27,7 +27,7 @@ pub struct Met {
 
 // What the receivers, the lines and the timer tell: what is left for the links, who had an event, whose open ping was answered, whose wires are
 // equal, whether a line's receive pair is wrong, and whether an alert's or a line's ping fails.
-#[derive(Drop)]
+#[derive(Clone, Copy)]
 pub struct Paced {
     pub met: Met,
     pub events: [u64; WORDS],
@@ -158,7 +158,7 @@ fn meet(c: Timer, begins: bool, pingable: bool, pend: bool, word: u32, answered:
 }
 
 // What the timer meets before the wires are read, and the alert whose ping it asks for.
-#[derive(Drop)]
+#[derive(Clone, Copy)]
 pub struct Begun {
     pub meets: Meets,
     pub asks: [u64; WORDS],

@@ -7,7 +7,7 @@ use masks::places::live;
 use rules::{Receivers, WORDS, Wires};
 
 // 64 receivers, a bit of each in every word: where they stand, the level of the ping pair, the open pings.
-#[derive(Drop)]
+#[derive(Clone, Copy)]
 pub struct Word {
     pub pausing: u64,
     pub busy: u64,
@@ -16,7 +16,7 @@ pub struct Word {
 }
 
 // What 64 alerts tell: the receivers after it, who had an event, whose open ping was answered, whose wires are equal.
-#[derive(Drop)]
+#[derive(Clone, Copy)]
 pub struct Told {
     pub word: Word,
     pub events: u64,
@@ -62,7 +62,7 @@ fn receive(w: Word, asks: u64, p: u64, q: u64, live: u64) -> Told
 }
 
 // The same of all alerts.
-#[derive(Drop)]
+#[derive(Clone, Copy)]
 pub struct Received {
     pub receivers: Receivers,
     pub events: [u64; WORDS],

@@ -61,7 +61,7 @@ pub fn access_of(kind: u8, register: u16, value: u32) -> Access
 }
 
 // The fields of a record's first 64 bits.
-#[derive(Drop)]
+#[derive(Clone, Copy)]
 struct Head {
     kind: u8,
     register: u16,
@@ -70,7 +70,7 @@ struct Head {
 }
 
 // The fields behind a record's wires: the entropy word, zero bits, and what comes back from the lines.
-#[derive(Drop)]
+#[derive(Clone, Copy)]
 struct Tail {
     word: u32,
     zeros: u8,

@@ -1,1 +1,2 @@
 // Laws of traces: definitions and theorems alone, in specs/ and proofs/.
+#![tactic(auto)]
