@@ -1,0 +1,36 @@
+-- `state_of` gives the state that STATE's number names: each number by its own arm, the rest Idle.
+-- Assumes nothing.
+use borrow.Author.Tests.{ne_eqb}
+use Rattle.class_rules.specs.Class.{state_of}
+use Rattle.class.proofs.state.state_of.Goals as goal
+
+pub returns-in-1 : goal.returns-in-1
+unfolding state_of
+returns-in-1 c = rw c.in-1.is
+
+pub returns-in-3 : goal.returns-in-3
+unfolding state_of
+returns-in-3 c = rw c.in-3.is
+
+pub returns-in-4 : goal.returns-in-4
+unfolding state_of
+returns-in-4 c = rw c.in-4.is
+
+pub returns-in-5 : goal.returns-in-5
+unfolding state_of
+returns-in-5 c = rw c.in-5.is
+
+pub returns-in-6 : goal.returns-in-6
+unfolding state_of
+returns-in-6 c = rw c.in-6.is
+
+pub returns-in-7 : goal.returns-in-7
+unfolding state_of
+returns-in-7 c = rw c.in-7.is
+
+pub returns-in_default : goal.returns-in_default
+unfolding state_of
+returns-in_default c =
+    let r = c.in_default.in_default-own.rest in
+    simp
+    (ne_eqb _ _ r.0.0.0.0.0.1, ne_eqb _ _ r.0.0.0.0.1, ne_eqb _ _ r.0.0.0.1, ne_eqb _ _ r.0.0.1, ne_eqb _ _ r.0.1, ne_eqb _ _ r.1)
