@@ -1,0 +1,15 @@
+-- `row::field_row` meets its contract.
+-- Assumes nothing.
+use Rattle.map.proofs.row.field_row.Goals as goal
+
+pub returns-in-Regwen : goal.returns-in-Regwen
+returns-in-Regwen c = simp (c.line.ensures, c.in-Regwen.is)
+
+pub returns-in-En : goal.returns-in-En
+returns-in-En c = simp (c.line-in-En.ensures, c.in-En.is)
+
+pub returns-in-Class : goal.returns-in-Class
+returns-in-Class c = simp (c.line-in-Class.ensures, c.in-Class.is)
+
+pub returns-in-Cause : goal.returns-in-Cause
+returns-in-Cause c = simp (c.line-in-Cause.ensures, c.in-Cause.is)

@@ -1,0 +1,13 @@
+-- `stage::block_stage` meets its contract.
+-- Assumes nothing.
+use mathlib.Core.Path.{◌≡◌}
+use native.Mathlib.Omega.{arith}
+use lib.ListN.{length}
+use Rattle.register_file.proofs.Restages.{past_class}
+use borrow.Author.Rules.{rules}
+use Rattle.register_file.proofs.stage.block_stage.Goals as goal
+
+pub returns-else-k-lt4 : goal.returns-else-k-lt4
+returns-else-k-lt4 c =
+    let e : length c.args.classes ≡ 4 = search rules in
+    past_class c.args.classes c.args.s c.args.k (omega arith)

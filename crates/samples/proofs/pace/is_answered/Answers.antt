@@ -1,0 +1,9 @@
+-- `pace::is_answered` meets its contract.
+-- Assumes nothing.
+use Rattle.samples.proofs.pace.is_answered.Goals as goal
+
+pub returns-then-is_line : goal.returns-then-is_line
+returns-then-is_line c = simp (← c.is_line.ensures, c.if-is_line.true)
+
+pub returns-else-is_line : goal.returns-else-is_line
+returns-else-is_line c = simp (← c.is_line.ensures, c.if-is_line.false, c.is_at.ensures)

@@ -1,0 +1,23 @@
+-- `stages::classes_fit` meets its contract: after k classes the flag says whether those k fit.
+-- Assumes nothing.
+use Prim.Native.Nat.{◌≤◌, ◌-◌}
+use mathlib.Core.Path.{◌≡◌, refl}
+use native.Mathlib.Omega.{arith}
+use native.Mathlib.Numerals.{add-one}
+use borrow.Author.Rules.{rules}
+use lib.ListN.{get_or}
+use Rattle.bits.specs.Index.{all_to}
+use Rattle.rules.specs.Stages.{no_class_stages}
+use Rattle.rules.specs.Valid.{class_stages_fit}
+use Rattle.state.proofs.stages.classes_fit.Goals as goal
+
+pub loop-k-init : goal.loop-k-init
+unfolding all_to
+loop-k-init c = (search rules, refl)
+
+pub loop-k-preserved : goal.loop-k-preserved
+unfolding all_to
+loop-k-preserved c = (search rules, rw (add-one, c.class_fits-ok.ensures, ← c.loop-k.invariant.1))
+
+pub returns : goal.returns
+returns c = let e : c.loop-k.k ≡ 4 = omega arith in rw e at c.loop-k.invariant.1

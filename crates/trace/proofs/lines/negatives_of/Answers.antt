@@ -1,0 +1,10 @@
+-- `lines::negatives_of` meets its contract: four bits, each at its place.
+-- Assumes nothing.
+use borrow.Author.Rules.{rules}
+use Rattle.bits.specs.Bits.{bits_of}
+use Rattle.trace_rules.specs.Record.{negatives_of}
+use Rattle.trace.proofs.lines.negatives_of.Goals as goal
+
+pub returns : goal.returns
+unfolding negatives_of bits_of
+returns c = search rules

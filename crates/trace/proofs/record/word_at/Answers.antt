@@ -1,0 +1,10 @@
+-- `record::word_at` meets its contract: two halves.
+-- Assumes nothing.
+use native.Mathlib.Omega.{arith}
+use Rattle.trace.proofs.Records.{part_bytes}
+use Rattle.trace.proofs.record.word_at.Goals as goal
+
+pub returns : goal.returns
+returns c =
+    let a = c.args in
+    omega (arith, part_bytes 4 4 a.at a.bytes.now c.requires)
