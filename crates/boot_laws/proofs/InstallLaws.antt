@@ -50,6 +50,7 @@ pub differ : (a b : ℕ) (c : Bool) → (not (eqb a b) && c) ≡ true → (a ≡
 differ a b c t = let d = and-true (not (eqb a b)) c t in (eqb-false a b (not-true (eqb a b) d.0), d.1)
 
 nowhere : {A : Type 0} (e : Entry) (es : List Entry) → Among e es → es ≡ [] → A
+nowhere e [] m z = elim m [ ]
 nowhere e (f ∷ es) here z = absurd (cons≢nil z)
 nowhere e (f ∷ es) (there m) z = absurd (cons≢nil z)
 

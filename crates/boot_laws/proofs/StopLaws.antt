@@ -109,6 +109,7 @@ unlocked_by plan (e ∷ es) = unnamed (guard e.register) plan && unlocked_by pla
 
 unlocked_at : (plan es : List Entry) → unlocked_by plan es ≡ true → (e : Entry) → Among e es → unnamed (guard e.register) plan ≡ true
 unfolding unlocked_by
+unlocked_at plan [] u e m = elim m [ ]
 unlocked_at plan (d ∷ es) u e here = (and-true (unnamed (guard d.register) plan) (unlocked_by plan es) u).0
 unlocked_at plan (d ∷ es) u e (there m) = unlocked_at plan es (and-true (unnamed (guard d.register) plan) (unlocked_by plan es) u).1 e m
 

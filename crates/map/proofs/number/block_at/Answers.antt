@@ -13,7 +13,7 @@ use Rattle.map.proofs.number.block_at.Goals as goal
 
 pub overflow_sub-result : goal.overflow_sub-result
 overflow_sub-result c =
-    let r = c.in_default-1.rest in
+    let r = c.in-7-to-10.in_default-own.rest in
     past_six c.args.o r.0.0.0.0.0.0.0.0.1 r.0.0.0.0.0.0.0.1 r.0.0.0.0.0.0.1 r.0.0.0.0.0.1 r.0.0.0.0.1 r.0.0.0.1 r.0.0.1
 
 pub returns-in-0 : goal.returns-in-0
@@ -63,5 +63,5 @@ returns-in-7-to-10 c =
 pub returns-in_default : goal.returns-in_default
 returns-in_default c =
     let o = c.args.o in
-    let r = c.in_default-1.rest in
+    let r = c.in_default.in_default-own.rest in
     sym (block_none c.args.k o (past 12 o (past 11 o c.in_default.if-o-lt11-own.false r.0.1) r.1))

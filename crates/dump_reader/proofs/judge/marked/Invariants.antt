@@ -1,0 +1,19 @@
+use Prim.Native.Nat.{◌-◌, ◌*◌, ◌≤◌}
+use mathlib.Core.Path.{◌≡◌, refl}
+use native.Mathlib.Omega.{arith}
+use borrow.Author.Rules.{rules}
+use lib.ListN.{length, drop}
+use Rattle.formats.specs.Format.{chain}
+use Rattle.dump_rules.specs.Dump.{mark}
+use Rattle.dump_rules.specs.Reader.{mark_chain}
+use Rattle.dump_reader.specs.Steps.{step_at}
+use Rattle.dump_reader.proofs.WholeLaws.{mark_on, mark_wrong, mark_cut, mark_end}
+use Rattle.dump_reader.proofs.judge.marked.Reads as reads
+use Rattle.dump_reader.proofs.judge.marked.Lts as lts
+use Rattle.dump_reader.proofs.judge.marked.Given as goal
+
+abbrev pub invariant-loop-i : goal.invariant-loop-i
+invariant-loop-i l = (l.i ≤ 4) × (l.i ≤ length l.bytes) × (l.text ≡ mark) × (step_at (chain mark_chain 4 mark) l.bytes 0 ≡ step_at (chain mark_chain (4 - l.i) (drop l.i mark)) l.bytes (8 * l.i))
+
+abbrev pub decreases-loop-i : goal.decreases-loop-i
+decreases-loop-i l = 4 - l.i

@@ -1,0 +1,18 @@
+use Prim.Native.Nat.{◌+◌, ◌-◌, ◌*◌, ◌≤◌}
+use mathlib.Core.Path.{◌≡◌}
+use native.Mathlib.Numerals.{add-one}
+use native.Mathlib.Omega.{arith}
+use borrow.Author.Rules.{rules}
+use lib.ListN.{length}
+use lib.Seq.{sets}
+use Rattle.rules.specs.State.{words}
+use Rattle.writer.specs.Lent.{word_at}
+use Rattle.writer.specs.EntryParts.{word_bytes}
+use Rattle.writer.proofs.StoreLaws.{put_word_next}
+use Rattle.writer.proofs.records.put_words.Given as goal
+
+abbrev pub invariant-loop-v : goal.invariant-loop-v
+invariant-loop-v l = (l.v ≤ 3) × (length l.out ≡ length l.initial.out) × (l.out ≡ sets l.initial.out l.at (word_bytes l.v (word_at l.list l.i)))
+
+abbrev pub decreases-loop-v : goal.decreases-loop-v
+decreases-loop-v l = 3 - l.v
