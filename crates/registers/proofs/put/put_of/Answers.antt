@@ -10,18 +10,6 @@ use Rattle.registers.proofs.Puts.{put_whole}
 use borrow.Author.Rules.{rules}
 use Rattle.registers.proofs.put.put_of.Goals as goal
 
--- the columns have their lengths by their types
-long : (c : goal.After-change_of-c) → Long c.args.h.alerts
-long c =
-    let g = c.well_formed.0.1.1.1.1.1.0 in
-    record { regwen = search (g, rules); en = search (g, rules); class = search (g, rules); cause = search (g, rules) }
-
-en_long : (c : goal.After-change_of-c) → length c.args.h.stages.alerts.en ≡ most
-en_long c = search (c.well_formed.0.1.1.1.1.1.1.1.1.1, rules)
-
-class_long : (c : goal.After-change_of-c) → length c.args.h.stages.alerts.class ≡ most
-class_long c = search (c.well_formed.0.1.1.1.1.1.1.1.1.1, rules)
-
 pub store_alert-requires : goal.store_alert-requires
 store_alert-requires c = c.change_of-c.ensures.value_fits
 
@@ -30,8 +18,13 @@ restage_alert-requires c = c.change_of-c.ensures.code_fits
 
 pub returns : goal.returns
 returns c =
-    let f = c.before.before.before.before.before.before.before.before.before.before.before.before.before.before.before.before.before.before in
-    ap (accessed_by f.args.h) {x = _} {y = _} (λ u. record {
+    -- the columns have their lengths by their types
+    let g = c.well_formed.0.1.1.1.1.1 in
+    let long : Long c.args.h.alerts =
+    record { regwen = search (g, rules); en = search (g, rules); class = search (g, rules); cause = search (g, rules) } in
+    let en_long : length c.args.h.stages.alerts.en ≡ most = search (g, rules) in
+    let class_long : length c.args.h.stages.alerts.class ≡ most = search (g, rules) in
+    ap (accessed_by c.args.h) {x = _} {y = _} (λ u. record {
       classes = c.store_classes-stored.ensures u;
       class_stages = c.restage_classes-restaged.ensures u;
       locals = c.store_locals.ensures u;
@@ -47,7 +40,7 @@ returns c =
       en_stage = c.place_of-5.ensures u;
       class_stage = c.place_of-6.ensures u;
       code = c.restage_alert.ensures u;
-      answer = f.change_of-c.result.answer;
-      effects = f.change_of-c.result.effects;
+      answer = c.change_of-c.result.answer;
+      effects = c.change_of-c.result.effects;
     })
-    ∙ put_whole f.args.h f.args.x f.change_of-c.result (long f) (en_long f) (class_long f) f.change_of-c.ensures
+    ∙ put_whole c.args.h c.args.x c.change_of-c.result long en_long class_long c.change_of-c.ensures
