@@ -13,10 +13,8 @@ use Rattle.dump_reader.proofs.FieldSteps.{loop_on, loop_cut, loop_wrong, loop_en
 use Rattle.dump_reader.proofs.steps.classes.Reads as reads
 use Rattle.dump_reader.proofs.steps.classes.Lts as lts
 use Rattle.dump_reader.proofs.steps.class.Reads as class-reads
+use Rattle.dump_reader.proofs.steps.classes.Invariants.{four}
 use Rattle.dump_reader.proofs.steps.classes.Goals as goal
-
-abbrev four : Chain (Unit {0}) ShownClass
-four = repeated class_format no_class
 
 pub loop-k-init : goal.loop-k-init
 loop-k-init c = (search rules, search rules, refl)

@@ -13,6 +13,10 @@ use Rattle.dump_reader.proofs.steps.classes.Lts as lts
 use Rattle.dump_reader.proofs.steps.class.Reads as class-reads
 use Rattle.dump_reader.proofs.steps.classes.Given as goal
 
+-- the format of one class, that the loop repeats
+abbrev pub four : Chain (Unit {0}) ShownClass
+four = repeated class_format no_class
+
 abbrev pub invariant-loop-k : goal.invariant-loop-k
 invariant-loop-k l = (l.k ≤ 4) × (l.b ≤ 8 * length l.bytes) × (step_at classes_format l.bytes l.at ≡ step_at (chain four (4 - l.k) tt) l.bytes l.b)
 

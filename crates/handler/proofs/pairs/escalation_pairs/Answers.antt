@@ -9,16 +9,12 @@ use Rattle.bits.specs.Bits.{bit}
 use Rattle.bits.proofs.BitLaws.{bit_not}
 use Rattle.link_rules.proofs.CodeLaws.{last_back}
 use Rattle.senders.proofs.Lines.{low_bits}
-use Rattle.handler.proofs.pairs.escalation_pairs.Statement.{statement}
-use Rattle.handler.proofs.pairs.escalation_pairs.Tie as tie
+use Rattle.handler.proofs.pairs.escalation_pairs.Goals as goal
 
-returns : tie.Need-returns
+pub returns : goal.returns
 returns c =
-    let s = c.before.before.args.s in
+    let s = c.args.s in
     let h : s.last < 2 ^ 32 = search rules in
     let a = low_bits s.last _ (λ e l. sym (last_back (bit s.last e) (bit s.deep e))) in
     let b = low_bits _ _ (λ e l. bit_not 32 s.last e h (omega (arith, l)) ∙ ap not (sym (last_back (bit s.last e) (bit s.deep e)))) in
     λ i. record { pos = a i; neg = b i }
-
-pub escalation_pairs_spec : {M : Type 1} → statement M
-escalation_pairs_spec = tie.close (tie.spec returns)

@@ -3,12 +3,8 @@
 use mathlib.Core.Path.{refl}
 use Rattle.bits.specs.Bits.{word_of, bits_of}
 use Rattle.bits.specs.Index.{each_from}
-use Rattle.handler.proofs.tick.no_output.Statement.{statement}
-use Rattle.handler.proofs.tick.no_output.Tie as tie
+use Rattle.handler.proofs.tick.no_output.Goals as goal
 
-returns : tie.Need-returns
+pub returns : goal.returns
 unfolding each_from word_of bits_of
 returns c = refl
-
-pub no_output_spec : {M : Type 1} → statement M
-no_output_spec = tie.close (tie.spec returns)
