@@ -1,0 +1,11 @@
+-- `shown::classes_at` meets its contract.
+-- Assumes nothing.
+use Rattle.bits.specs.Index.{each_from}
+use Rattle.dump_content.proofs.shown.classes_at.Reads as reads
+use Rattle.dump_content.proofs.shown.classes_at.Lts as lts
+use Rattle.dump_content.proofs.shown.class_at.Reads as class-at-reads
+use Rattle.dump_content.proofs.shown.classes_at.Goals as goal
+
+pub returns : goal.returns
+unfolding each_from
+returns c = simp (c.class_at-c3.ensures, c.class_at-c2.ensures, c.class_at-c1.ensures, c.class_at-c0.ensures)
