@@ -1,6 +1,7 @@
-// The handler for callers in C and Rust: making one, one tick and what it hears, a batch, calm ticks in one go, the trace writer, and the boot policy. Any state may
-// come in, and any bytes are one.
+// The handler for callers in Rattle, and, through boundary_c, which exports each function, in C and Rust: making one, one tick and what it hears, a batch, calm ticks in
+// one go, the trace writer, and the boot policy. Any state may come in, and any bytes are one.
 #![tactic(auto)]
+
 ghost use Rattle.std.specs.Prelude.{◌≡◌, true};
 ghost use Rattle.batch.specs.BatchedBy.{BatchedBy};
 ghost use Rattle.bits.specs.Bits.{bit};
@@ -73,22 +74,14 @@ fn sample_by(w: Wired) -> Sample
 }
 
 // A handler for n alerts, or refusal 6.
-#[unsafe(no_mangle)]
-pub extern "C" fn tarravane_new(n: usize) -> Made
+pub fn tarravane_new(n: usize) -> Made
     ensures { result ≡ made n }
 {
     new(n)
 }
 
 // One tick of any state, with what comes in on the wires.
-#[unsafe(no_mangle)]
-pub extern "C" fn tarravane_tick(
-    h: Handler,
-    kind: u8,
-    register: u16,
-    value: u32,
-    wires: Wired,
-) -> Answered
+pub fn tarravane_tick(h: Handler, kind: u8, register: u16, value: u32, wires: Wired) -> Answered
     ensures { result ≡ answered (ticked h (input_by kind register value wires)) }
 {
     let access = access_by(kind, register, value);
@@ -98,14 +91,7 @@ pub extern "C" fn tarravane_tick(
 }
 
 // What that tick hears: it changes nothing.
-#[unsafe(no_mangle)]
-pub extern "C" fn tarravane_hear(
-    h: Handler,
-    kind: u8,
-    register: u16,
-    value: u32,
-    wires: Wired,
-) -> Account
+pub fn tarravane_hear(h: Handler, kind: u8, register: u16, value: u32, wires: Wired) -> Account
     ensures { result ≡ account h (input_by kind register value wires) }
 {
     let access = access_by(kind, register, value);
@@ -115,8 +101,7 @@ pub extern "C" fn tarravane_hear(
 }
 
 // The ticks of the old records, of 24 bytes, a word for each.
-#[unsafe(no_mangle)]
-pub extern "C" fn tarravane_batch_24(h: Handler, bytes: &[u8], out: &mut [u64]) -> Batched
+pub fn tarravane_batch_24(h: Handler, bytes: &[u8], out: &mut [u64]) -> Batched
     ensures batched_by { BatchedBy Edition.Alerts64 h bytes.now out.old result out.new }
     ensures demand3 { valid h ≡ true → Demand3 h (batch_inputs Edition.Alerts64 (batch_verdict Edition.Alerts64 h bytes.now out.old) bytes.now) }
 {
@@ -124,8 +109,7 @@ pub extern "C" fn tarravane_batch_24(h: Handler, bytes: &[u8], out: &mut [u64]) 
 }
 
 // The ticks of the records of 70 bytes, a word for each.
-#[unsafe(no_mangle)]
-pub extern "C" fn tarravane_batch_70(h: Handler, bytes: &[u8], out: &mut [u64]) -> Batched
+pub fn tarravane_batch_70(h: Handler, bytes: &[u8], out: &mut [u64]) -> Batched
     ensures batched_by { BatchedBy Edition.Alerts248 h bytes.now out.old result out.new }
     ensures demand3 { valid h ≡ true → Demand3 h (batch_inputs Edition.Alerts248 (batch_verdict Edition.Alerts248 h bytes.now out.old) bytes.now) }
 {
@@ -133,8 +117,7 @@ pub extern "C" fn tarravane_batch_70(h: Handler, bytes: &[u8], out: &mut [u64]) 
 }
 
 // The ticks of the records of 75 bytes with the ping timer's word and answers, first byte 254, a word for each.
-#[unsafe(no_mangle)]
-pub extern "C" fn tarravane_batch_pings(h: Handler, bytes: &[u8], out: &mut [u64]) -> Batched
+pub fn tarravane_batch_pings(h: Handler, bytes: &[u8], out: &mut [u64]) -> Batched
     ensures batched_by { BatchedBy Edition.Pings h bytes.now out.old result out.new }
     ensures demand3 { valid h ≡ true → Demand3 h (batch_inputs Edition.Pings (batch_verdict Edition.Pings h bytes.now out.old) bytes.now) }
 {
@@ -142,8 +125,7 @@ pub extern "C" fn tarravane_batch_pings(h: Handler, bytes: &[u8], out: &mut [u64
 }
 
 // The ticks of the newest records, of 75 bytes with the word and receive pairs, first byte 253, a word for each.
-#[unsafe(no_mangle)]
-pub extern "C" fn tarravane_batch_wires(h: Handler, bytes: &[u8], out: &mut [u64]) -> Batched
+pub fn tarravane_batch_wires(h: Handler, bytes: &[u8], out: &mut [u64]) -> Batched
     ensures batched_by { BatchedBy Edition.Wires h bytes.now out.old result out.new }
     ensures demand3 { valid h ≡ true → Demand3 h (batch_inputs Edition.Wires (batch_verdict Edition.Wires h bytes.now out.old) bytes.now) }
 {
@@ -151,16 +133,14 @@ pub extern "C" fn tarravane_batch_wires(h: Handler, bytes: &[u8], out: &mut [u64
 }
 
 // Calm ticks in one go: as many, without access and on these wires; a word for each tick at which a line changed.
-#[unsafe(no_mangle)]
-pub extern "C" fn tarravane_calm(h: Handler, wires: Wires, ticks: u32, out: &mut [u64]) -> Calmed
+pub fn tarravane_calm(h: Handler, wires: Wires, ticks: u32, out: &mut [u64]) -> Calmed
     ensures { CalmedBy h wires ticks out.old result out.new }
 {
     calm(h, wires, ticks, out)
 }
 
 // A record for each entry of the lent lists, into the lent buffer.
-#[unsafe(no_mangle)]
-pub extern "C" fn tarravane_record(
+pub fn tarravane_record(
     kinds: &[u8],
     registers: &[u16],
     values: &[u32],
@@ -189,8 +169,7 @@ pub extern "C" fn tarravane_record(
 }
 
 // The boot policy of the lifecycle of this number, installed and read back.
-#[unsafe(no_mangle)]
-pub extern "C" fn tarravane_install(h: Handler, lifecycle: u8) -> Installed
+pub fn tarravane_install(h: Handler, lifecycle: u8) -> Installed
     ensures { result ≡ boot (lifecycle_of lifecycle) h }
 {
     let l = lifecycle_of(lifecycle);
@@ -198,24 +177,21 @@ pub extern "C" fn tarravane_install(h: Handler, lifecycle: u8) -> Installed
 }
 
 // A tick of the receivers at the lines' ends, in which the lines' pairs are these: what they send back, what they see, and the receivers after it.
-#[unsafe(no_mangle)]
-pub extern "C" fn tarravane_receive(r: LineReceivers, positive: u32, negative: u32) -> Listened
+pub fn tarravane_receive(r: LineReceivers, positive: u32, negative: u32) -> Listened
     ensures { result ≡ listened_all r (bit positive) (bit negative) }
 {
     listen(r, positive, negative)
 }
 
 // The dump of any state, into the lent buffer.
-#[unsafe(no_mangle)]
-pub extern "C" fn tarravane_dump(h: Handler, out: &mut [u8]) -> i64
+pub fn tarravane_dump(h: Handler, out: &mut [u8]) -> i64
     ensures { WroteDump h out.old result out.new }
 {
     write_dump(h, out)
 }
 
 // The content of any bytes, if they are a dump.
-#[unsafe(no_mangle)]
-pub extern "C" fn tarravane_read_dump(bytes: &[u8]) -> Content
+pub fn tarravane_read_dump(bytes: &[u8]) -> Content
     ensures { result ≡ content_by (read_dump bytes.now) }
 {
     read_dump(bytes)
