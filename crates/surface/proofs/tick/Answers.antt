@@ -1,0 +1,13 @@
+-- `tick` gives each part of what `tarravane_tick` promises.
+-- Assumes nothing.
+use Rattle.surface.proofs.TickParts.{tick_parts}
+use Rattle.surface.proofs.tick.Goals as goal
+
+pub returns : goal.returns
+returns c =
+    let e = tick_parts _ _ c.tarravane_tick.ensures in
+    record {
+      handler_value = e.0;
+      answer = e.1.0;
+      outputs = e.1.1;
+    }
