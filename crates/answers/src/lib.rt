@@ -1,5 +1,6 @@
 // "Numbers that come back": an answer as one signed 64-bit number.
 #![tactic(auto)]
+
 ghost use Rattle.std.specs.Prelude.{◌≡◌, ◌<◌};
 ghost use Rattle.rules.specs.Answer.{refusal_number, number};
 ghost use Rattle.answers.specs.Meaning.{Meaning};

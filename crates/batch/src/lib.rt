@@ -1,5 +1,6 @@
 // "Traces": a batch fills a lent list of 64-bit words, one per record.
 #![tactic(auto)]
+
 ghost use Rattle.std.specs.Prelude.{◌≡◌, true, ◌++◌, map, ◌≤◌, length, drop};
 ghost use Rattle.escalation.specs.Escalation.{Demand3};
 ghost use Rattle.rules.specs.Answer.{number};

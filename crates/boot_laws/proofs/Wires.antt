@@ -1,6 +1,6 @@
 -- Request (xi) through a boot: what is at rest stays at rest, so that no sender waits for a 1; and where one does, local 3 occurs.
 -- Assumes nothing.
-use Prim.Native.Nat.{ℕ, zero, suc, ◌≤◌, ◌<◌}
+use Prim.Native.Nat.{ℕ, zero, suc, ◌<◌}
 use mathlib.Core.Path.{◌≡◌, refl, sym, ap, ap₂, ◌∙◌, subst}
 use mathlib.Core.Bool.{Bool, true, false, and-false, ◌&&◌, ◌||◌}
 use mathlib.Core.Logic.{inl, inr}

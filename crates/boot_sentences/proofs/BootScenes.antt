@@ -87,7 +87,7 @@ boots n = n
 
 -- ── a difference ──
 
--- by `only-installer` and `holds-installer` an installer gives what the policy's boot gives; where f gives something else, it is none
+-- by `only_installer` and `holds_installer` an installer gives what the policy's boot gives; where f gives something else, it is none
 pub differs : (f : ℕ → Handler → Installed) (c : ℕ) (h : Handler) → Sized h → (view : Installed → ℕ) (x y : ℕ) → view (f c h) ≡ x → view (installed c h) ≡ y
     → ¬ (x ≡ y) → ¬ Installer f
 differs f c h s view x y a b d p = d (sym a ∙ ap view (only_installer f installed p holds_installer c h s) ∙ b)

@@ -1,5 +1,5 @@
 -- Demand 3 across calls: tick, batch, boot and calm calls one after another, each on the state that the last one left, are one list of ticks, and
--- demand 3 is true of it. proofs/Calls.antt proves it of every sequence of calls. `ticked`, `batch`, `boot`, `calmed` and `calmedList` are what the
+-- demand 3 is true of it. proofs/Calls.antt proves it of every sequence of calls. `ticked`, `batch`, `boot`, `calmed` and `calmed_list` are what the
 -- contracts of the calls cite.
 -- Assumes nothing.
 use Rattle.std.specs.Prelude.{ℕ, suc, ◌-◌, ◌≤◌, ◌<◌, ◌≡◌, ◌≢◌, Bool, true, false, List, [], ◌∷◌, ◌++◌, map, ℤ, pos, negsuc, get_or, length, take, replicate}

@@ -1,17 +1,16 @@
 -- Request (xii): what a calm call gives in each case of its verdict.
 -- Assumes nothing.
 use Prim.Native.Nat.{ℕ, ◌≤◌, ◌<◌}
-use mathlib.Core.Path.{◌≡◌, refl, sym, ap, ap₂, ◌∙◌}
+use mathlib.Core.Path.{◌≡◌, refl, sym, ap, ◌∙◌}
 use mathlib.Core.Bool.{Bool, true, false, cond, not}
 use mathlib.Core.List.{List}
 use borrow.Author.Tests.{eq-eqb, ne_eqb, lt-ltb, le-ltb}
-use lib.Dec.{eqb, ltb}
+use lib.Dec.{ltb}
 use lib.IntN.{ℤ, pos, neg_ℤ}
 use lib.ListN.{length}
 use Rattle.calm_laws.proofs.CalmRuns.{twenty_are_enough}
-use Rattle.calm_rules.specs.Call.{bar_number, calm_verdict, calmed_by, list_by, calmed, calmed_list}
+use Rattle.calm_rules.specs.Call.{calm_verdict, calmed_by, list_by, calmed, calmed_list}
 use Rattle.calm_rules.specs.Ticks.{calm_changes}
-use Rattle.calm_rules.specs.declared.Bar.{Bar}
 use Rattle.calm_rules.specs.declared.Bar.TheVariants.{BadState, TimerOn, ShortList}
 use Rattle.calm_rules.specs.declared.Calmed.{Calmed}
 use Rattle.calm_rules.specs.declared.Verdict.{Verdict}
@@ -20,7 +19,6 @@ use Rattle.rules.specs.State.{is_on}
 use Rattle.rules.specs.Tick.{no_output}
 use Rattle.rules.specs.Valid.{valid}
 use Rattle.rules.specs.declared.Handler.{Handler}
-use Rattle.rules.specs.declared.Output.{Output}
 use Rattle.rules.specs.declared.Wires.{Wires}
 use Rattle.calm.specs.CalmedBy.{CalmedBy}
 use Rattle.calm.specs.Walk.{Walk}

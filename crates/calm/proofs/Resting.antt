@@ -1,21 +1,20 @@
 -- Request (xii): plain ticks that settle a state, the engine's ticks after them, and one plain tick more, are that many plain ticks.
 -- Assumes nothing.
-use Prim.Native.Nat.{ℕ, zero, suc, ◌+◌, ◌^◌, ◌≤◌, ◌<◌}
+use Prim.Native.Nat.{ℕ, zero, suc, ◌+◌, ◌≤◌, ◌<◌}
 use mathlib.Core.Path.{◌≡◌, refl, sym, ap, ap₂, ◌∙◌, subst}
-use mathlib.Core.Bool.{Bool, true, false, ◌||◌}
+use mathlib.Core.Bool.{Bool, true, false}
 use mathlib.Core.List.{List, ◌++◌}
 use native.Mathlib.Omega.{arith}
 use lib.ListN.{length, length-append}
 use Rattle.bits.proofs.BitLaws.{bit_bits_of}
 use Rattle.bits.proofs.IndexLaws.{each_ext, length_each}
 use Rattle.bits.specs.Bits.{bit, bits_of}
-use Rattle.bits.specs.Index.{each}
-use Rattle.calm_laws.proofs.CalmRuns.{calm_valid, calm_off, calm_next, output_lines, settled_now, valid_four, calm_run_law, calm_changes_law, room_left}
+use Rattle.calm_laws.proofs.CalmRuns.{calm_valid, calm_next, output_lines, settled_now, valid_four, calm_run_law, calm_changes_law}
 use Rattle.calm_laws.proofs.PlainTick.{bits_ext, assigned_is}
 use Rattle.calm_laws.specs.Four as four
 use Rattle.laws.specs.OutputMasks.{lines_on}
 use Rattle.calm_laws.specs.Four.{class_of, met, four_step, changes, senders_after, changes_in, FourFit, lent, Running}
-use Rattle.calm_laws.specs.Settled.{calm_assigned, calm_class_event, calm_interrupt, calm_signals, calm_after, moved, Settled, settle_before, settle_ticks}
+use Rattle.calm_laws.specs.Settled.{calm_class_event, calm_interrupt, calm_signals, calm_after, moved, Settled, settle_before, settle_ticks}
 use Rattle.calm_laws.specs.Steady.{steady}
 use Rattle.calm_rules.specs.Ticks.{calm_input, calm_run, calm_output, change, calm_changes}
 use Rattle.class_rules.specs.Class.{no_class}
@@ -26,11 +25,9 @@ use Rattle.link_rules.specs.Senders.{sent_all}
 use Rattle.link_rules.specs.declared.Senders.{Senders}
 use Rattle.rules.specs.Samples.{heard, assigned}
 use Rattle.rules.specs.State.{is_on}
-use Rattle.rules.specs.Tick.{lines, ticked}
+use Rattle.rules.specs.Tick.{lines}
 use Rattle.rules.specs.Valid.{valid}
-use Rattle.rules.specs.declared.Effects.{Effects}
 use Rattle.rules.specs.declared.Handler.{Handler}
-use Rattle.rules.specs.declared.Output.{Output}
 use Rattle.rules.specs.declared.Wires.{Wires}
 use Rattle.calm.specs.RestBy.{RestBy}
 use Rattle.calm.specs.Walk.{NextBy, Walk}

@@ -1,23 +1,21 @@
 -- Request (xii): plain calm ticks one by one, and words after words in the lent list.
 -- Assumes nothing.
 use Prim.Native.Nat.{ℕ, suc, ◌+◌, ◌≤◌, ◌<◌}
-use mathlib.Core.Path.{◌≡◌, refl, sym, ap, ap₂, ◌∙◌, subst}
+use mathlib.Core.Path.{◌≡◌, refl, sym, ap, ap₂, ◌∙◌}
 use mathlib.Core.Bool.{Bool, true, false, cond}
-use mathlib.Core.List.{List, [], ◌∷◌, ◌++◌, append-nil}
+use mathlib.Core.List.{List, [], ◌∷◌, ◌++◌}
 use native.Mathlib.Omega.{arith}
 use native.Mathlib.Nat.{add-zero}
 use borrow.Author.Tests.{eq-eqb, ne_eqb}
-use lib.Dec.{eqb}
 use lib.ListN.{length, drop, set, length-append, length-set}
 use lib.Seq.{take_at, drop-append-add, drop-drop}
-use Rattle.calm_laws.proofs.CalmRuns.{calm_valid, calm_off, calm_next, output_lines, room_left, no_clear_in}
+use Rattle.calm_laws.proofs.CalmRuns.{calm_valid, calm_off, output_lines, room_left, no_clear_in}
 use Rattle.calm_laws.proofs.Classes.{lent_none, lent_next, step_changes_fall}
 use Rattle.calm_laws.proofs.PlainTick.{calm_after_law}
 use Rattle.laws.specs.OutputMasks.{interrupts_on, lines_on}
-use Rattle.calm_laws.specs.Four.{four_step, changes_in, lent}
+use Rattle.calm_laws.specs.Four.{changes_in, lent}
 use Rattle.calm_laws.specs.Settled.{calm_signals, calm_after}
 use Rattle.calm_rules.specs.Ticks.{calm_input, calm_run, given_output, calm_output, change_word, change, calm_changes}
-use Rattle.class_rules.specs.declared.Class.{Class}
 use Rattle.laws.proofs.Valid.Refusal7.{ticked_handler, ticked_lines}
 use Rattle.rules.specs.State.{is_on}
 use Rattle.rules.specs.Tick.{interrupts, lines, no_output, ticked}

@@ -1,5 +1,6 @@
 // Request (xii): calm ticks, without access and on steady wires, in one go.
 #![tactic(auto)]
+
 pub mod stand; // stand.rt: how long a class stands in its state
 pub mod jump; // jump.rt: what it is then
 pub mod four; // four.rt: the four classes

@@ -1,8 +1,8 @@
 -- Request (xii): a calm call is the list of its ticks, and one that is refused is the empty list; the words that it leaves, and what stays.
 -- Assumes nothing.
 use Prim.Native.Nat.{ℕ}
-use mathlib.Core.Path.{◌≡◌, refl, sym, ap, ◌∙◌}
-use mathlib.Core.List.{List, []}
+use mathlib.Core.Path.{◌≡◌, refl}
+use mathlib.Core.List.{List}
 use lib.ListN.{length, take, drop}
 use lib.Seq.{take_at, drop_at}
 use Rattle.calm_rules.specs.Call.{calm_verdict, inputs_by, words_by, calmed_by, list_by, calmed, calmed_list, call_inputs, call_words}

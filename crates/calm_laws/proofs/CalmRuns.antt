@@ -11,24 +11,21 @@ use native.Mathlib.Omega.{arith}
 use borrow.Author.Tests.{eq-eqb, ne_eqb}
 use lib.Dec.{eqb}
 use lib.ListN.{length, length-append}
-use Rattle.bits.proofs.IndexLaws.{at_each, each_ext, length_each}
-use Rattle.bits.specs.Bits.{bit, bits_of}
-use Rattle.bits.specs.Index.{each, any_to}
-use Rattle.class_rules.specs.Class.{enabled, no_class}
-use Rattle.class_rules.specs.Step.{class_event, class_step}
+use Rattle.bits.proofs.IndexLaws.{at_each, each_ext}
+use Rattle.bits.specs.Bits.{bit}
+use Rattle.bits.specs.Index.{any_to}
+use Rattle.class_rules.specs.Class.{no_class}
+use Rattle.class_rules.specs.Step.{class_step}
 use Rattle.class_rules.specs.declared.Class.{Class}
 use Rattle.class_rules.specs.declared.Signals.{Signals}
 use Rattle.link_rules.specs.Senders.{sent_all}
 use Rattle.link_rules.specs.declared.Senders.{Senders}
-use Rattle.rules.specs.Access.{verdict, accessed, acted}
-use Rattle.rules.specs.Answer.{first_of}
 use Rattle.rules.specs.Run.{run}
 use Rattle.rules.specs.Samples.{alert_broken}
 use Rattle.rules.specs.State.{is_on}
-use Rattle.rules.specs.Tick.{lines, ticked, after}
+use Rattle.rules.specs.Tick.{lines, ticked}
 use Rattle.rules.specs.Valid.{valid}
 use Rattle.rules.specs.declared.Handler.{Handler}
-use Rattle.rules.specs.declared.Input.{Input}
 use Rattle.rules.specs.declared.Wires.{Wires}
 use Rattle.laws.proofs.State.StateNumber.{number_state}
 use Rattle.laws.proofs.Tick.Runs.{run_append}
@@ -41,7 +38,7 @@ use Rattle.calm_rules.specs.Ticks.{calm_input, calm_run, calm_inputs, calm_outpu
 use Rattle.calm_laws.specs.Four as four
 use Rattle.laws.specs.OutputMasks.{lines_on}
 use Rattle.calm_laws.specs.Four.{class_of, four_step, changes, senders_after, changes_in, FourFit}
-use Rattle.calm_laws.specs.Settled.{calm_receiver, calm_event, calm_occurs, calm_assigned, calm_class_event, calm_interrupt, calm_signals, calm_alerts, calm_locals, calm_lines, calm_after, moved, Settled, settle_before, settle_ticks, SameCtrl}
+use Rattle.calm_laws.specs.Settled.{calm_assigned, calm_class_event, calm_interrupt, calm_signals, calm_after, moved, Settled, settle_ticks, SameCtrl}
 use Rattle.calm_laws.specs.Stand.{Fits}
 use Rattle.calm_laws.specs.Steady.{steady}
 use Rattle.calm_laws.proofs.Classes.{step_changes_left, step_changes_fall}

@@ -1,31 +1,28 @@
 -- Request (xii), the four classes: a jump is that many plain ticks, without a change of a line; and a round of the engine.
 -- Assumes nothing.
-use Prim.Native.Nat.{ℕ, zero, suc, ◌+◌, ◌-◌, ◌≤◌, ◌<◌}
+use Prim.Native.Nat.{ℕ, zero, suc, ◌+◌, ◌≤◌, ◌<◌}
 use mathlib.Core.Path.{◌≡◌, refl, sym, ap, ap₂, ◌∙◌, fun_ext, subst}
 use mathlib.Core.Bool.{Bool, true, false, cond}
 use mathlib.Core.List.{List, [], ◌∷◌, ◌++◌, append-nil, append_assoc}
 use native.Mathlib.Omega.{arith}
 use native.Mathlib.Nat.{add-zero, add-suc}
 use native.Mathlib.Decide.{dec_lt}
-use borrow.Author.Tests.{eq-eqb, ne_eqb}
-use lib.Dec.{eqb, leb}
-use lib.ListN.{get_or, length, take, drop, set, length-append, length-set, take-append-drop}
+use lib.Dec.{leb}
+use lib.ListN.{get_or, length, take, drop, set, length-append, take-append-drop}
 use lib.Seq.{set_at, drop-cons, length-take-le, append_snoc}
 use Rattle.bits.specs.Bits.{bits_of}
-use Rattle.bits.specs.Index.{each, any_to}
 use Rattle.bits.proofs.IndexLaws.{at_each, length_each, is_each, any_ext}
-use Rattle.class_rules.specs.Class.{drives, no_class, state_of}
-use Rattle.class_rules.specs.Step.{class_step, due}
+use Rattle.class_rules.specs.Class.{drives, no_class}
+use Rattle.class_rules.specs.Step.{class_step}
 use Rattle.class_rules.specs.declared.Class.{Class}
 use Rattle.class_rules.specs.declared.Signals.{Signals}
 use Rattle.calm_laws.specs.Stand.{class_after, forever, least, stands, jumped, Fits}
 use Rattle.calm_laws.specs.Rank.{changes_left, moves_left}
-use Rattle.calm_rules.specs.Ticks.{change_word, change}
 use Rattle.laws.specs.OutputMasks.{lines_on}
-use Rattle.calm_laws.specs.Four.{class_of, four_step, after, changes, four_stands, four_jump, four_of, changes_in, moves_in, FourFit, lent, Running}
-use Rattle.calm_laws.proofs.Standing.{least_below, least_some, leaves, stands_most, stands_less}
+use Rattle.calm_laws.specs.Four.{class_of, four_step, after, four_stands, four_jump, four_of, changes_in, moves_in, FourFit, lent}
+use Rattle.calm_laws.proofs.Standing.{least_below, leaves, stands_less}
 use Rattle.calm_laws.proofs.Jumps.{jump_is, same_lines, jumped_fits, step_fits}
-use Rattle.calm_laws.proofs.Ranks.{fewer_changes, same_drives, fewer_moves, same_state, changes_most, moves_most}
+use Rattle.calm_laws.proofs.Ranks.{fewer_changes, same_drives, fewer_moves, same_state}
 
 -- ── lists of four ──
 

@@ -1,9 +1,9 @@
 -- Worked examples that pin the definitions, by computation.
 -- Assumes nothing.
-use Prim.Native.Nat.{ℕ, ◌+◌, ◌*◌, ◌^◌}
+use Prim.Native.Nat.{ℕ, ◌+◌}
 use mathlib.Core.Path.{◌≡◌, refl}
 use mathlib.Core.Bool.{Bool, true, false}
-use mathlib.Core.List.{List, [], ◌∷◌, map}
+use mathlib.Core.List.{List, [], ◌∷◌}
 use Rattle.bits.specs.Bits.{bit, bits_of}
 use Rattle.bits.specs.Fields.{pack}
 use Rattle.bits.specs.Index.{each_from, any_to}
@@ -12,7 +12,7 @@ use Rattle.class_rules.specs.Step.{counted, starts_from, moved_from, class_step}
 use Rattle.class_rules.specs.declared.Class.{Class}
 use Rattle.class_rules.specs.declared.Signals.{Signals}
 use Rattle.calm_laws.specs.Stand.{class_after, stand_from, stands, jumped}
-use Rattle.calm_rules.specs.Ticks.{change_word, change}
+use Rattle.calm_rules.specs.Ticks.{change_word}
 use Rattle.laws.specs.OutputMasks.{lines_on}
 use Rattle.calm_laws.specs.Four.{met, four_step, after, changes, four_stands, four_jump, changes_in}
 

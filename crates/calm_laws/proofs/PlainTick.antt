@@ -1,12 +1,10 @@
--- Request (xii): a calm tick of a state that refusal 7 does not meet, whose ping timer is off, leaves what `calmAfter` says.
+-- Request (xii): a calm tick of a state that refusal 7 does not meet, whose ping timer is off, leaves what `calm_after` says.
 -- Assumes nothing.
 use Prim.Native.Nat.{ℕ, ◌+◌, ◌*◌, ◌^◌, ◌≤◌, ◌<◌}
-use mathlib.Core.Path.{◌≡◌, refl, sym, ap, ap₂, ◌∙◌}
+use mathlib.Core.Path.{◌≡◌, refl, ap, ap₂, ◌∙◌}
 use mathlib.Core.Bool.{Bool, true, false, and-false, or-false, cond, not, ◌&&◌, ◌||◌}
 use mathlib.Core.List.{List}
 use native.Mathlib.Omega.{arith}
-use native.Mathlib.Decide.{dec_lt}
-use borrow.Author.Tests.{lt-ltb, le-ltb}
 use lib.Dec.{eqb, ltb}
 use Rattle.bits.proofs.BitLaws.{bit_none, bit_bits_of, bits_of_lt, is_bits_of, word_of_lt, is_word64, place_word64}
 use Rattle.bits.proofs.IndexLaws.{any_ext, any_none, each_ext}
@@ -19,43 +17,38 @@ use Rattle.class_rules.specs.declared.Signals.{Signals}
 use Rattle.link_rules.proofs.ReceiverLaws.{same_receiver}
 use Rattle.link_rules.proofs.SenderLaws.{senders_ext}
 use Rattle.link_rules.specs.Codes.{pausing_bit, busy_bit}
-use Rattle.link_rules.specs.LinePing.{answered_by_wires, closed_by_line, closing, right_after}
+use Rattle.link_rules.specs.LinePing.{right_after}
 use Rattle.link_rules.specs.Pair.{equal, differ}
-use Rattle.link_rules.specs.Pings.{asks, line_after}
+use Rattle.link_rules.specs.Pings.{line_after}
 use Rattle.link_rules.specs.Receiver.{received}
-use Rattle.link_rules.specs.Sender.{sent, wrong}
-use Rattle.link_rules.specs.Senders.{line_count, sender_in, sent_all}
-use Rattle.link_rules.specs.Timer.{is_line, line_of, opens, open_now, fails, turned}
-use Rattle.link_rules.specs.declared.Drive.{Drive}
-use Rattle.link_rules.specs.declared.Meets.{Meets}
+use Rattle.link_rules.specs.Sender.{sent}
+use Rattle.link_rules.specs.Senders.{line_count, sent_all}
+use Rattle.link_rules.specs.Timer.{is_line, line_of, turned}
 use Rattle.link_rules.specs.declared.Received.{Received}
 use Rattle.link_rules.specs.declared.Receiver.{Receiver}
-use Rattle.link_rules.specs.declared.Senders.{Senders}
 use Rattle.link_rules.specs.declared.Turn.{Turn}
 use Rattle.rules.specs.Access.{verdict, accessed, acted, effects}
 use Rattle.rules.specs.Answer.{first_of}
 use Rattle.rules.specs.Samples.{positive, negative, alert_enabled, happened, receiver_after, receiver_timed, received_by, alert_broken, line_wrong, before, asks_for, timed, raised, heard, alert_event, occurs, marked, assigned, sampled}
 use Rattle.rules.specs.State.{most, words, local_count, class_count, local, alert, class_at, receiver, receivers_by, sender, is_on, with_links}
-use Rattle.rules.specs.Tick.{event, interrupt_now, signals, stepped, lines, driven, closed_now, met_by, lines_timed, links_after, hears, after}
+use Rattle.rules.specs.Tick.{event, interrupt_now, signals, stepped, lines, driven, met_by, lines_timed, links_after, hears, after}
 use Rattle.rules.specs.Valid.{valid}
-use Rattle.rules.specs.declared.Access.{Access}
 use Rattle.rules.specs.declared.Effects.{Effects}
 use Rattle.rules.specs.declared.Field.{Field}
 use Rattle.rules.specs.declared.Handler.{Handler}
 use Rattle.rules.specs.declared.Heard.{Heard}
 use Rattle.rules.specs.declared.Links.{Links}
-use Rattle.rules.specs.declared.Receivers.{Receivers}
 use Rattle.rules.specs.declared.Sample.{Sample}
 use Rattle.rules.specs.declared.Wires.{Wires}
-use Rattle.laws.proofs.Samples.Heard.{asked_at, heard_receiver, heard_event_law, heard_raise}
-use Rattle.laws.proofs.Samples.Off.{off_opens, off_open, off_fails, off_asks, off_turned, off_line}
+use Rattle.laws.proofs.Samples.Heard.{asked_at, heard_event_law, heard_raise}
+use Rattle.laws.proofs.Samples.Off.{off_opens, off_open, off_fails, off_asks, off_turned}
 use Rattle.laws.proofs.Tick.TimerOff.{off_lines}
 use Rattle.laws.proofs.Valid.ValidLaws.{facts}
-use Rattle.calm_rules.specs.Ticks.{sound_receive, calm_input}
+use Rattle.calm_rules.specs.Ticks.{calm_input}
 use Rattle.laws.specs.OutputMasks.{lines_on}
 use Rattle.calm_laws.specs.Four.{four_step}
-use Rattle.calm_laws.specs.Settled.{calm_received, calm_receiver, calm_event, calm_occurs, calm_assigned, calm_class_event, calm_interrupt, calm_signals, calm_alerts, calm_locals, calm_lines, calm_after, wires_alone}
-use Rattle.calm_laws.specs.Steady.{line_alone, steady}
+use Rattle.calm_laws.specs.Settled.{calm_received, calm_receiver, calm_event, calm_occurs, calm_assigned, calm_class_event, calm_interrupt, calm_signals, calm_lines, calm_after}
+use Rattle.calm_laws.specs.Steady.{steady}
 
 -- an access of nothing clears, raises and begins nothing
 abbrev none : Effects

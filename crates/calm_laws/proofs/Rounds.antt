@@ -19,7 +19,7 @@ use Rattle.link_rules.specs.Senders.{sent_all}
 use Rattle.link_rules.specs.declared.Senders.{Senders}
 use Rattle.calm_rules.specs.Ticks.{change_word, change}
 use Rattle.laws.specs.OutputMasks.{lines_on}
-use Rattle.calm_laws.specs.Four.{class_of, met, four_step, after, changes, four_stands, four_jump, four_of, changes_in, moves_in, FourFit, lent, senders_after, Running}
+use Rattle.calm_laws.specs.Four.{class_of, met, four_step, after, changes, four_stands, four_jump, changes_in, moves_in, FourFit, lent, senders_after, Running}
 use Rattle.calm_laws.specs.Steady.{steady, senders_for}
 use Rattle.calm_laws.proofs.Standing.{least_left, least_right}
 use Rattle.calm_laws.proofs.Ranks.{changes_most, moves_most}

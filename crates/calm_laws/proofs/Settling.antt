@@ -1,7 +1,7 @@
 -- Request (xii): three calm ticks settle any state. A rise that waited in the pause is taken in the third at the latest; after it a calm tick moves the
 -- classes and the senders alone.
 -- Assumes nothing.
-use Prim.Native.Nat.{ℕ, ◌*◌, ◌^◌, ◌≤◌, ◌<◌}
+use Prim.Native.Nat.{ℕ, ◌≤◌, ◌<◌}
 use mathlib.Core.Path.{◌≡◌, refl, sym, ap, ap₂, ◌∙◌}
 use mathlib.Core.Bool.{Bool, true, false, and-false, cond, not, ◌&&◌, ◌||◌}
 use native.Mathlib.Omega.{arith}
@@ -12,23 +12,22 @@ use Rattle.bits.proofs.BitLaws.{bit_bits_of, bits_of_lt, is_bits_of}
 use Rattle.bits.proofs.IndexLaws.{any_none, at_each, each_ext}
 use Rattle.bits.proofs.TruthTables.{by4}
 use Rattle.bits.specs.Bits.{bit, bits_of}
-use Rattle.bits.specs.Index.{each, any_to}
+use Rattle.bits.specs.Index.{any_to}
 use Rattle.class_rules.specs.Class.{enabled, no_class}
-use Rattle.class_rules.specs.Step.{class_event, class_step}
-use Rattle.class_rules.specs.declared.Class.{Class}
+use Rattle.class_rules.specs.Step.{class_step}
 use Rattle.link_rules.proofs.ReceiverLaws.{same_receiver}
 use Rattle.link_rules.specs.Receiver.{is_ready, takes, stands_after, asked_for, received}
 use Rattle.link_rules.specs.declared.Handshake.{Handshake}
 use Rattle.link_rules.specs.declared.Handshake.TheVariants.{Ready, Acknowledged, FirstPause, SecondPause}
 use Rattle.link_rules.specs.declared.Receiver.{Receiver}
 use Rattle.rules.specs.Samples.{positive, negative, alert_enabled, alert_broken, marked}
-use Rattle.rules.specs.State.{most, words, local_count, local, alert, class_at, receiver, receiver_in, receivers_by}
+use Rattle.rules.specs.State.{most, local_count, local, alert, class_at, receiver, receivers_by}
 use Rattle.rules.specs.declared.Field.{Field}
 use Rattle.rules.specs.declared.Handler.{Handler}
 use Rattle.rules.specs.declared.Wires.{Wires}
 use Rattle.laws.proofs.Samples.Heard.{receiver_by}
 use Rattle.calm_laws.specs.Four.{class_of, four_step}
-use Rattle.calm_laws.specs.Settled.{wires_alone, calm_received, calm_receiver, calm_event, calm_occurs, calm_assigned, calm_class_event, calm_interrupt, calm_signals, calm_alerts, calm_locals, calm_lines, calm_after, Settled}
+use Rattle.calm_laws.specs.Settled.{wires_alone, calm_received, calm_receiver, calm_event, calm_occurs, calm_interrupt, calm_signals, calm_alerts, calm_locals, calm_lines, calm_after, Settled}
 use Rattle.calm_laws.proofs.PlainTick.{bits_ext, receivers_ext}
 
 -- ── one receiver on a steady pair ──

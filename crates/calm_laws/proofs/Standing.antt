@@ -1,6 +1,6 @@
 -- One tick of a class that meets no clear: while it stands it only counts, and else it moves.
 -- Assumes nothing.
-use Prim.Native.Nat.{ℕ, zero, suc, ◌+◌, ◌-◌, ◌^◌, ◌≤◌, ◌<◌}
+use Prim.Native.Nat.{ℕ, ◌+◌, ◌-◌, ◌^◌, ◌≤◌, ◌<◌}
 use mathlib.Core.Path.{◌≡◌, refl, sym, ap, ap₂, ◌∙◌}
 use mathlib.Core.Bool.{Bool, true, false, true≢false, cond, not, ◌&&◌, ◌||◌}
 use native.Mathlib.Omega.{arith}
@@ -8,13 +8,13 @@ use native.Mathlib.Decide.{dec_lt}
 use lib.Dec.{leb, ltb}
 use borrow.Author.Tests.{le-leb, lt-leb, leb-true, leb-false, le-ltb, lt-ltb}
 use Rattle.class_rules.specs.Class.{lock, phase, phase_cyc, state_of, state_number}
-use Rattle.class_rules.specs.Step.{at, trigger, due, counted, starts, starts_from, after_phase, in_phase, moved_from, moved, class_step}
+use Rattle.class_rules.specs.Step.{at, trigger, due, counted, starts_from, after_phase, in_phase, moved_from, class_step}
 use Rattle.class_rules.specs.declared.Class.{Class}
 use Rattle.class_rules.specs.declared.ClassState.{ClassState}
 use Rattle.class_rules.specs.declared.ClassState.TheVariants.{Idle, Timeout, Phase0, Phase1, Phase2, Phase3, Terminal}
 use Rattle.class_rules.specs.declared.Place.{Place}
 use Rattle.class_rules.specs.declared.Signals.{Signals}
-use Rattle.calm_laws.specs.Stand.{forever, least, to_trigger, stand_from, stands, counts, count_after, accum_after, with_counts, jumped, Fits}
+use Rattle.calm_laws.specs.Stand.{forever, least, to_trigger, stand_from, stands, count_after, accum_after, with_counts, jumped, Fits}
 
 -- ── the smaller of two numbers ──
 

@@ -12,7 +12,7 @@ use Rattle.bits.specs.Bits.{bit}
 use Rattle.link_rules.proofs.SenderLaws.{sender_by, senders_ext}
 use Rattle.link_rules.specs.EscalationReceiver.{sound_after}
 use Rattle.link_rules.specs.Sender.{sent}
-use Rattle.link_rules.specs.Senders.{line_count, sender_in, senders_by, sent_all}
+use Rattle.link_rules.specs.Senders.{sender_in, senders_by}
 use Rattle.link_rules.specs.declared.Response.{Response}
 use Rattle.link_rules.specs.declared.Response.TheVariants.{Quiet, Checking, Answering, Escalating}
 use Rattle.link_rules.specs.declared.Sender.{Sender}

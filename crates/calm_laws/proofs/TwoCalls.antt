@@ -1,18 +1,18 @@
 -- Request (xii): two calm calls one after another are one.
 -- Assumes nothing.
 use Prim.Native.Nat.{ℕ, zero, suc, ◌+◌, ◌≤◌, ◌<◌}
-use mathlib.Core.Path.{◌≡◌, refl, sym, ap, ap₂, ◌∙◌, subst}
+use mathlib.Core.Path.{◌≡◌, refl, sym, ap, ap₂, ◌∙◌}
 use mathlib.Core.Bool.{Bool, true, false, cond, not}
 use mathlib.Core.List.{List, [], ◌∷◌, ◌++◌, map, map-append, append-nil, append_assoc}
 use native.Mathlib.Nat.{add-zero, add-suc}
 use native.Mathlib.Omega.{arith}
 use borrow.Author.Tests.{le-ltb}
-use lib.Dec.{eqb, ltb}
+use lib.Dec.{eqb}
 use lib.IntN.{ℤ, pos, negsuc}
 use lib.ListN.{length, take, drop, length-append}
 use lib.Seq.{take_at}
 use Rattle.bits.specs.Fields.{pack}
-use Rattle.calm_rules.specs.Call.{entries, calm_verdict, calmed_by, list_by, calmed, calmed_list}
+use Rattle.calm_rules.specs.Call.{calm_verdict, calmed_by, list_by, calmed, calmed_list}
 use Rattle.calm_rules.specs.Ticks.{calm_input, calm_run, calm_output, change_word, change, calm_changes}
 use Rattle.calm_rules.specs.declared.Bar.TheVariants.{BadState, TimerOn, ShortList}
 use Rattle.calm_rules.specs.declared.Calmed.{Calmed}
@@ -23,7 +23,6 @@ use Rattle.rules.specs.State.{is_on}
 use Rattle.rules.specs.Tick.{interrupts, lines, output_of, tick, ticked}
 use Rattle.rules.specs.Valid.{valid}
 use Rattle.rules.specs.declared.Handler.{Handler}
-use Rattle.rules.specs.declared.Output.{Output}
 use Rattle.rules.specs.declared.Ticked.{Ticked}
 use Rattle.rules.specs.declared.Wires.{Wires}
 use Rattle.calm_laws.specs.TwoCalls.{later, TwoCalls}

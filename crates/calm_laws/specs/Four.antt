@@ -1,6 +1,6 @@
 -- Request (xii): the four classes over calm ticks, the ticks at which a line changed, and the senders of the lines with them.
 -- Assumes nothing.
-use Rattle.std.specs.Prelude.{ℕ, zero, suc, ◌+◌, ◌≤◌, ◌<◌, ◌≡◌, false, List, [], ◌∷◌, ◌++◌, get_or, length, take, drop}
+use Rattle.std.specs.Prelude.{ℕ, zero, suc, ◌+◌, ◌≤◌, ◌<◌, ◌≡◌, false, List, [], ◌++◌, get_or, length, take, drop}
 use Rattle.bits.specs.Bits.{bit}
 use Rattle.bits.specs.Index.{each}
 use Rattle.class_rules.specs.Class.{no_class}

@@ -18,7 +18,6 @@ use Rattle.rules.specs.State.{most, local_count, local, alert, class_at, receive
 use Rattle.rules.specs.declared.Alerts.{Alerts}
 use Rattle.rules.specs.declared.Field.{Field}
 use Rattle.rules.specs.declared.Handler.{Handler}
-use Rattle.rules.specs.declared.Links.{Links}
 use Rattle.rules.specs.declared.Locals.{Locals}
 use Rattle.rules.specs.declared.Wires.{Wires}
 use Rattle.laws.specs.OutputMasks.{lines_on}

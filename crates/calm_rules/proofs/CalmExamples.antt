@@ -2,7 +2,6 @@
 -- Assumes nothing.
 use Prim.Native.Nat.{ℕ, ◌+◌, ◌-◌, ◌^◌}
 use mathlib.Core.Path.{◌≡◌, refl}
-use mathlib.Core.Bool.{Bool, true, false}
 use mathlib.Core.List.{List, [], ◌∷◌, ◌++◌}
 use lib.IntN.{pos, neg_ℤ}
 use lib.ListN.{get_or, replicate}
@@ -10,7 +9,7 @@ use Rattle.bits.specs.Fields.{unpack}
 use Rattle.class_rules.specs.Class.{no_class}
 use Rattle.rules.proofs.Scenes.{rules, settings, zeros, pair, lengths, started}
 use Rattle.rules.specs.Scenes.{ones, wire}
-use Rattle.rules.specs.State.{new_handler, with_alerts, with_classes, with_interrupts, with_locals, with_timer}
+use Rattle.rules.specs.State.{new_handler, with_classes, with_interrupts, with_locals, with_timer}
 use Rattle.rules.specs.Tick.{no_output}
 use Rattle.rules.specs.declared.Handler.{Handler}
 use Rattle.rules.specs.declared.Wires.{Wires}

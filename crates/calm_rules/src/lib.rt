@@ -1,5 +1,6 @@
 // Request (xii), skip the calm: types. Its definitions are in specs/, what is true of them in crate calm_laws.
 #![tactic(auto)]
+
 use rules::{Handler, Output};
 
 // Why a calm call does not begin. No access gives these, so that they stand apart from an access's refusals.

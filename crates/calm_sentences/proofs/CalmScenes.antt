@@ -88,7 +88,7 @@ calms n = n
 
 -- ── a difference ──
 
--- by `only-calms` and `holds-calms` a calm call gives what `calmed` and `calmedList` give; where f gives something else, it is none. The list has m entries of 77
+-- by `only_calms` and `holds_calms` a calm call gives what `calmed` and `calmed_list` give; where f gives something else, it is none. The list has m entries of 77
 pub differs_in : (f : Handler → Wires → ℕ → List ℕ → Calmed) (left : Handler → Wires → ℕ → List ℕ → List ℕ) (t s p : ℕ) (w : Wires) (n m : ℕ)
     → (view : Calmed → List ℕ → ℕ) (x y : ℕ) → view (f (scene t s p) w n (replicate m 77)) (left (scene t s p) w n (replicate m 77)) ≡ x
     → view (calmed (scene t s p) w n (replicate m 77)) (calmed_list (scene t s p) w n (replicate m 77)) ≡ y → n ≤ 4294967295 → ¬ (x ≡ y) → ¬ Calms f left

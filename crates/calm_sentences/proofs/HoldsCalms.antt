@@ -1,4 +1,4 @@
--- What the contracts of the calm engine and of the boundary's calm call cite, `calmed` and `calmedList`, satisfies the sentences; and since nothing else does, whatever
+-- What the contracts of the calm engine and of the boundary's calm call cite, `calmed` and `calmed_list`, satisfies the sentences; and since nothing else does, whatever
 -- satisfies them is this.
 -- Assumes nothing.
 use Prim.Native.Nat.{ℕ, ◌≤◌}
@@ -9,7 +9,6 @@ use mathlib.Core.List.{List}
 use native.Mathlib.Omega.{arith}
 use borrow.Author.Tests.{lt-ltb, eq-eqb, ne_eqb}
 use lib.Dec.{ltb}
-use lib.IntN.{pos}
 use lib.ListN.{length}
 use Rattle.bits.specs.Bits.{bits_of}
 use Rattle.bits.proofs.BitLaws.{bit_bits_of}

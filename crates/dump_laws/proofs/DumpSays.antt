@@ -1,7 +1,7 @@
 -- Request (xiv): the writer, the reader's refusals and what a state shows are as their sentences say.
 -- Assumes nothing.
-use Prim.Native.Nat.{ℕ, ◌-◌, ◌≤◌, ◌<◌}
-use mathlib.Core.Path.{◌≡◌, refl, ap, ap₂, ◌∙◌}
+use Prim.Native.Nat.{ℕ, ◌-◌}
+use mathlib.Core.Path.{◌≡◌, refl, ap, ap₂}
 use mathlib.Core.Bool.{Bool, true, false, cond}
 use mathlib.Core.List.{List, map}
 use borrow.Author.Tests.{lt-ltb, le-ltb}
@@ -10,7 +10,6 @@ use lib.ListN.{length}
 use Rattle.bits.specs.Index.{each_from}
 use Rattle.dump_rules.specs.Content.{content_by}
 use Rattle.dump_rules.specs.Dump.{dump_of}
-use Rattle.dump_rules.specs.Reader.{Seen, cut_start, no_dump, read_dump}
 use Rattle.dump_rules.specs.Shown.{shown}
 use Rattle.dump_rules.specs.Writer.{Dumped, unwritten, written, write_dump}
 use Rattle.dump_rules.specs.declared.Unwritten.TheVariants.{BadState, ShortBuffer}

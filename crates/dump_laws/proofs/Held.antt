@@ -1,6 +1,6 @@
 -- A state that holds a content: what each of its registers holds.
 -- Assumes nothing.
-use Prim.Native.Nat.{ℕ, ◌-◌, ◌≤◌, ◌<◌}
+use Prim.Native.Nat.{ℕ, ◌≤◌, ◌<◌}
 use mathlib.Core.Path.{◌≡◌, refl, ap, ◌∙◌}
 use mathlib.Core.Bool.{Bool, true, ◌&&◌}
 use native.Mathlib.Omega.{arith}
@@ -9,7 +9,6 @@ use lib.Dec.{ltb}
 use lib.ListN.{get_or}
 use Rattle.bits.specs.Index.{each}
 use Rattle.bits.proofs.IndexLaws.{and-true, at_each}
-use Rattle.class_rules.specs.declared.Class.{Class}
 use Rattle.laws.specs.InMap.{in_map}
 use Rattle.laws.proofs.Map.Cases.{by_kind, by_single, by_field, by_setting, never}
 use Rattle.rules.specs.Access.{value, setting_value}

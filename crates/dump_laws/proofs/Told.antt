@@ -12,7 +12,7 @@ use Rattle.bits.specs.Index.{each}
 use Rattle.bits.proofs.IndexLaws.{at_each, is_each, length_each}
 use Rattle.dump_rules.specs.Content.{flag_at, flags_by, code_at, codes_by, class_of, given}
 use Rattle.dump_rules.specs.Reader.{no_class}
-use Rattle.dump_rules.specs.Shown.{Shown, WellShown, picks, limit, is_cause, numbers_with, shown}
+use Rattle.dump_rules.specs.Shown.{Shown, WellShown, picks, limit, is_cause, numbers_with}
 use Rattle.dump_rules.specs.declared.Content.{Content}
 use Rattle.dump_rules.specs.declared.ContentClass.{ContentClass}
 use Rattle.dump_rules.proofs.LawfulDump.{past_map, shadow_lt}

@@ -13,7 +13,6 @@ use lib.IntN.{pos}
 use lib.ListN.{length, get_or, take}
 use Rattle.bits.proofs.IndexLaws.{true_and}
 use Rattle.class_rules.specs.Class.{no_class}
-use Rattle.class_rules.specs.declared.Class.{Class}
 use Rattle.dump_rules.specs.Content.{content_by}
 use Rattle.dump_rules.specs.Dump.{dump_of}
 use Rattle.dump_rules.specs.Reader.{shows, cut_start, no_dump, read_dump}

@@ -16,7 +16,7 @@ use Rattle.formats.specs.BitList.{bit_list, number_of, bits_of_bytes, filled}
 use Rattle.formats.specs.Format.{Format, field, pair, chain, joined, parted}
 use Rattle.formats.proofs.BitListLaws.{length_bits, list_back, length_bits_of_bytes}
 use Rattle.formats.proofs.BitAtLaws.{filled_whole, filled_lt}
-use Rattle.rules.specs.Map.{decode, bits, is_shadowed}
+use Rattle.rules.specs.Map.{decode, is_shadowed}
 use Rattle.dump_rules.specs.Shown.{ShownStage, picks, limit}
 use Rattle.dump_rules.specs.Reader.{shadowed_from, stage_at, stage_format, stage_chain}
 use Rattle.dump_rules.proofs.LawfulDump.{stage_lawful, stage_facts}

@@ -2,7 +2,7 @@
 -- Assumes nothing.
 use Rattle.std.specs.Prelude.{ℕ, ◌+◌, ◌-◌, ◌≤◌, Bool, cond, List, leb, length, drop}
 use Rattle.formats.specs.BitList.{bits_of_bytes}
-use Rattle.formats.specs.Format.{Outcome, got, cut, wrong, Format, field}
+use Rattle.formats.specs.Format.{Outcome, got, cut, wrong, Format}
 use Rattle.dump_rules.specs.Reader.{Seen, shows, cut_start, no_dump}
 use Rattle.rules.specs.Map.{bits}
 use Rattle.dump_reader.specs.declared.Judged.{Judged}

@@ -1,5 +1,6 @@
 // Request (xiv): the reader of dumps.
 #![tactic(auto)]
+
 pub mod judge;
 pub mod places;
 pub mod steps;

@@ -1,6 +1,6 @@
 -- Request (xiv): the reader.
 -- Assumes nothing.
-use Rattle.std.specs.Prelude.{ℕ, suc, ◌+◌, ◌-◌, ◌≡◌, ◌≢◌, ◌↔◌, Bool, true, ◌&&◌, List, [], ◌∷◌, ◌++◌, eqb, leb, length}
+use Rattle.std.specs.Prelude.{ℕ, suc, ◌-◌, ◌≡◌, ◌≢◌, ◌↔◌, Bool, true, ◌&&◌, List, [], ◌∷◌, ◌++◌, eqb, leb, length}
 use Rattle.bits.specs.Bits.{fits}
 use Rattle.class_rules.specs.Class.{state_of, state_fits, count_fits}
 use Rattle.formats.specs.BitList.{bits_of_bytes}

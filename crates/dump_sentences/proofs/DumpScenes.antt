@@ -91,7 +91,7 @@ judged_by d buffer v s =
 abbrev pub WriterBy : Judge → Type 0
 WriterBy j = Writer (λ h buffer. (j buffer (valid h) (shown h)).answer) (λ h buffer. (j buffer (valid h) (shown h)).buffer)
 
--- by `only-writer` and `holds-writer` a writer gives what `writeDump` gives; where j gives something else, it is none. The buffer has m bytes of 77
+-- by `only_writer` and `holds_writer` a writer gives what `write_dump` gives; where j gives something else, it is none. The buffer has m bytes of 77
 pub differs_judged : (j : Judge) (h : Handler) (v : Bool) (s : Shown) → valid h ≡ v → shown h ≡ s → (m : ℕ) (view : Dumped → ℕ) (x y : ℕ)
     → view (j (replicate m 77) v s) ≡ x → view (judged_by dump_of (replicate m 77) v s) ≡ y → ¬ (x ≡ y) → ¬ WriterBy j
 unfolding write_dump
@@ -107,7 +107,7 @@ differs_written j m view x y = differs_judged j scene true content1 valid_scene 
 
 -- ── readers ──
 
--- by `only-reader` and `holds-reader` a reader gives what `contentBy` of `readDump` gives
+-- by `only_reader` and `holds_reader` a reader gives what `content_by` of `read_dump` gives
 pub differs_read : (f : List ℕ → Content) (bytes : List ℕ) → AreBytes bytes → (view : Content → ℕ) (x y : ℕ) → view (f bytes) ≡ x → view (content bytes) ≡ y → ¬ (x ≡ y)
     → ¬ Reader f
 differs_read f bytes b view x y a c d p = d (sym a ∙ ap view (is_the_reader f p bytes (byte_small bytes b)) ∙ c)

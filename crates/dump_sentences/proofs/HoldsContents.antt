@@ -18,7 +18,6 @@ use Rattle.dump_rules.proofs.KindLaws.{cause_register, lock_register}
 use Rattle.dump_rules.proofs.LawfulDump.{past_map}
 use Rattle.rules.specs.Access.{value}
 use Rattle.rules.specs.Map.{decode, is_register, is_lock}
-use Rattle.rules.specs.Stages.{stage}
 use Rattle.rules.specs.Valid.{valid}
 use Rattle.rules.specs.declared.Handler.{Handler}
 use Rattle.rules.specs.declared.Register.{Register}

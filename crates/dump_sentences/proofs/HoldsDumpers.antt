@@ -1,4 +1,4 @@
--- What the contracts of writer and reader and of the boundary's calls cite, `writeDump` and `contentBy` of `readDump`, satisfies the sentences; and since nothing else
+-- What the contracts of writer and reader and of the boundary's calls cite, `write_dump` and `content_by` of `read_dump`, satisfies the sentences; and since nothing else
 -- does, whatever satisfies them is this.
 -- Assumes nothing.
 use Prim.Native.Nat.{ℕ, ◌+◌, ◌-◌, ◌≤◌}

@@ -1,5 +1,6 @@
 // Request (xiv): the writer of dumps.
 #![tactic(auto)]
+
 pub mod fill;
 pub mod put;
 pub mod write;

@@ -1,7 +1,7 @@
 -- Demand 3, "A started escalation", of every list of ticks from every state that refusal 7 does not meet.
--- It rests on these laws of the tick, and does not open it: of crate laws, Content (after-class, event-enabled, acted-place, line-is), Locks (acted-locked,
--- after-locked, after-left), Clears (no-clear), Frame (after-n), MapLaws (decode-number, decode-in-map), KeepsValid (run-valid), ValidLaws (facts),
--- Refusal7 (ticked-handler, ticked-lines), Runs (run-next, ticks-at).
+-- It rests on these laws of the tick, and does not open it: of crate laws, Content (after_class, event_enabled, acted_place, line_is), Locks (acted_locked,
+-- after_locked, after_left), Clears (no_clear), Frame (after_n), MapLaws (decode_number, decode_in_map), KeepsValid (run_valid), ValidLaws (facts),
+-- Refusal7 (ticked_handler, ticked_lines), Runs (run_next, ticks_at).
 -- Assumes nothing.
 use Prim.Native.Nat.{ℕ, ◌-◌, ◌<◌}
 use mathlib.Core.Path.{◌≡◌, sym, ap, ◌∙◌}

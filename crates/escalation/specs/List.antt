@@ -38,6 +38,6 @@ given_at first h xs t = get_or (ticks h xs) (t - first) no_tick
 
 -- ── in the tick of state g and input x ──
 
--- class k as read after step 1; what it meets in steps 3 and 4 is `signalsIn` of the rules
+-- class k as read after step 1; what it meets in steps 3 and 4 is `signals_in` of the rules
 abbrev pub class_read : Handler → Input → ℕ → Class
 class_read g x k = class_at (acted g x.access) k

@@ -1,5 +1,6 @@
 // One tick of the handler in code: the access, the samples, the four classes and the outputs.
 #![tactic(auto)]
+
 pub mod tick; // tick.rt: the whole tick, and steps 2 to 5
 mod effects; // effects.rt: an access without effects
 mod rest; // rest.rt: classes that stay as they are

@@ -12,10 +12,8 @@ use lib.ListN.{length}
 use Rattle.bits.proofs.IndexLaws.{and-true}
 use Rattle.bits.specs.Index.{all_to}
 use Rattle.escalation.proofs.ListTicks.{at, input}
-use Rattle.laws.proofs.Tick.Turns.{local_3}
-use Rattle.link_rules.proofs.Owned
 use Rattle.link_rules.specs.Sender.{still_right, is_answered}
-use Rattle.link_rules.specs.Timer.{opens, open_now, age, ends}
+use Rattle.link_rules.specs.Timer.{opens, open_now, age}
 use Rattle.rules.specs.Samples.{was_right}
 use Rattle.rules.specs.Valid.{valid}
 use Rattle.rules.specs.declared.Handler.{Handler}

@@ -19,7 +19,6 @@ use Rattle.link_rules.specs.Pings.{line_after}
 use Rattle.link_rules.specs.Timer.{is_line, line_of, opens, open_now, age, fails, ends, owns_line}
 use Rattle.link_rules.specs.declared.Meets.{Meets}
 use Rattle.link_rules.specs.declared.Turn.{Turn}
-use Rattle.rules.specs.Samples.{answered}
 use Rattle.rules.specs.Valid.{valid}
 use Rattle.rules.specs.declared.Handler.{Handler}
 use Rattle.rules.specs.declared.Input.{Input}

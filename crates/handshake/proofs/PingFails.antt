@@ -14,7 +14,7 @@ use Rattle.laws.proofs.Tick.Turns.{local_0, local_1}
 use Rattle.link_rules.proofs.Owned
 use Rattle.link_rules.specs.Timer.{is_line, line_of, open_now, age, opens, fails, fails_alert, fails_line}
 use Rattle.rules.specs.Access.{value}
-use Rattle.rules.specs.State.{local, alert}
+use Rattle.rules.specs.State.{local}
 use Rattle.rules.specs.Valid.{valid}
 use Rattle.rules.specs.declared.Field.{Field}
 use Rattle.rules.specs.declared.Handler.{Handler}

@@ -1,8 +1,8 @@
 -- Requests (viii), "The whole handshake", and (ix), "Ping timer": in a list of ticks each alert's receiver goes by what the ping timer does with that
 -- alert, that it asks for its ping or that this ping fails, and by its wires alone, whatever else comes. proofs/Alone.antt proves it of every list, from
 -- every state that refusal 7 does not meet.
--- It speaks in the rules' own words: `run` and `ticks` are the states and outputs, `happensIn` and `answeredIn` what each tick computes with, `givenIn`,
--- `failsIn` and `closedIf` what the timer does with a receiver (laws), and `received` one receiver in one tick (link_rules).
+-- It speaks in the rules' own words: `run` and `ticks` are the states and outputs, `happens_in` and `answered_in` what each tick computes with, `given_in`,
+-- `fails_in` and `closed_if` what the timer does with a receiver (laws), and `received` one receiver in one tick (link_rules).
 -- Assumes nothing.
 use Rattle.std.specs.Prelude.{ℕ, zero, suc, ◌*◌, ◌≤◌, ◌<◌, ◌≡◌, Bool, false, not, List, get_or, length, take}
 use Rattle.escalation.specs.List.{no_input, no_tick}

@@ -1,5 +1,6 @@
 // The boot policy, installed and read back through the handler's tick.
 #![tactic(auto)]
+
 mod table; // table.rt: how the alerts are marked
 mod ask; // ask.rt: one access a tick, a register written and read back
 mod plan; // plan.rt: what is written, in order

@@ -1,4 +1,4 @@
--- What one class gets in the tick of state g and input x, beside an event (`eventIn` of the rules): an access to its own block, changes of its interrupt
+-- What one class gets in the tick of state g and input x, beside an event (`event_in` of the rules): an access to its own block, changes of its interrupt
 -- bits by software.
 -- Assumes nothing.
 use Rattle.std.specs.Prelude.{ℕ, Bool, cond}

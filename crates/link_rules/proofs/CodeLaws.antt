@@ -8,7 +8,6 @@ use Rattle.link_rules.specs.declared.Handshake.{Handshake}
 use Rattle.link_rules.specs.declared.Handshake.TheVariants.{Ready, Acknowledged, FirstPause, SecondPause}
 use Rattle.link_rules.specs.declared.Response.{Response}
 use Rattle.link_rules.specs.declared.Response.TheVariants.{Quiet, Checking, Answering, Escalating}
-use Rattle.link_rules.specs.declared.SoundReceiver.{SoundReceiver}
 
 pub code_back : (s : Handshake) → handshake_of (pausing_bit s) (busy_bit s) ≡ s
 code_back Ready = refl

@@ -1,9 +1,8 @@
 -- Worked waves of the escalation wires of line 0, request (xi), computed tick by tick: line and receive pairs go in; local 3, local 1, ping open, pair, right
 -- answer and what a receiver sees come out.
 -- Assumes nothing.
-use Prim.Native.Nat.{ℕ}
 use mathlib.Core.Path.{◌≡◌, refl}
-use mathlib.Core.List.{List, [], ◌∷◌}
+use mathlib.Core.List.{[], ◌∷◌}
 use Rattle.link_rules.proofs.EscalationScenes.{rules, waits, rests, wired}
 
 -- a line on for one tick

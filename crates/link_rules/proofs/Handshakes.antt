@@ -3,7 +3,7 @@
 use Prim.Native.Nat.{ℕ, zero, suc, ◌+◌, ◌-◌, ◌≤◌, ◌<◌}
 use mathlib.Core.Path.{◌≡◌, refl, ap, sym, ◌∙◌}
 use mathlib.Core.Bool.{Bool, true, false, false≢true, true≢false, not, and-false, or-true, ◌&&◌, ◌||◌}
-use mathlib.Core.Logic.{◌⊎◌, ⊎_elim}
+use mathlib.Core.Logic.{⊎_elim}
 use native.Mathlib.Nat.{le_of_suc-le-suc, le-suc_iff}
 use native.Mathlib.Omega.{arith}
 use Rattle.link_rules.specs.Handshake.{receiver_at, received_at, taken_at, rises_at, falls_at, equal_at, pending_at, NoneTaken, NoneAsked, Handshakes}

@@ -1,12 +1,12 @@
 -- Refusal 7's rule of open pings is kept by every tick.
 -- Assumes nothing.
 use Prim.Native.Nat.{ℕ, ◌<◌}
-use mathlib.Core.Path.{◌≡◌, refl, ap, ap₂, sym, ◌∙◌}
+use mathlib.Core.Path.{◌≡◌, refl, ap, sym, ◌∙◌}
 use mathlib.Core.Logic.{◌⊎◌, inl, inr}
 use mathlib.Core.Bool.{Bool, true, false, false≢true, cond, not, ◌&&◌, ◌||◌}
 use borrow.Author.Tests.{eqb-true, lt-ltb}
-use lib.Dec.{eqb, ltb, leb}
-use Rattle.link_rules.specs.Pings.{pending, asks, alert_after, line_after, Owned, Handed, KeepsOwned}
+use lib.Dec.{eqb}
+use Rattle.link_rules.specs.Pings.{asks, alert_after, line_after, Owned, Handed, KeepsOwned}
 use Rattle.link_rules.specs.Timer.{is_line, line_of, is_due, opens, open_now, open_after, fails, fails_alert, ends, turned, owns_alert, owns_line}
 use Rattle.link_rules.specs.declared.Meets.{Meets}
 use Rattle.link_rules.specs.declared.Turn.{Turn}

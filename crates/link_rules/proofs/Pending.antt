@@ -5,11 +5,11 @@ use mathlib.Core.Path.{◌≡◌, refl, ap, ap₂, sym, ◌∙◌}
 use mathlib.Core.Logic.{◌⊎◌, inl, inr}
 use mathlib.Core.Bool.{Bool, true, false, false≢true, cond, not, ◌&&◌, ◌||◌}
 use native.Mathlib.Omega.{arith}
-use borrow.Author.Tests.{eqb-true, eq-eqb, lt-ltb, ltb-true}
+use borrow.Author.Tests.{eq-eqb, lt-ltb, ltb-true}
 use lib.Dec.{eqb, ltb}
-use Rattle.link_rules.proofs.Owned.{and-true, or-true, not-true, is_false, Mine, mine_was, mine_asked, now_runs, opens_runs, not_begins, goes_on, stays}
+use Rattle.link_rules.proofs.Owned.{and-true, or-true, not-true, is_false, Mine, mine_was, mine_asked, now_runs, not_begins, goes_on, stays}
 use Rattle.link_rules.specs.Pings.{pending, asks, alert_after, line_after, Owned, Handed, KeepsPending}
-use Rattle.link_rules.specs.Timer.{is_line, line_of, is_due, opens, open_now, open_after, fails, fails_alert, ends, turned, owns_alert, owns_line}
+use Rattle.link_rules.specs.Timer.{is_line, line_of, is_due, opens, open_now, open_after, fails, fails_alert, ends, turned}
 use Rattle.link_rules.specs.declared.Meets.{Meets}
 use Rattle.link_rules.specs.declared.Turn.{Turn}
 

@@ -2,7 +2,7 @@
 -- Assumes nothing.
 use Prim.Native.Nat.{ℕ, zero, suc, ◌<◌}
 use mathlib.Core.Path.{◌≡◌, refl, ap, ap₂, sym, ◌∙◌}
-use mathlib.Core.Logic.{◌↔◌, ◌⊎◌, inl, inr}
+use mathlib.Core.Logic.{◌⊎◌, inl, inr}
 use mathlib.Core.Bool.{Bool, true, false, false≢true, not, ◌&&◌, ◌||◌}
 use mathlib.Core.List.{List, [], ◌∷◌}
 use lib.ListN.{get_or, length, take}
@@ -50,7 +50,7 @@ pub sees_on : (h : SoundReceiver) (p : Bool) → sees h p ≡ p && last_bit h.st
 unfolding sees
 sees_on h p = sees_place h.stands p
 
--- ── a receiver on sound wires is never broken, and goes by what it soundAfter ──
+-- ── a receiver on sound wires is never broken, and goes by what it sound_after ──
 
 abbrev sound : SoundReceiver → EscalationReceiver
 sound h = record { sound = h; broken = false }

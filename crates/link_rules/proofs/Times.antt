@@ -1,15 +1,14 @@
 -- When a ping is due and when it fails, proved for every word and every timeout.
 -- Assumes nothing.
 use Prim.Native.Nat.{ℕ, zero, suc, ◌+◌, ◌-◌, ◌≤◌, ◌<◌, ◌%◌}
-use mathlib.Core.Path.{◌≡◌, refl, ap, ap₂, sym, ◌∙◌}
-use mathlib.Core.Bool.{Bool, true, false, cond, not, ◌&&◌, ◌||◌}
+use mathlib.Core.Path.{◌≡◌, refl, ap, sym, ◌∙◌}
+use mathlib.Core.Bool.{Bool, true, false, cond, ◌&&◌, ◌||◌}
 use native.Mathlib.Omega.{arith}
 use native.Mathlib.Decide.{dec_lt}
-use borrow.Author.Tests.{eq-eqb, ne_eqb, lt-ltb, le-ltb, le-leb, lt-leb}
+use borrow.Author.Tests.{eq-eqb, ne_eqb, lt-ltb, le-leb, lt-leb}
 use lib.Dec.{eqb, ltb, leb}
 use Rattle.link_rules.specs.Times.{silent, turns, DueIn, FailsIn}
-use Rattle.link_rules.specs.Timer.{drawn, next_turn, is_due, opens, open_now, age, fails, ends, turned}
-use Rattle.link_rules.specs.declared.Meets.{Meets}
+use Rattle.link_rules.specs.Timer.{drawn, next_turn, is_due, opens, open_now, fails, ends, turned}
 use Rattle.link_rules.specs.declared.Turn.{Turn}
 
 -- ── waiting ──

@@ -1,6 +1,6 @@
 -- Request (xi), the senders of the four lines in words, bit e for line e: any words are four senders, so that refusal 7 has nothing to look at.
 -- Assumes nothing.
-use Rattle.std.specs.Prelude.{ℕ, Bool}
+use Rattle.std.specs.Prelude.{ℕ}
 use Rattle.bits.specs.Bits.{bit, bits_of}
 use Rattle.link_rules.specs.Codes.{response_of, last_bit, deep_bit}
 use Rattle.link_rules.specs.Sender.{sent}

@@ -1,5 +1,6 @@
 // Masks: numbers with a bit for each class, line or local alert, 0 lowest; and words with one for each of 64 alerts, alert 0 highest.
 #![tactic(auto)]
+
 pub mod places; // places.rt: the places of such a word
 
 ghost use Rattle.std.specs.Prelude.{◌≡◌, ◌&&◌, ◌<◌, ◌≤◌, eqb};

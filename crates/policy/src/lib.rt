@@ -1,5 +1,6 @@
 // Request (vi), boot policy: types. Its definitions are in specs/, examples of them in proofs/, the theorems in crate boot_laws.
 #![tactic(auto)]
+
 use rules::Handler;
 
 // How an alert is marked: a class, or X for none.

@@ -1,4 +1,4 @@
--- What `store` and `withStage` of the rules leave of each part of the state, so that a part can be made anew by itself.
+-- What `store` and `with_stage` of the rules leave of each part of the state, so that a part can be made anew by itself.
 -- Assumes nothing.
 use Rattle.std.specs.Prelude.{ℕ, cond, List, eqb, ltb, get_or, set}
 use Rattle.class_rules.specs.Class.{no_class}

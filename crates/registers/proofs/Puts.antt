@@ -9,7 +9,7 @@ use Rattle.rules.specs.State.{most, with_stages}
 use Rattle.rules.specs.declared.Access.{Access}
 use Rattle.rules.specs.declared.Handler.{Handler}
 use Rattle.registers.specs.Change.{ChangesTo}
-use Rattle.registers.specs.Put.{put_in, accessed_by}
+use Rattle.registers.specs.Put.{accessed_by}
 use Rattle.registers.specs.declared.change.Change.{Change}
 use Rattle.registers.specs.declared.put.Put.{Put}
 

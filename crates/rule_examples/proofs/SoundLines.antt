@@ -7,7 +7,7 @@ use Rattle.rules.specs.declared.Handler.{Handler}
 use Rattle.rules.specs.declared.Input.{Input}
 use Rattle.rules.specs.declared.Receive.TheVariants.{Pairs}
 
--- their answers are what the senders hold for right (link_rules, Seen.never-wrong)
+-- their answers are what the senders hold for right (link_rules, Seen.never_wrong)
 abbrev pub answered : Handler → Input → Input
 answered h x =
     let a = h.links.senders.answer in

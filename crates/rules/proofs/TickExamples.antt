@@ -7,7 +7,7 @@ use lib.ListN.{replicate}
 use Rattle.rules.specs.Access.{value}
 use Rattle.rules.specs.Run.{run, ticks}
 use Rattle.rules.specs.State.{new_handler, reset_class, with_interrupts, with_classes}
-use Rattle.rules.specs.Tick.{ticked, interrupts, lines}
+use Rattle.rules.specs.Tick.{ticked, interrupts}
 use Rattle.rules.specs.declared.Access.{Access}
 use Rattle.rules.specs.declared.Field.{Field}
 use Rattle.rules.specs.declared.Handler.{Handler}

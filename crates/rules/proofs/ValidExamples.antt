@@ -4,7 +4,6 @@ use Prim.Native.Nat.{ℕ}
 use mathlib.Core.Path.{◌≡◌, refl}
 use mathlib.Core.Bool.{true, false}
 use lib.ListN.{set, replicate}
-use Rattle.class_rules.specs.declared.Class.{Class}
 use Rattle.rules.specs.State.{new_handler, reset_class, with_interrupts, with_locals, with_alerts, with_classes, with_local_column, with_alert_column}
 use Rattle.rules.specs.Tick.{ticked}
 use Rattle.rules.specs.Valid.{valid}

@@ -1,6 +1,6 @@
 -- The state by index, and a new handler ("What the stations need").
 -- Assumes nothing.
-use Rattle.std.specs.Prelude.{ℕ, ◌-◌, ◌^◌, Bool, cond, ◌||◌, List, eqb, ltb, get_or, replicate}
+use Rattle.std.specs.Prelude.{ℕ, Bool, cond, ◌||◌, List, eqb, ltb, get_or, replicate}
 use Rattle.bits.specs.Index.{each, place_in, words_by}
 use Rattle.class_rules.specs.Class.{no_class}
 use Rattle.class_rules.specs.declared.Class.{Class}

@@ -1,5 +1,6 @@
 // The types of the handler. Its rules, document 01 section by section, are the definitions in specs/.
 #![tactic(auto)]
+
 use class_rules::Class;
 use link_rules::{Meets, Senders, Turn};
 

@@ -1,6 +1,6 @@
 -- What `link` makes of the facts of its calls.
 -- Assumes nothing.
-use Prim.Native.Nat.{ℕ, ◌<◌}
+use Prim.Native.Nat.{ℕ}
 use mathlib.Core.Path.{◌≡◌, refl, sym, ap, ap₂, ◌∙◌}
 use mathlib.Core.Bool.{Bool, true, false, false≢true, and_assoc, not, ◌&&◌, ◌||◌}
 use borrow.Author.Tests.{eq-eqb}
@@ -11,7 +11,7 @@ use Rattle.link_rules.proofs.SenderLaws.{senders_ext}
 use Rattle.link_rules.specs.Codes.{last_bit}
 use Rattle.link_rules.specs.LinePing.{closed_by_line, closing}
 use Rattle.link_rules.specs.Sender.{sent}
-use Rattle.link_rules.specs.Senders.{line_count, sender_in, sent_all}
+use Rattle.link_rules.specs.Senders.{sender_in, sent_all}
 use Rattle.link_rules.specs.Timer.{is_line, line_of, opens, open_now, ends, turned}
 use Rattle.link_rules.specs.declared.Meets.{Meets}
 use Rattle.link_rules.specs.declared.Senders.{Senders}

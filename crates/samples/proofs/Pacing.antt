@@ -23,7 +23,7 @@ use Rattle.rules.specs.Samples.{checks}
 use Rattle.rules.specs.declared.Receivers.{Receivers}
 use Rattle.rules.specs.declared.Sample.{Sample}
 use Rattle.rules.specs.declared.Timer.{Timer}
-use Rattle.samples.specs.Paced.{closed_by, met_by, line_answer, early_by, asked_by, BegunBy, meets_by, asks_by, wrong_by, was_right_by, answered_by, timed_by, receiver_by, right_by, PacedBy}
+use Rattle.samples.specs.Paced.{closed_by, met_by, line_answer, early_by, BegunBy, meets_by, asks_by, wrong_by, was_right_by, answered_by, timed_by, receiver_by, PacedBy}
 use Rattle.samples.specs.Received.{receiver_at, answers_at, ReceivedAll}
 use Rattle.samples.specs.declared.pace.Begun.{Begun}
 use Rattle.samples.specs.declared.receive.Received.{Received}

@@ -12,7 +12,6 @@ use Rattle.rules.specs.declared.Timer.{Timer}
 use Rattle.samples.specs.Paced.{asks_by, timed_by, receiver_by, right_by, wrong_by}
 use Rattle.samples.specs.Received.{happens_at, equal_at}
 use Rattle.samples.specs.declared.links.Quiet.{Quiet}
-use Rattle.samples.specs.declared.pace.Met.{Met}
 
 -- no place of the four words is set
 abbrev pub none_set : List ℕ → Bool

@@ -1,5 +1,6 @@
 // Step 2 of a tick: the samples. First what is heard, then what it does.
 #![tactic(auto)]
+
 mod receive; // receive.rt: the receivers, 64 alerts at a time
 mod back; // back.rt: what comes back from the lines
 pub mod pace; // pace.rt: the ping timer among the receivers and the lines

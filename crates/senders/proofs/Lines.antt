@@ -2,7 +2,7 @@
 -- Assumes nothing.
 use Prim.Native.Nat.{ℕ, ◌-◌, ◌^◌, ◌%◌, ◌<◌}
 use mathlib.Core.Path.{◌≡◌, refl, sym, ap, ap₂, ◌∙◌}
-use mathlib.Core.Bool.{Bool, true, false, not, xor, ◌&&◌, ◌||◌}
+use mathlib.Core.Bool.{Bool, not, xor, ◌&&◌, ◌||◌}
 use native.Mathlib.Omega.{arith}
 use lib.Bits.{bit_and, bit_or, bit_xor, xor_lt}
 use Rattle.bits.specs.Bits.{bit, bits_of}

@@ -106,7 +106,7 @@ no_level_above = other_wire levels_above (standing waiting) (standing waiting) (
 
 -- ── request (xi): the lines' pairs ──
 
--- as withPairs
+-- as with_pairs
 abbrev with_escalation : LinePairs → Output → Output
 with_escalation w o = record { interrupts = o.interrupts; lines = o.lines; acknowledge = o.acknowledge; ping = o.ping; escalation = w }
 

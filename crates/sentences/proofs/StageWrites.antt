@@ -7,7 +7,7 @@ use native.Mathlib.Omega.{arith}
 use borrow.Author.Tests.{eq-eqb, ne_eqb, ltb-true, lt-ltb}
 use Rattle.bits.proofs.IndexLaws.{true_and}
 use Rattle.laws.specs.InMap.{in_map}
-use Rattle.laws.specs.StageFile.{names, stage_by}
+use Rattle.laws.specs.StageFile.{stage_by}
 use Rattle.laws.proofs.Map.Named.{named_in_map}
 use Rattle.laws.proofs.Map.MapLaws.{number_eq}
 use Rattle.laws.proofs.Stages.StageFile.{in_most, acted_stage, stage_other}

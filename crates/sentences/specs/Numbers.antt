@@ -1,4 +1,4 @@
--- "Numbers that come back", in sentences: the signed number of each answer. 13 is an answer of the boot alone (policy, Plan.barNumber).
+-- "Numbers that come back", in sentences: the signed number of each answer. 13 is an answer of the boot alone (policy, Plan.bar_number).
 -- Assumes nothing.
 use Rattle.std.specs.Prelude.{ℕ, ◌≡◌, ℤ, pos, neg_ℤ}
 use Rattle.rules.specs.declared.Answer.{Answer}

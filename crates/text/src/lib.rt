@@ -1,5 +1,6 @@
 // "prints each word as 16 lower-case hex digits and a newline": words as lines of text.
 #![tactic(auto)]
+
 ghost use Rattle.std.specs.Prelude.{◌≡◌, ◌+◌, ◌*◌, ◌<◌, ◌≤◌, min, length};
 ghost use Rattle.std.proofs.Math.Seq.{paste};
 ghost use Rattle.text.specs.HexLines.{digit_of, line_of, Written};

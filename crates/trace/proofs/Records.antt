@@ -15,7 +15,7 @@ use Rattle.bits.proofs.IndexLaws.{is_each}
 use Rattle.bits.proofs.FieldLaws.{pack_unpack, unpack_fits}
 use Rattle.bits.proofs.PackLaws.{unpack_append, bytes_append}
 use Rattle.trace_rules.specs.Edition.{record_bytes, alerts, tail}
-use Rattle.trace_rules.specs.Record.{head, wires, layout, access_in, wire_words, receive_of, input_of_parts, input_of_fields, held_in, carried, input_of}
+use Rattle.trace_rules.specs.Record.{head, wires, layout, access_in, receive_of, input_of_parts, input_of_fields, held_in, carried, input_of}
 use Rattle.rules.specs.declared.Access.{Access}
 use Rattle.trace_rules.specs.declared.Edition.{Edition}
 use Rattle.trace_rules.specs.declared.Edition.TheVariants.{Alerts64, Alerts248, Pings, Wires}

@@ -14,7 +14,7 @@ use Rattle.rules.specs.State.{new_handler, with_timer}
 use Rattle.rules.specs.Tick.{ticked}
 use Rattle.rules.specs.declared.Handler.{Handler}
 use Rattle.trace_rules.specs.Batch.{batch}
-use Rattle.trace_rules.specs.Edition.{newest, record_bytes}
+use Rattle.trace_rules.specs.Edition.{record_bytes}
 use Rattle.trace_rules.specs.Record.{input_of, inputs_of}
 use Rattle.trace_rules.specs.Word.{word_of}
 use Rattle.trace_rules.specs.declared.Edition.{Edition}

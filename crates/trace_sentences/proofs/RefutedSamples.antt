@@ -1,6 +1,6 @@
 -- Wrong readers of what stands behind a record's wires, as in RefutedRecords.antt: the word and the answers of request (ix), the receive pairs of request (xi).
 -- Assumes nothing.
-use Prim.Native.Nat.{ℕ, zero, ◌+◌, ◌-◌, ◌*◌, ◌/◌, ◌%◌}
+use Prim.Native.Nat.{ℕ, ◌+◌, ◌-◌, ◌*◌, ◌/◌, ◌%◌}
 use mathlib.Core.Path.{◌≡◌, refl, sym, ap, ◌∙◌}
 use mathlib.Core.Bool.{true, false, false≢true, cond, not}
 use mathlib.Core.List.{List, [], ◌∷◌, ◌++◌}
@@ -10,9 +10,7 @@ use lib.ListN.{get_or, length, drop, replicate}
 use Rattle.bits.specs.Bits.{bit, bits_of, field}
 use Rattle.bits.specs.Fields.{pack, unpack, of_bytes}
 use Rattle.rules.specs.Access.{malformed}
-use Rattle.rules.specs.Answer.{number}
 use Rattle.rules.specs.declared.Access.{Access}
-use Rattle.rules.specs.declared.Access.TheVariants.{Malformed}
 use Rattle.rules.specs.declared.Input.{Input}
 use Rattle.rules.specs.declared.Receive.{Receive}
 use Rattle.rules.specs.declared.Receive.TheVariants.{Pairs, Answers}

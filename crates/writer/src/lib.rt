@@ -1,6 +1,7 @@
 // Request (ii): a trace writer for a list of accesses and samples, lent as eight lists of numbers: entry i is tick i's, and has WORDS words
 // of positive and of negative wires.
 #![tactic(auto)]
+
 mod bytes;
 mod recordable;
 mod records;

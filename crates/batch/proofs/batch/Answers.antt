@@ -1,12 +1,13 @@
 -- `batch` meets its contract: the refusals in their order, and else the ticks of the records; demand 3 holds of those ticks.
 -- Assumes nothing.
 use Prim.Native.Nat.{ℕ, ◌/◌, ◌%◌, ◌<◌}
-use mathlib.Core.Path.{◌≡◌, sym, ap, ap₂, subst, ◌∙◌}
+use mathlib.Core.Path.{◌≡◌, sym, ap, subst, ◌∙◌}
 use mathlib.Core.List.{List, ◌++◌, map}
-use mathlib.Core.Bool.{Bool, true, false, not, ◌&&◌}
+use mathlib.Core.Bool.{Bool, true, false, not}
+use native.Mathlib.Omega.{arith}
 use borrow.Author.Rules.{rules}
 use borrow.Author.Tests.{not-false, ne_eqb, eq-eqb, lt-ltb, le-ltb}
-use lib.Dec.{eqb, leb, ltb}
+use lib.Dec.{eqb, ltb}
 use lib.ListN.{length, drop}
 use mir.Facts.{to_z-of_z}
 use mir.Syntax.{w64}
@@ -59,7 +60,7 @@ run_records-handler-requires c =
     let a = c.args in (
       admits_valid a.edition a.h (not-false _ (broken c.args.edition c.args.h _ false c.is_admitted-broken.ensures (ap not c.if-broken.false))),
       ap (λ (n : ℕ). length a.bytes.now / n) c.record_bytes-size.ensures,
-      c.if-short.false,
+      omega (arith, c.if-short.false),
     )
 
 pub returns-then-broken : goal.returns-then-broken
@@ -74,11 +75,17 @@ returns-then-uneven c =
 
 pub returns-then-short : goal.returns-then-short
 returns-then-short c =
-    let h = c.args.h in record { batched_by = given_refusal _ _ _ _ ShortList _
-          (nine _ _ _ _ (broken c.args.edition c.args.h _ false c.is_admitted-broken.ensures (ap not c.if-broken.false)) (uneven c.args.edition c.args.bytes.now _ false c.record_bytes-size.ensures (ap not (eq-eqb _ _ c.if-uneven.false))) (short c.args.edition c.args.bytes.now c.args.out.now _ true c.record_bytes-size.ensures (lt-ltb _ _ c.if-short.true))) c.refuse-then-short.ensures; demand3 = demand3 h _ }
+    let h = c.args.h in record {
+      batched_by = given_refusal _ _ _ _ ShortList _
+          (nine _ _ _ _ (broken c.args.edition c.args.h _ false c.is_admitted-broken.ensures (ap not c.if-broken.false)) (uneven c.args.edition c.args.bytes.now _ false c.record_bytes-size.ensures (ap not (eq-eqb _ _ c.if-uneven.false))) (short c.args.edition c.args.bytes.now c.args.out.now _ true c.record_bytes-size.ensures (lt-ltb _ _ c.if-short.true))) c.refuse-then-short.ensures;
+      demand3 = demand3 h _;
+    }
 
 pub returns-else-short : goal.returns-else-short
 returns-else-short c =
     let a = c.args in
-    let e : to_z w64 (of_z w64 c.signed.result) ≡ c.signed.result = to_z-of_z {w = w64} (search rules) in record { batched_by = given_ticks a.edition a.h a.bytes.now a.out.now (broken c.args.edition c.args.h _ false c.is_admitted-broken.ensures (ap not c.if-broken.false)) (uneven c.args.edition c.args.bytes.now _ false c.record_bytes-size.ensures (ap not (eq-eqb _ _ c.if-uneven.false)))
-          (short c.args.edition c.args.bytes.now c.args.out.now _ false c.record_bytes-size.ensures (le-ltb _ _ c.if-short.false)) _ _ _ (counted c.args.edition c.args.h c.args.bytes.now c.args.out.now _ c.record_bytes-size.ensures _ _ c.run_records-handler.ensures) (e ∙ c.signed.ensures.value); demand3 = demand3 a.h _ }
+    let e : to_z w64 (of_z w64 c.signed.result) ≡ c.signed.result = to_z-of_z {w = w64} (search rules) in record {
+      batched_by = given_ticks a.edition a.h a.bytes.now a.out.now (broken c.args.edition c.args.h _ false c.is_admitted-broken.ensures (ap not c.if-broken.false)) (uneven c.args.edition c.args.bytes.now _ false c.record_bytes-size.ensures (ap not (eq-eqb _ _ c.if-uneven.false)))
+          (short c.args.edition c.args.bytes.now c.args.out.now _ false c.record_bytes-size.ensures (le-ltb _ _ (omega (arith, c.if-short.false)))) _ _ _ (counted c.args.edition c.args.h c.args.bytes.now c.args.out.now _ c.record_bytes-size.ensures _ _ c.run_records-handler.ensures) (e ∙ c.signed.ensures.value);
+      demand3 = demand3 a.h _;
+    }

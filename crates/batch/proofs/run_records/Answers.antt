@@ -1,24 +1,19 @@
 -- `run_records` meets its contract: one more record has run in each turn.
 -- Assumes nothing.
-use Prim.Native.Nat.{ℕ, ◌-◌, ◌*◌, ◌≤◌}
-use mathlib.Core.Path.{◌≡◌, sym, ap, subst, ◌∙◌}
-use mathlib.Core.Bool.{Bool, true, false, true≢false, not}
-use mathlib.Core.Logic.{⊎_elim}
+use Prim.Native.Nat.{ℕ, ◌*◌}
+use mathlib.Core.Path.{◌≡◌, ap, ◌∙◌}
 use native.Mathlib.Omega.{arith}
 use native.Mathlib.Numerals.{add-one}
 use lib.ListN.{take, drop}
 use Rattle.trace_rules.specs.Edition.{record_bytes}
-use Rattle.trace_rules.specs.Record.{input_of, inputs_of}
+use Rattle.trace_rules.specs.Record.{input_of}
 use Rattle.handler.specs.QuietTick.{with_moved, ended}
 use Rattle.handler.specs.MovingTick.{moved_to}
 use Rattle.handler.specs.RestTick.{rested}
-use Rattle.handler.specs.declared.tick.Finished.{Finished}
 use Rattle.handler.proofs.WholeTick.{accessed_most}
 use Rattle.rules.specs.Access.{accessed}
-use Rattle.rules.specs.State.{most}
 use Rattle.rules.specs.declared.Accessed.{Accessed}
 use Rattle.rules.specs.declared.Links.{Links}
-use Rattle.batch.specs.Running.{Running}
 use Rattle.batch.proofs.Running.{start, end, length_inputs, record_within, few_alerts, next_record, unmoved_accessed}
 use Rattle.batch.proofs.run_records.Goals as goal
 use Rattle.batch.proofs.run_records.Goals.{then-not-unmoved, else-not-unmoved}
@@ -41,10 +36,11 @@ moving_of-moving-requires c =
     -- step 1, whichever way it came
     let one : ◌≡◌ {A = Accessed} (record { handler = c.if-not-unmoved.g; answer = c.if-not-unmoved.answer; effects = c.if-not-unmoved.effects }) (accessed c.loop-i.g c.input_at-x.result.access) =
     elim c.if-not-unmoved.branch [
-      then-not-unmoved w ↦ (λ t. record { handler = w.g-is t; answer = w.answer-is t; effects = w.effects-is t })
+      | then-not-unmoved w ↦ (λ t. record { handler = w.g-is t; answer = w.answer-is t; effects = w.effects-is t })
           ∙ rw (w.set_at.ensures, w.set_at-then-not-unmoved.ensures, w.set_at-then-not-unmoved-2.ensures, w.set_at-then-not-unmoved-3.ensures, w.set_at-then-not-unmoved-4.ensures, w.set_at-then-not-unmoved-5.ensures) w.put_of-put.ensures
-    | else-not-unmoved w ↦ (λ t. record { handler = w.g-is t; answer = w.answer-is t; effects = w.effects-is t })
-          ∙ unmoved_accessed _ _ _ _ _ c.no_effects-effects.ensures c.unmoved_by-unmoved.ensures w.if-not-unmoved.false ] in
+      | else-not-unmoved w ↦ (λ t. record { handler = w.g-is t; answer = w.answer-is t; effects = w.effects-is t })
+          ∙ unmoved_accessed _ _ _ _ _ c.no_effects-effects.ensures c.unmoved_by-unmoved.ensures w.if-not-unmoved.false
+    ] in
     let l = c.loop-i in
     accessed_most l.g _ _ one (few_alerts _ _ _ c.requires.0 _ _ _ l.invariant.1)
 
@@ -68,10 +64,11 @@ loop-i-preserved-then-moving c =
     -- step 1, whichever way it came
     let one : ◌≡◌ {A = Accessed} (record { handler = c.if-not-unmoved.g; answer = c.if-not-unmoved.answer; effects = c.if-not-unmoved.effects }) (accessed c.loop-i.g c.input_at-x.result.access) =
     elim c.if-not-unmoved.branch [
-      then-not-unmoved w ↦ (λ t. record { handler = w.g-is t; answer = w.answer-is t; effects = w.effects-is t })
+      | then-not-unmoved w ↦ (λ t. record { handler = w.g-is t; answer = w.answer-is t; effects = w.effects-is t })
           ∙ rw (w.set_at.ensures, w.set_at-then-not-unmoved.ensures, w.set_at-then-not-unmoved-2.ensures, w.set_at-then-not-unmoved-3.ensures, w.set_at-then-not-unmoved-4.ensures, w.set_at-then-not-unmoved-5.ensures) w.put_of-put.ensures
-    | else-not-unmoved w ↦ (λ t. record { handler = w.g-is t; answer = w.answer-is t; effects = w.effects-is t })
-          ∙ unmoved_accessed _ _ _ _ _ c.no_effects-effects.ensures c.unmoved_by-unmoved.ensures w.if-not-unmoved.false ] in
+      | else-not-unmoved w ↦ (λ t. record { handler = w.g-is t; answer = w.answer-is t; effects = w.effects-is t })
+          ∙ unmoved_accessed _ _ _ _ _ c.no_effects-effects.ensures c.unmoved_by-unmoved.ensures w.if-not-unmoved.false
+    ] in
     let l = c.loop-i in (
       omega arith,
       rw add-one
@@ -101,10 +98,11 @@ loop-i-preserved-then-moving-2 c =
     -- step 1, whichever way it came
     let one : ◌≡◌ {A = Accessed} (record { handler = c.if-not-unmoved.g; answer = c.if-not-unmoved.answer; effects = c.if-not-unmoved.effects }) (accessed c.loop-i.g c.input_at-x.result.access) =
     elim c.if-not-unmoved.branch [
-      then-not-unmoved w ↦ (λ t. record { handler = w.g-is t; answer = w.answer-is t; effects = w.effects-is t })
+      | then-not-unmoved w ↦ (λ t. record { handler = w.g-is t; answer = w.answer-is t; effects = w.effects-is t })
           ∙ rw (w.set_at.ensures, w.set_at-then-not-unmoved.ensures, w.set_at-then-not-unmoved-2.ensures, w.set_at-then-not-unmoved-3.ensures, w.set_at-then-not-unmoved-4.ensures, w.set_at-then-not-unmoved-5.ensures) w.put_of-put.ensures
-    | else-not-unmoved w ↦ (λ t. record { handler = w.g-is t; answer = w.answer-is t; effects = w.effects-is t })
-          ∙ unmoved_accessed _ _ _ _ _ c.no_effects-effects.ensures c.unmoved_by-unmoved.ensures w.if-not-unmoved.false ] in
+      | else-not-unmoved w ↦ (λ t. record { handler = w.g-is t; answer = w.answer-is t; effects = w.effects-is t })
+          ∙ unmoved_accessed _ _ _ _ _ c.no_effects-effects.ensures c.unmoved_by-unmoved.ensures w.if-not-unmoved.false
+    ] in
     let l = c.loop-i in (
       omega arith,
       rw add-one
@@ -119,10 +117,11 @@ quiet_of-quiet-requires c =
     -- step 1, whichever way it came
     let one : ◌≡◌ {A = Accessed} (record { handler = c.if-not-unmoved.g; answer = c.if-not-unmoved.answer; effects = c.if-not-unmoved.effects }) (accessed c.loop-i.g c.input_at-x.result.access) =
     elim c.if-not-unmoved.branch [
-      then-not-unmoved w ↦ (λ t. record { handler = w.g-is t; answer = w.answer-is t; effects = w.effects-is t })
+      | then-not-unmoved w ↦ (λ t. record { handler = w.g-is t; answer = w.answer-is t; effects = w.effects-is t })
           ∙ rw (w.set_at.ensures, w.set_at-then-not-unmoved.ensures, w.set_at-then-not-unmoved-2.ensures, w.set_at-then-not-unmoved-3.ensures, w.set_at-then-not-unmoved-4.ensures, w.set_at-then-not-unmoved-5.ensures) w.put_of-put.ensures
-    | else-not-unmoved w ↦ (λ t. record { handler = w.g-is t; answer = w.answer-is t; effects = w.effects-is t })
-          ∙ unmoved_accessed _ _ _ _ _ c.no_effects-effects.ensures c.unmoved_by-unmoved.ensures w.if-not-unmoved.false ] in
+      | else-not-unmoved w ↦ (λ t. record { handler = w.g-is t; answer = w.answer-is t; effects = w.effects-is t })
+          ∙ unmoved_accessed _ _ _ _ _ c.no_effects-effects.ensures c.unmoved_by-unmoved.ensures w.if-not-unmoved.false
+    ] in
     let l = c.loop-i in
     accessed_most l.g _ _ one (few_alerts _ _ _ c.requires.0 _ _ _ l.invariant.1)
 
@@ -146,10 +145,11 @@ loop-i-preserved-then-quiet c =
     -- step 1, whichever way it came
     let one : ◌≡◌ {A = Accessed} (record { handler = c.if-not-unmoved.g; answer = c.if-not-unmoved.answer; effects = c.if-not-unmoved.effects }) (accessed c.loop-i.g c.input_at-x.result.access) =
     elim c.if-not-unmoved.branch [
-      then-not-unmoved w ↦ (λ t. record { handler = w.g-is t; answer = w.answer-is t; effects = w.effects-is t })
+      | then-not-unmoved w ↦ (λ t. record { handler = w.g-is t; answer = w.answer-is t; effects = w.effects-is t })
           ∙ rw (w.set_at.ensures, w.set_at-then-not-unmoved.ensures, w.set_at-then-not-unmoved-2.ensures, w.set_at-then-not-unmoved-3.ensures, w.set_at-then-not-unmoved-4.ensures, w.set_at-then-not-unmoved-5.ensures) w.put_of-put.ensures
-    | else-not-unmoved w ↦ (λ t. record { handler = w.g-is t; answer = w.answer-is t; effects = w.effects-is t })
-          ∙ unmoved_accessed _ _ _ _ _ c.no_effects-effects.ensures c.unmoved_by-unmoved.ensures w.if-not-unmoved.false ] in
+      | else-not-unmoved w ↦ (λ t. record { handler = w.g-is t; answer = w.answer-is t; effects = w.effects-is t })
+          ∙ unmoved_accessed _ _ _ _ _ c.no_effects-effects.ensures c.unmoved_by-unmoved.ensures w.if-not-unmoved.false
+    ] in
     let l = c.loop-i in (
       omega arith,
       rw add-one
@@ -165,12 +165,12 @@ finish-t-requires c =
     -- step 1, whichever way it came
     let one : ◌≡◌ {A = Accessed} (record { handler = c.if-not-unmoved.g; answer = c.if-not-unmoved.answer; effects = c.if-not-unmoved.effects }) (accessed c.loop-i.g c.input_at-x.result.access) =
     elim c.if-not-unmoved.branch [
-      then-not-unmoved w ↦ (λ t. record { handler = w.g-is t; answer = w.answer-is t; effects = w.effects-is t })
+      | then-not-unmoved w ↦ (λ t. record { handler = w.g-is t; answer = w.answer-is t; effects = w.effects-is t })
           ∙ rw (w.set_at.ensures, w.set_at-then-not-unmoved.ensures, w.set_at-then-not-unmoved-2.ensures, w.set_at-then-not-unmoved-3.ensures, w.set_at-then-not-unmoved-4.ensures, w.set_at-then-not-unmoved-5.ensures) w.put_of-put.ensures
-    | else-not-unmoved w ↦ (λ t. record { handler = w.g-is t; answer = w.answer-is t; effects = w.effects-is t })
-          ∙ unmoved_accessed _ _ _ _ _ c.no_effects-effects.ensures c.unmoved_by-unmoved.ensures w.if-not-unmoved.false ] in
-    let l = c.loop-i in
-    accessed_most l.g _ _ one (few_alerts _ _ _ c.requires.0 _ _ _ l.invariant.1)
+      | else-not-unmoved w ↦ (λ t. record { handler = w.g-is t; answer = w.answer-is t; effects = w.effects-is t })
+          ∙ unmoved_accessed _ _ _ _ _ c.no_effects-effects.ensures c.unmoved_by-unmoved.ensures w.if-not-unmoved.false
+    ] in
+    accessed_most c.loop-i.g _ _ one (few_alerts _ _ _ c.requires.0 _ _ _ c.loop-i.invariant.1)
 
 pub offset_bounds-out-i-in-loop-i : goal.offset_bounds-out-i-in-loop-i
 offset_bounds-out-i-in-loop-i c =
@@ -192,10 +192,11 @@ loop-i-preserved c =
     -- step 1, whichever way it came
     let one : ◌≡◌ {A = Accessed} (record { handler = c.if-not-unmoved.g; answer = c.if-not-unmoved.answer; effects = c.if-not-unmoved.effects }) (accessed c.loop-i.g c.input_at-x.result.access) =
     elim c.if-not-unmoved.branch [
-      then-not-unmoved w ↦ (λ t. record { handler = w.g-is t; answer = w.answer-is t; effects = w.effects-is t })
+      | then-not-unmoved w ↦ (λ t. record { handler = w.g-is t; answer = w.answer-is t; effects = w.effects-is t })
           ∙ rw (w.set_at.ensures, w.set_at-then-not-unmoved.ensures, w.set_at-then-not-unmoved-2.ensures, w.set_at-then-not-unmoved-3.ensures, w.set_at-then-not-unmoved-4.ensures, w.set_at-then-not-unmoved-5.ensures) w.put_of-put.ensures
-    | else-not-unmoved w ↦ (λ t. record { handler = w.g-is t; answer = w.answer-is t; effects = w.effects-is t })
-          ∙ unmoved_accessed _ _ _ _ _ c.no_effects-effects.ensures c.unmoved_by-unmoved.ensures w.if-not-unmoved.false ] in
+      | else-not-unmoved w ↦ (λ t. record { handler = w.g-is t; answer = w.answer-is t; effects = w.effects-is t })
+          ∙ unmoved_accessed _ _ _ _ _ c.no_effects-effects.ensures c.unmoved_by-unmoved.ensures w.if-not-unmoved.false
+    ] in
     let l = c.loop-i in (
       omega arith,
       rw add-one

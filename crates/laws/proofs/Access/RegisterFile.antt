@@ -157,7 +157,7 @@ target_in_map n q =
     by_kind (λ q. in_map n q ≡ true → in_map n (target q) ≡ true)
     (λ o a. a) (λ f j a. a) (λ f i a. a) (λ s k a. a) (λ a. a) q
 
--- v stored at q makes newValue of what q writes, and leaves every other register
+-- v stored at q makes new_value of what q writes, and leaves every other register
 pub value_stored : (h : Handler) (q p : Register) (v : ℕ) → h.n ≤ most → in_map h.n q ≡ true → in_map h.n p ≡ true
     → value (store h q v) p ≡ cond (writes q p) (new_value q (value h p) v) (value h p)
 value_stored h q p v m a b = go (writes q p) refl

@@ -174,6 +174,6 @@ register_bounded h v =
     (λ s k a. let b = and-true (ltb k class_count) (setting_exists s) a in setting_bounded (class_at h k) (v.classes k (ltb-true _ _ b.0)) s b.1)
     (λ a. absurd (false≢true a))
 
--- in a valid state no inMap register holds more than its field's bits
+-- in a valid state no in_map register holds more than its field's bits
 pub bounded : (h : Handler) (q : Register) → valid h ≡ true → in_map h.n q ≡ true → value h q < 2 ^ bits q
 bounded h q e a = register_bounded h (facts h e) q a

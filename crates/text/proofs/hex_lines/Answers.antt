@@ -3,10 +3,9 @@
 use native.Mathlib.Omega.{arith}
 use Rattle.text.proofs.LineLaws.{put_next}
 use borrow.Author.Rules.{rules}
-use Prim.Native.Nat.{ℕ, ◌+◌, ◌*◌, ◌-◌, ◌≤◌, ◌<◌}
+use Prim.Native.Nat.{ℕ, ◌+◌, ◌*◌, ◌≤◌, ◌<◌}
 use mathlib.Core.Path.{◌≡◌, ap}
-use mathlib.Core.List.{◌++◌}
-use lib.ListN.{length, take, drop}
+use lib.ListN.{length}
 use Rattle.text.specs.HexLines.{lines_of}
 use Rattle.text.proofs.hex_lines.Goals as goal
 

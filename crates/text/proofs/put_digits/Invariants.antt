@@ -1,10 +1,7 @@
-use native.Mathlib.Omega.{arith}
-use Rattle.text.proofs.LineLaws.{put_digit}
-use borrow.Author.Rules.{rules}
-use Prim.Native.Nat.{◌-◌, ◌≤◌, ◌<◌}
+use Prim.Native.Nat.{◌-◌, ◌≤◌}
 use mathlib.Core.Path.{◌≡◌}
 use lib.ListN.{length}
-use lib.Seq.{paste, paste-zero}
+use lib.Seq.{paste}
 use Rattle.text.specs.HexLines.{line_of}
 use Rattle.text.proofs.put_digits.Given as goal
 

@@ -1,11 +1,10 @@
 -- `bar` meets its contract.
 -- Assumes nothing.
-use mathlib.Core.Path.{◌≡◌, refl, ap₂, ◌∙◌}
-use lib.IntN.{ℤ, pos, neg_ℤ}
+use mathlib.Core.Path.{◌≡◌, ap₂, ◌∙◌}
+use lib.IntN.{ℤ}
 use mir.Facts.{to_z-of_z}
 use mir.Syntax.{w64}
 use mir.Val.{to_z, of_z}
-use Rattle.calm_rules.specs.Call.{bar_number}
 use Rattle.rules.specs.declared.Output.{Output}
 use borrow.Author.Rules.{rules}
 use Rattle.calm.proofs.call.bar.Goals as goal

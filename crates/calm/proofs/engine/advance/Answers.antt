@@ -3,12 +3,10 @@
 use Prim.Native.Nat.{ℕ, ◌+◌, ◌-◌, ◌≤◌, ◌<◌}
 use mathlib.Core.Path.{◌≡◌, refl, sym, ap, ◌∙◌}
 use native.Mathlib.Omega.{arith}
-use lib.Dec.{ltb}
 use lib.ListN.{length}
-use Rattle.bits.specs.Bits.{num}
 use Rattle.calm_rules.specs.Ticks.{change_word}
 use Rattle.laws.specs.OutputMasks.{lines_on}
-use Rattle.calm_laws.specs.Four.{met, four_stands, four_jump, moves_in, Running}
+use Rattle.calm_laws.specs.Four.{met, four_stands, four_jump}
 use Rattle.calm_laws.specs.Steady.{steady, senders_for}
 use Rattle.link_rules.specs.Senders.{sent_all}
 use Rattle.calm_laws.specs.Stand.{least}
@@ -31,8 +29,7 @@ pub go_round-round-requires : goal.go_round-round-requires
 go_round-round-requires c =
     let a = c.args in
     let s = met a.events a.interrupts in
-    let l = c.loop-done in
-    (
+    let l = c.loop-done in (
       now_fit s (no_clear a.events a.interrupts) a.start a.senders c.requires.0 a.from a.first a.out.now l.done l.classes l.sent l.written l.out l.invariant.1,
       omega (arith, c.least-time.ensures, c.four_stands.ensures, least_below (a.n - l.done - 1) c.four_stands.result),
     )
@@ -91,11 +88,13 @@ loop-done-preserved-then-round c =
     let g = c.go_round-round in
     -- the classes and the senders after it, as the laws of a round take them
     let stepped : g.result.senders ≡ sent_all (senders_for (lines_on (four_jump s time l.classes)) time l.sent) (steady (lines_on g.result.classes)) =
-    g.ensures.senders ∙ ap (λ cs. sent_all (senders_for (lines_on (four_jump s time l.classes)) time l.sent) (steady (lines_on cs))) (sym g.ensures.classes) in
-    (in_time, round_quiet s (no_clear a.events a.interrupts) a.start a.senders c.requires.0 a.from a.first a.out.now l.done l.classes l.sent l.written l.out l.invariant.1
-    time stands (four_jump s time l.classes) g.result.classes refl g.ensures.classes
-    (senders_for (lines_on (four_jump s time l.classes)) time l.sent) g.result.senders refl stepped
-    (ap lines_on g.ensures.classes ∙ sym g.ensures.lines ∙ c.if-round.true ∙ g.ensures.before))
+    g.ensures.senders ∙ ap (λ cs. sent_all (senders_for (lines_on (four_jump s time l.classes)) time l.sent) (steady (lines_on cs))) (sym g.ensures.classes) in (
+      in_time,
+      round_quiet s (no_clear a.events a.interrupts) a.start a.senders c.requires.0 a.from a.first a.out.now l.done l.classes l.sent l.written l.out l.invariant.1
+          time stands (four_jump s time l.classes) g.result.classes refl g.ensures.classes
+          (senders_for (lines_on (four_jump s time l.classes)) time l.sent) g.result.senders refl stepped
+          (ap lines_on g.ensures.classes ∙ sym g.ensures.lines ∙ c.if-round.true ∙ g.ensures.before),
+    )
 
 pub overflow_add-from : goal.overflow_add-from
 overflow_add-from c =
@@ -220,12 +219,14 @@ loop-done-preserved c =
     g.ensures.senders ∙ ap (λ cs. sent_all (senders_for (lines_on (four_jump s time l.classes)) time l.sent) (steady (lines_on cs))) (sym g.ensures.classes) in
     -- the lines differ
     let differ : lines_on g.result.classes ≡ lines_on (four_jump s time l.classes) → ⊥ =
-    λ h. c.if-round.false (g.ensures.lines ∙ ap lines_on (sym g.ensures.classes) ∙ h ∙ sym g.ensures.before) in
-    (in_time, round_changed s (no_clear a.events a.interrupts) a.start a.senders c.requires.0 a.from a.first a.out.now l.done l.classes l.sent l.written l.out l.invariant.1
-    time stands (four_jump s time l.classes) g.result.classes refl g.ensures.classes
-    (senders_for (lines_on (four_jump s time l.classes)) time l.sent) g.result.senders refl stepped
-    differ c.change_word.result
-    (c.change_word.ensures ∙ ap (λ (x : ℕ). change_word x (a.from + (l.done + time + 1))) (g.ensures.lines ∙ ap lines_on (sym g.ensures.classes))))
+    λ h. c.if-round.false (g.ensures.lines ∙ ap lines_on (sym g.ensures.classes) ∙ h ∙ sym g.ensures.before) in (
+      in_time,
+      round_changed s (no_clear a.events a.interrupts) a.start a.senders c.requires.0 a.from a.first a.out.now l.done l.classes l.sent l.written l.out l.invariant.1
+          time stands (four_jump s time l.classes) g.result.classes refl g.ensures.classes
+          (senders_for (lines_on (four_jump s time l.classes)) time l.sent) g.result.senders refl stepped
+          differ c.change_word.result
+          (c.change_word.ensures ∙ ap (λ (x : ℕ). change_word x (a.from + (l.done + time + 1))) (g.ensures.lines ∙ ap lines_on (sym g.ensures.classes))),
+    )
 
 pub shape_of-out : goal.shape_of-out
 shape_of-out c = c.loop-done.invariant.1.same

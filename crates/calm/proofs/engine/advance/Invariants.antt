@@ -1,17 +1,7 @@
-use Prim.Native.Nat.{ℕ, ◌+◌, ◌-◌, ◌≤◌, ◌<◌}
-use mathlib.Core.Path.{◌≡◌, refl, sym, ap, ◌∙◌}
-use native.Mathlib.Omega.{arith}
+use Prim.Native.Nat.{◌+◌, ◌≤◌}
 use lib.Dec.{ltb}
-use lib.ListN.{length}
 use Rattle.bits.specs.Bits.{num}
-use Rattle.calm_rules.specs.Ticks.{change_word}
-use Rattle.laws.specs.OutputMasks.{lines_on}
-use Rattle.calm_laws.specs.Four.{met, four_stands, four_jump, moves_in, Running}
-use Rattle.calm_laws.specs.Steady.{steady, senders_for}
-use Rattle.link_rules.specs.Senders.{sent_all}
-use Rattle.calm_laws.specs.Stand.{least}
-use Rattle.calm_laws.proofs.Rounds.{start, now_fit, no_clear, round_quiet, round_room, round_changed, round_falls}
-use Rattle.calm_laws.proofs.Standing.{least_below}
+use Rattle.calm_laws.specs.Four.{met, moves_in, Running}
 use Rattle.calm.proofs.engine.advance.Given as goal
 
 abbrev pub invariant-loop-done : goal.invariant-loop-done

@@ -1,6 +1,6 @@
 -- `steady_events` meets its contract.
 -- Assumes nothing.
-use mathlib.Core.Path.{◌≡◌, ap, ◌∙◌}
+use mathlib.Core.Path.{ap, ◌∙◌}
 use mathlib.Core.Bool.{false}
 use Rattle.laws.proofs.Valid.ValidLaws.{facts}
 use Rattle.rules.specs.Samples.{heard, assigned}

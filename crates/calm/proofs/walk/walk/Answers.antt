@@ -1,10 +1,8 @@
 -- `walk` meets its contract.
 -- Assumes nothing.
-use Prim.Native.Nat.{ℕ, ◌-◌, ◌≤◌}
-use mathlib.Core.Path.{◌≡◌, sym, subst}
+use mathlib.Core.Path.{◌≡◌}
 use native.Mathlib.Numerals.{add-one}
 use native.Mathlib.Omega.{arith}
-use Rattle.calm.specs.Walk.{Walk}
 use Rattle.calm.proofs.Walking.{walk_none, walk_valid, walk_off, walk_lines, walk_room, walk_next}
 use Rattle.calm.proofs.walk.walk.Goals as goal
 

@@ -1,9 +1,6 @@
 -- `read::nothing` meets its contract.
 -- Assumes nothing.
 use Rattle.dump_content.proofs.ReadLaws.{nothing_is}
-use Rattle.dump_content.proofs.read.nothing.Reads as reads
-use Rattle.dump_content.proofs.read.nothing.Lts as lts
-use Rattle.dump_content.proofs.read.refused.Reads as refused-reads
 use Rattle.dump_content.proofs.read.nothing.Goals as goal
 
 pub returns : goal.returns

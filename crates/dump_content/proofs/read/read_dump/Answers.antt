@@ -2,11 +2,6 @@
 -- Assumes nothing.
 use mathlib.Core.Path.{◌∙◌}
 use Rattle.dump_content.proofs.ReadLaws.{a_dump, cut_dump, none_dump}
-use Rattle.dump_content.proofs.read.read_dump.Reads as reads
-use Rattle.dump_content.proofs.read.read_dump.Lts as lts
-use Rattle.dump_content.proofs.read.nothing.Reads as nothing-reads
-use Rattle.dump_content.proofs.shown.content_of.Reads as content-of-reads
-use Rattle.dump_reader.proofs.judge.judge.Reads as judge-reads
 use Rattle.dump_content.proofs.read.read_dump.Goals as goal
 
 pub content_of-requires : goal.content_of-requires

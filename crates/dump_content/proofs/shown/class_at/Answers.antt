@@ -3,9 +3,6 @@
 use Prim.Native.Nat.{◌+◌, ◌^◌, ◌<◌}
 use native.Mathlib.Omega.{arith}
 use Rattle.dump_reader.proofs.JudgeLaws.{small}
-use Rattle.dump_content.proofs.shown.class_at.Reads as reads
-use Rattle.dump_content.proofs.shown.class_at.Lts as lts
-use Rattle.dump_reader.proofs.places.take_bits.Reads as take-bits-reads
 use Rattle.dump_content.proofs.shown.class_at.Goals as goal
 
 pub overflow_cast-state : goal.overflow_cast-state

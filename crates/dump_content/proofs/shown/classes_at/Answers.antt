@@ -1,9 +1,6 @@
 -- `shown::classes_at` meets its contract.
 -- Assumes nothing.
 use Rattle.bits.specs.Index.{each_from}
-use Rattle.dump_content.proofs.shown.classes_at.Reads as reads
-use Rattle.dump_content.proofs.shown.classes_at.Lts as lts
-use Rattle.dump_content.proofs.shown.class_at.Reads as class-at-reads
 use Rattle.dump_content.proofs.shown.classes_at.Goals as goal
 
 pub returns : goal.returns

@@ -1,17 +1,9 @@
 -- `shown::content_of` meets its contract.
 -- Assumes nothing.
-use Prim.Native.Nat.{ℕ, ◌+◌, ◌*◌, ◌≤◌}
-use mathlib.Core.Path.{◌≡◌, ◌∙◌}
-use mathlib.Core.List.{List}
+use mathlib.Core.Path.{◌∙◌}
 use native.Mathlib.Omega.{arith}
 use lib.IntN.{pos}
-use Rattle.bits.specs.Index.{each}
-use Rattle.dump_map.specs.declared.Kind.{Kind}
-use Rattle.dump_rules.specs.Content.{codes_by, content_by}
-use Rattle.dump_rules.specs.Reader.{read_dump}
-use Rattle.dump_rules.specs.Shown.{limit}
 use Rattle.formats.proofs.BitListLaws.{are_all}
-use Rattle.dump_content.specs.Places.{class_at_bit, flag_at_bit, stages_at_bit}
 use Rattle.dump_content.proofs.ContentLaws.{content_is}
 use Rattle.dump_content.proofs.shown.content_of.Goals as goal
 

@@ -1,15 +1,8 @@
 use Prim.Native.Nat.{ℕ, ◌-◌, ◌≤◌, ◌<◌}
-use mathlib.Core.Path.{◌≡◌, sym, ap, ◌∙◌}
+use mathlib.Core.Path.{◌≡◌}
 use mathlib.Core.Bool.{false}
-use native.Mathlib.Omega.{arith}
-use borrow.Author.Rules.{rules}
 use Rattle.rules.specs.Map.{decode, is_shadowed}
 use Rattle.dump_rules.specs.Shown.{limit}
-use Rattle.dump_map.proofs.CountLaws.{none_more}
-use Rattle.dump_map.proofs.counts.first_shadowed.Reads as reads
-use Rattle.dump_map.proofs.counts.first_shadowed.Lts as lts
-use Rattle.map.proofs.column.is_shadowed.Reads as is-shadowed-reads
-use Rattle.map.proofs.number.register_at.Reads as register-at-reads
 use Rattle.dump_map.proofs.counts.first_shadowed.Given as goal
 
 abbrev pub invariant-loop-r : goal.invariant-loop-r

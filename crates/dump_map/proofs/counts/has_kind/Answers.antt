@@ -1,8 +1,3 @@
-use Rattle.dump_map.proofs.counts.has_kind.Reads as reads
-use Rattle.dump_map.proofs.counts.has_kind.Lts as lts
-use Rattle.dump_map.proofs.counts.is_cause.Reads as is-cause-reads
-use Rattle.map.proofs.column.is_lock.Reads as is-lock-reads
-use Rattle.map.proofs.column.is_shadowed.Reads as is-shadowed-reads
 use Rattle.dump_map.proofs.counts.has_kind.Goals as goal
 
 pub returns-in-Lock : goal.returns-in-Lock

@@ -1,6 +1,3 @@
-use Rattle.dump_map.proofs.counts.is_cause.Reads as reads
-use Rattle.dump_map.proofs.counts.is_cause.Lts as lts
-use Rattle.dump_map.proofs.counts.is_cause_field.Reads as is-cause-field-reads
 use Rattle.dump_map.proofs.counts.is_cause.Goals as goal
 
 pub returns-in-Local : goal.returns-in-Local

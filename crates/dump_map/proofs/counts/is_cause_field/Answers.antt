@@ -1,5 +1,3 @@
-use Rattle.dump_map.proofs.counts.is_cause_field.Reads as reads
-use Rattle.dump_map.proofs.counts.is_cause_field.Lts as lts
 use Rattle.dump_map.proofs.counts.is_cause_field.Goals as goal
 
 pub returns-in-Regwen : goal.returns-in-Regwen

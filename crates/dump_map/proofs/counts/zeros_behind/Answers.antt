@@ -1,8 +1,6 @@
 -- `counts::zeros_behind` meets its contract.
 -- Assumes nothing.
 use Rattle.dump_map.proofs.CountLaws.{zeros}
-use Rattle.dump_map.proofs.counts.zeros_behind.Reads as reads
-use Rattle.dump_map.proofs.counts.zeros_behind.Lts as lts
 use Rattle.dump_map.proofs.counts.zeros_behind.Goals as goal
 
 pub returns : goal.returns

@@ -4,10 +4,6 @@ use Rattle.dump_rules.specs.Reader.{classes_format, flags_format}
 use Rattle.dump_rules.proofs.LawfulDump.{classes_lawful}
 use Rattle.dump_reader.proofs.FieldSteps.{go_cut, go_wrong}
 use Rattle.dump_reader.proofs.WholeLaws.{pass_on, pass_within}
-use Rattle.dump_reader.proofs.judge.body.Reads as reads
-use Rattle.dump_reader.proofs.judge.body.Lts as lts
-use Rattle.dump_reader.proofs.judge.flags.Reads as flags-reads
-use Rattle.dump_reader.proofs.steps.classes.Reads as classes-reads
 use Rattle.dump_reader.proofs.judge.body.Goals as goal
 
 pub flags-requires : goal.flags-requires

@@ -2,9 +2,6 @@
 -- Assumes nothing.
 use Rattle.dump_reader.proofs.WholeLaws.{judged_dump, judged_more, judged_cut, judged_wrong, judged_long}
 use Rattle.formats.proofs.BitListLaws.{are_all}
-use Rattle.dump_reader.proofs.judge.judge.Reads as reads
-use Rattle.dump_reader.proofs.judge.judge.Lts as lts
-use Rattle.dump_reader.proofs.judge.whole.Reads as whole-reads
 use Rattle.dump_reader.proofs.judge.judge.Goals as goal
 
 pub returns-then-b-bytes : goal.returns-then-b-bytes

@@ -4,11 +4,6 @@ use Rattle.dump_rules.specs.Reader.{any_number, bits_format, lock_count, padded_
 use Rattle.dump_rules.proofs.LawfulDump.{bits_lawful}
 use Rattle.dump_reader.proofs.FieldSteps.{go_within, go_cut, go_wrong}
 use Rattle.dump_reader.proofs.WholeLaws.{flags_step, pass_on}
-use Rattle.dump_reader.proofs.judge.locks.Reads as reads
-use Rattle.dump_reader.proofs.judge.locks.Lts as lts
-use Rattle.dump_map.proofs.counts.how_many.Reads as how-many-reads
-use Rattle.dump_reader.proofs.judge.padded.Reads as padded-reads
-use Rattle.dump_reader.proofs.steps.any_field.Reads as any-field-reads
 use Rattle.dump_reader.proofs.judge.locks.Goals as goal
 
 pub padded-requires : goal.padded-requires

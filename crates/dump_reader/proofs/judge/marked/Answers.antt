@@ -1,17 +1,9 @@
 -- `judge::marked` meets its contract.
 -- Assumes nothing.
-use Prim.Native.Nat.{◌-◌, ◌*◌, ◌≤◌}
 use mathlib.Core.Path.{◌≡◌, refl}
 use native.Mathlib.Omega.{arith}
 use borrow.Author.Rules.{rules}
-use lib.ListN.{length, drop}
-use Rattle.formats.specs.Format.{chain}
-use Rattle.dump_rules.specs.Dump.{mark}
-use Rattle.dump_rules.specs.Reader.{mark_chain}
-use Rattle.dump_reader.specs.Steps.{step_at}
 use Rattle.dump_reader.proofs.WholeLaws.{mark_on, mark_wrong, mark_cut, mark_end}
-use Rattle.dump_reader.proofs.judge.marked.Reads as reads
-use Rattle.dump_reader.proofs.judge.marked.Lts as lts
 use Rattle.dump_reader.proofs.judge.marked.Goals as goal
 
 pub loop-i-init : goal.loop-i-init

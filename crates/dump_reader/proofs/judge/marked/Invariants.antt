@@ -1,15 +1,10 @@
 use Prim.Native.Nat.{◌-◌, ◌*◌, ◌≤◌}
-use mathlib.Core.Path.{◌≡◌, refl}
-use native.Mathlib.Omega.{arith}
-use borrow.Author.Rules.{rules}
+use mathlib.Core.Path.{◌≡◌}
 use lib.ListN.{length, drop}
 use Rattle.formats.specs.Format.{chain}
 use Rattle.dump_rules.specs.Dump.{mark}
 use Rattle.dump_rules.specs.Reader.{mark_chain}
 use Rattle.dump_reader.specs.Steps.{step_at}
-use Rattle.dump_reader.proofs.WholeLaws.{mark_on, mark_wrong, mark_cut, mark_end}
-use Rattle.dump_reader.proofs.judge.marked.Reads as reads
-use Rattle.dump_reader.proofs.judge.marked.Lts as lts
 use Rattle.dump_reader.proofs.judge.marked.Given as goal
 
 abbrev pub invariant-loop-i : goal.invariant-loop-i

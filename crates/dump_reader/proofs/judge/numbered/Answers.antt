@@ -7,12 +7,6 @@ use Rattle.formats.specs.Format.{field, chain}
 use Rattle.dump_rules.specs.Reader.{shadowed_from, stage_chain}
 use Rattle.dump_reader.proofs.FieldSteps.{go_on, go_within, go_cut, go_wrong}
 use Rattle.dump_reader.proofs.JudgeLaws.{most_stages, small}
-use Rattle.dump_reader.proofs.judge.numbered.Reads as reads
-use Rattle.dump_reader.proofs.judge.numbered.Lts as lts
-use Rattle.dump_map.proofs.counts.how_many.Reads as how-many-reads
-use Rattle.dump_reader.proofs.judge.stages.Reads as stages-reads
-use Rattle.dump_reader.proofs.places.take_bits.Reads as take-bits-reads
-use Rattle.dump_reader.proofs.steps.most_field.Reads as most-field-reads
 use Rattle.dump_reader.proofs.judge.numbered.Goals as goal
 
 pub stages-requires : goal.stages-requires

@@ -7,12 +7,6 @@ use Rattle.dump_rules.specs.Dump.{to_full, head_bits}
 use Rattle.dump_rules.specs.Reader.{cause_count, lock_count, stages_format}
 use Rattle.dump_reader.proofs.FieldSteps.{go_on, go_within, go_cut, go_wrong}
 use Rattle.dump_reader.proofs.WholeLaws.{pad_step}
-use Rattle.dump_reader.proofs.judge.padded.Reads as reads
-use Rattle.dump_reader.proofs.judge.padded.Lts as lts
-use Rattle.dump_map.proofs.counts.how_many.Reads as how-many-reads
-use Rattle.dump_reader.proofs.judge.numbered.Reads as numbered-reads
-use Rattle.dump_map.proofs.counts.zeros_behind.Reads as zeros-behind-reads
-use Rattle.dump_reader.proofs.steps.zero_field.Reads as zero-field-reads
 use Rattle.dump_reader.proofs.judge.padded.Goals as goal
 
 pub numbered-requires : goal.numbered-requires

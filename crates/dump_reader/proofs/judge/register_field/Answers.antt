@@ -3,14 +3,6 @@
 use Prim.Native.Nat.{◌^◌, ◌<◌}
 use native.Mathlib.Omega.{arith}
 use Rattle.dump_reader.proofs.JudgeLaws.{register_first, small}
-use Rattle.dump_reader.proofs.judge.register_field.Reads as reads
-use Rattle.dump_reader.proofs.judge.register_field.Lts as lts
-use Rattle.dump_map.proofs.counts.first_shadowed.Reads as first-shadowed-reads
-use Rattle.dump_reader.proofs.judge.is_left.Reads as is-left-reads
-use Rattle.dump_reader.proofs.judge.larger.Reads as larger-reads
-use Rattle.dump_reader.proofs.judge.span_of.Reads as span-of-reads
-use Rattle.dump_reader.proofs.places.take_bits.Reads as take-bits-reads
-use Rattle.dump_reader.proofs.steps.step.Reads as step-reads
 use Rattle.dump_reader.proofs.judge.register_field.Goals as goal
 
 pub overflow_add-lo : goal.overflow_add-lo

@@ -1,8 +1,6 @@
 -- `judge::span_of` meets its contract.
 -- Assumes nothing.
 use Rattle.dump_reader.proofs.JudgeLaws.{span_cut, span_whole}
-use Rattle.dump_reader.proofs.judge.span_of.Reads as reads
-use Rattle.dump_reader.proofs.judge.span_of.Lts as lts
 use Rattle.dump_reader.proofs.judge.span_of.Goals as goal
 
 pub returns-then-have-lt16 : goal.returns-then-have-lt16

@@ -8,11 +8,6 @@ use Rattle.dump_rules.specs.Reader.{stage_at, stage_from, stage_to, value_format
 use Rattle.dump_reader.proofs.StepLaws.{as_step}
 use Rattle.dump_reader.proofs.FieldSteps.{go_on, go_within, go_cut, go_wrong}
 use Rattle.dump_reader.proofs.JudgeLaws.{small}
-use Rattle.dump_reader.proofs.judge.stage.Reads as reads
-use Rattle.dump_reader.proofs.judge.stage.Lts as lts
-use Rattle.dump_reader.proofs.judge.register_field.Reads as register-field-reads
-use Rattle.dump_reader.proofs.judge.value_field.Reads as value-field-reads
-use Rattle.dump_reader.proofs.places.take_bits.Reads as take-bits-reads
 use Rattle.dump_reader.proofs.judge.stage.Goals as goal
 
 pub overflow_cast-take_bits : goal.overflow_cast-take_bits

@@ -1,23 +1,16 @@
 -- `judge::stages` meets its contract.
 -- Assumes nothing.
-use Prim.Native.Nat.{ℕ, ◌-◌, ◌*◌, ◌^◌, ◌≤◌, ◌<◌}
-use mathlib.Core.Path.{◌≡◌, sym, ap}
+use Prim.Native.Nat.{ℕ, ◌^◌, ◌<◌}
+use mathlib.Core.Path.{sym, ap}
 use native.Mathlib.Omega.{arith}
 use native.Mathlib.Nat.{sub-zero}
 use borrow.Author.Rules.{rules}
-use lib.ListN.{length}
 use Rattle.formats.specs.Format.{chain}
 use Rattle.dump_rules.specs.Reader.{stage_chain}
 use Rattle.dump_reader.specs.Steps.{step_at}
 use Rattle.dump_reader.proofs.FieldSteps.{loop_cut, loop_wrong, loop_end}
 use Rattle.dump_reader.proofs.JudgeLaws.{stage_on, small, follow}
-use Rattle.dump_map.specs.Kinds.{Counted}
 use Rattle.dump_map.proofs.CountLaws.{counted_none, counted_on, counted_few}
-use Rattle.dump_map.proofs.counts.count.Reads as count-reads
-use Rattle.dump_reader.proofs.judge.stages.Reads as reads
-use Rattle.dump_reader.proofs.judge.stages.Lts as lts
-use Rattle.dump_reader.proofs.judge.stage.Reads as stage-reads
-use Rattle.dump_reader.proofs.places.take_bits.Reads as take-bits-reads
 use Rattle.dump_reader.proofs.judge.stages.Goals as goal
 
 pub loop-i-init : goal.loop-i-init

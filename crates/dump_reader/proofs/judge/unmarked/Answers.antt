@@ -5,11 +5,6 @@ use Rattle.formats.specs.Format.{field}
 use Rattle.rules.specs.State.{most}
 use Rattle.dump_rules.specs.Reader.{body_format}
 use Rattle.dump_reader.proofs.FieldSteps.{go_on, go_within, go_cut, go_wrong}
-use Rattle.dump_reader.proofs.judge.unmarked.Reads as reads
-use Rattle.dump_reader.proofs.judge.unmarked.Lts as lts
-use Rattle.dump_reader.proofs.judge.body.Reads as body-Reads
-use Rattle.dump_reader.proofs.places.take_bits.Reads as take-bits-reads
-use Rattle.dump_reader.proofs.steps.most_field.Reads as most-field-reads
 use Rattle.dump_reader.proofs.judge.unmarked.Goals as goal
 
 pub body-requires : goal.body-requires

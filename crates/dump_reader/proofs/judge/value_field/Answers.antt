@@ -7,11 +7,6 @@ use Rattle.formats.specs.Format.{field}
 use Rattle.rules.specs.Map.{bits}
 use Rattle.rules.specs.declared.Register.{Register}
 use Rattle.dump_reader.specs.Steps.{step_at}
-use Rattle.dump_reader.proofs.judge.value_field.Reads as reads
-use Rattle.dump_reader.proofs.judge.value_field.Lts as lts
-use Rattle.dump_reader.proofs.steps.below_field.Reads as below-field-reads
-use Rattle.map.proofs.column.limit.Reads as limit-reads
-use Rattle.map.proofs.number.register_at.Reads as register-at-reads
 use Rattle.dump_reader.proofs.judge.value_field.Goals as goal
 
 pub returns : goal.returns

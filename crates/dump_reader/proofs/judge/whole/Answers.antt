@@ -9,10 +9,6 @@ use Rattle.dump_reader.proofs.StepLaws.{as_step}
 use Rattle.dump_reader.proofs.FieldSteps.{go_cut, go_wrong}
 use Rattle.dump_reader.proofs.WholeLaws.{pass_on, pass_within}
 use borrow.Author.Rules.{rules}
-use Rattle.dump_reader.proofs.judge.whole.Reads as reads
-use Rattle.dump_reader.proofs.judge.whole.Lts as lts
-use Rattle.dump_reader.proofs.judge.marked.Reads as marked-reads
-use Rattle.dump_reader.proofs.judge.unmarked.Reads as unmarked-reads
 use Rattle.dump_reader.proofs.judge.whole.Goals as goal
 
 pub unmarked-requires : goal.unmarked-requires

@@ -4,8 +4,6 @@ use Prim.Native.Nat.{◌/◌}
 use native.Mathlib.Omega.{arith}
 use borrow.Author.Rules.{rules}
 use Rattle.formats.proofs.BitAtLaws.{bit_number, bit_past}
-use Rattle.dump_reader.proofs.places.bit_at.Reads as reads
-use Rattle.dump_reader.proofs.places.bit_at.Lts as lts
 use Rattle.dump_reader.proofs.places.bit_at.Goals as goal
 
 pub overflow_cast-b : goal.overflow_cast-b

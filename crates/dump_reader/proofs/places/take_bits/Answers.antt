@@ -1,6 +1,6 @@
 -- `places::take_bits` meets its contract.
 -- Assumes nothing.
-use Prim.Native.Nat.{ℕ, ◌+◌, ◌-◌, ◌*◌, ◌^◌, ◌≤◌, ◌<◌}
+use Prim.Native.Nat.{ℕ, ◌+◌, ◌*◌, ◌^◌, ◌<◌}
 use mathlib.Core.Path.{◌≡◌, sym, ap, ap₂, ◌∙◌}
 use mathlib.Core.Bool.{false}
 use native.Mathlib.Numerals.{add-one}
@@ -11,9 +11,6 @@ use Rattle.bits.specs.Bits.{num, word_of}
 use Rattle.bits.proofs.BitLaws.{num_lt}
 use Rattle.formats.specs.BitList.{bits_of_bytes, filled}
 use Rattle.formats.proofs.BitAtLaws.{filled_next, filled_lt}
-use Rattle.dump_reader.proofs.places.take_bits.Reads as reads
-use Rattle.dump_reader.proofs.places.take_bits.Lts as lts
-use Rattle.dump_reader.proofs.places.bit_at.Reads as bit-at-reads
 use Rattle.dump_reader.proofs.places.take_bits.Goals as goal
 
 pub loop-i-init : goal.loop-i-init

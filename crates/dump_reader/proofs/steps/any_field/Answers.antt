@@ -2,9 +2,6 @@
 -- Assumes nothing.
 use Rattle.dump_reader.proofs.FieldSteps.{any_first}
 use borrow.Author.Rules.{rules}
-use Rattle.dump_reader.proofs.steps.any_field.Reads as reads
-use Rattle.dump_reader.proofs.steps.any_field.Lts as lts
-use Rattle.dump_reader.proofs.steps.step.Reads as step-reads
 use Rattle.dump_reader.proofs.steps.any_field.Goals as goal
 
 pub returns : goal.returns

@@ -6,11 +6,6 @@ use Rattle.formats.specs.Format.{field, pair}
 use Rattle.dump_rules.specs.Reader.{count_format, class_from, class_to}
 use Rattle.dump_reader.proofs.StepLaws.{as_step}
 use Rattle.dump_reader.proofs.FieldSteps.{go_on, go_within, go_cut, go_wrong}
-use Rattle.dump_reader.proofs.steps.class.Reads as reads
-use Rattle.dump_reader.proofs.steps.class.Lts as lts
-use Rattle.dump_reader.proofs.places.take_bits.Reads as take-bits-reads
-use Rattle.dump_reader.proofs.steps.count.Reads as count-reads
-use Rattle.dump_reader.proofs.steps.state_field.Reads as state-field-reads
 use Rattle.dump_reader.proofs.steps.class.Goals as goal
 
 pub count-requires : goal.count-requires

@@ -1,16 +1,10 @@
 use Prim.Native.Nat.{◌-◌, ◌*◌, ◌≤◌}
-use mathlib.Core.Path.{◌≡◌, refl}
-use borrow.Author.Rules.{rules}
+use mathlib.Core.Path.{◌≡◌}
 use lib.ListN.{length}
 use Rattle.formats.specs.Format.{Chain, chain, repeated}
 use Rattle.dump_rules.specs.Shown.{ShownClass}
 use Rattle.dump_rules.specs.Reader.{class_format, no_class, classes_format}
-use Rattle.dump_rules.proofs.LawfulDump.{class_lawful}
 use Rattle.dump_reader.specs.Steps.{step_at}
-use Rattle.dump_reader.proofs.FieldSteps.{loop_on, loop_cut, loop_wrong, loop_end}
-use Rattle.dump_reader.proofs.steps.classes.Reads as reads
-use Rattle.dump_reader.proofs.steps.classes.Lts as lts
-use Rattle.dump_reader.proofs.steps.class.Reads as class-reads
 use Rattle.dump_reader.proofs.steps.classes.Given as goal
 
 -- the format of one class, that the loop repeats

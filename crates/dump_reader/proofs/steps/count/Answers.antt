@@ -5,10 +5,6 @@ use Rattle.class_rules.specs.Class.{state_of, count_fits}
 use Rattle.formats.specs.Format.{field}
 use Rattle.dump_rules.specs.Reader.{any_number}
 use Rattle.dump_reader.proofs.FieldSteps.{go_on, go_within, go_cut, go_wrong}
-use Rattle.dump_reader.proofs.steps.count.Reads as reads
-use Rattle.dump_reader.proofs.steps.count.Lts as lts
-use Rattle.dump_reader.proofs.steps.any_field.Reads as any-field-reads
-use Rattle.dump_reader.proofs.steps.count_field.Reads as count-field-reads
 use Rattle.dump_reader.proofs.steps.count.Goals as goal
 
 pub any_field-requires : goal.any_field-requires

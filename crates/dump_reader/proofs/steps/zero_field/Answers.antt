@@ -2,10 +2,6 @@
 -- Assumes nothing.
 use Rattle.dump_reader.proofs.FieldSteps.{zero_first}
 use borrow.Author.Rules.{rules}
-use Rattle.dump_reader.proofs.steps.zero_field.Reads as reads
-use Rattle.dump_reader.proofs.steps.zero_field.Lts as lts
-use Rattle.dump_reader.proofs.places.take_bits.Reads as take-bits-reads
-use Rattle.dump_reader.proofs.steps.step.Reads as step-reads
 use Rattle.dump_reader.proofs.steps.zero_field.Goals as goal
 
 pub returns : goal.returns

@@ -1,6 +1,6 @@
 -- `fill::count_open` meets its contract.
 -- Assumes nothing.
-use Prim.Native.Nat.{ℕ, ◌-◌, ◌≤◌}
+use Prim.Native.Nat.{ℕ, ◌≤◌}
 use mathlib.Core.Path.{◌≡◌, refl, sym, ap, ◌∙◌, subst}
 use mathlib.Core.Bool.{not}
 use native.Mathlib.Omega.{arith}
@@ -12,11 +12,6 @@ use Rattle.rules.specs.Stages.{stage, is_open}
 use Rattle.dump_rules.specs.Shown.{picks, limit}
 use Rattle.dump_rules.proofs.PickLaws.{many}
 use Rattle.dump_map.proofs.CountLaws.{count_on, num_le}
-use Rattle.dump_writer.proofs.fill.count_open.Reads as reads
-use Rattle.dump_writer.proofs.fill.count_open.Lts as lts
-use Rattle.dump_map.proofs.counts.bit.Reads as bit-reads
-use Rattle.map.proofs.number.register_at.Reads as register-at-reads
-use Rattle.register_file.proofs.stage.stage_of.Reads as stage-of-reads
 use Rattle.dump_writer.proofs.fill.count_open.Goals as goal
 
 pub loop-r-init : goal.loop-r-init

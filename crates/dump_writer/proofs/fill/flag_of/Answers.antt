@@ -5,9 +5,6 @@ use Rattle.rules.specs.Access.{value}
 use Rattle.dump_writer.specs.Fields.{flag_of}
 use Rattle.dump_map.specs.declared.Kind.{Kind}
 use Rattle.dump_writer.proofs.FillLaws.{locked, unlocked}
-use Rattle.dump_writer.proofs.fill.flag_of.Reads as reads
-use Rattle.dump_writer.proofs.fill.flag_of.Lts as lts
-use Rattle.register_file.proofs.read.value_of.Reads as value-of-reads
 use Rattle.dump_writer.proofs.fill.flag_of.Goals as goal
 
 pub returns-in-Cause : goal.returns-in-Cause

@@ -1,9 +1,6 @@
 -- `fill::put_class` meets its contract.
 -- Assumes nothing.
 use Rattle.dump_writer.proofs.FillLaws.{put_three}
-use Rattle.dump_writer.proofs.fill.put_class.Reads as reads
-use Rattle.dump_writer.proofs.fill.put_class.Lts as lts
-use Rattle.dump_writer.proofs.put.put_number.Reads as put-number-reads
 use Rattle.dump_writer.proofs.fill.put_class.Goals as goal
 
 pub returns : goal.returns

@@ -2,9 +2,6 @@
 -- Assumes nothing.
 use Rattle.bits.specs.Index.{each_from}
 use Rattle.dump_writer.proofs.EntryLaws.{put_four}
-use Rattle.dump_writer.proofs.fill.put_classes.Reads as reads
-use Rattle.dump_writer.proofs.fill.put_classes.Lts as lts
-use Rattle.dump_writer.proofs.fill.put_class.Reads as put-class-reads
 use Rattle.dump_writer.proofs.fill.put_classes.Goals as goal
 
 pub returns : goal.returns

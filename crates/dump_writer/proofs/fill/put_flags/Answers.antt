@@ -1,6 +1,6 @@
 -- `fill::put_flags` meets its contract.
 -- Assumes nothing.
-use Prim.Native.Nat.{ℕ, ◌+◌, ◌-◌, ◌*◌, ◌≤◌}
+use Prim.Native.Nat.{ℕ, ◌+◌, ◌*◌, ◌≤◌}
 use mathlib.Core.Path.{◌≡◌, refl, sym, ap, ◌∙◌, subst}
 use mathlib.Core.Bool.{Bool}
 use native.Mathlib.Nat.{add-zero}
@@ -18,13 +18,6 @@ use Rattle.dump_writer.specs.Puts.{Puts}
 use Rattle.dump_map.proofs.CountLaws.{place_next, num_le}
 use Rattle.dump_writer.proofs.PutLaws.{puts_none}
 use Rattle.dump_writer.proofs.FillLaws.{bits_to, flag_turn, room}
-use Rattle.dump_writer.proofs.fill.put_flags.Reads as reads
-use Rattle.dump_writer.proofs.fill.put_flags.Lts as lts
-use Rattle.dump_map.proofs.counts.bit.Reads as bit-reads
-use Rattle.dump_map.proofs.counts.has_kind.Reads as has-kind-reads
-use Rattle.dump_writer.proofs.fill.flag_of.Reads as flag-of-reads
-use Rattle.dump_writer.proofs.put.put_number.Reads as put-number-reads
-use Rattle.map.proofs.number.register_at.Reads as register-at-reads
 use Rattle.dump_writer.proofs.fill.put_flags.Goals as goal
 
 pub loop-r-init : goal.loop-r-init

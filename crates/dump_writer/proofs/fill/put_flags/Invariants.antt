@@ -1,28 +1,13 @@
-use Prim.Native.Nat.{ℕ, ◌+◌, ◌-◌, ◌*◌, ◌≤◌}
-use mathlib.Core.Path.{◌≡◌, refl, sym, ap, ◌∙◌, subst}
-use mathlib.Core.Bool.{Bool}
-use native.Mathlib.Nat.{add-zero}
-use native.Mathlib.Omega.{arith}
-use borrow.Author.Rules.{rules}
+use Prim.Native.Nat.{◌+◌, ◌-◌, ◌≤◌}
+use mathlib.Core.Path.{◌≡◌}
 use lib.ListN.{length}
-use Rattle.bits.specs.Bits.{num}
-use Rattle.formats.specs.Format.{flat}
 use Rattle.rules.specs.Map.{decode}
-use Rattle.dump_rules.specs.Shown.{picks, limit}
-use Rattle.dump_rules.proofs.PickLaws.{many, many_le}
+use Rattle.dump_rules.specs.Shown.{limit}
+use Rattle.dump_rules.proofs.PickLaws.{many}
 use Rattle.dump_map.specs.Kinds.{has_kind}
 use Rattle.dump_writer.specs.Fields.{flag_of}
 use Rattle.dump_writer.specs.Puts.{Puts}
-use Rattle.dump_map.proofs.CountLaws.{place_next, num_le}
-use Rattle.dump_writer.proofs.PutLaws.{puts_none}
-use Rattle.dump_writer.proofs.FillLaws.{bits_to, flag_turn, room}
-use Rattle.dump_writer.proofs.fill.put_flags.Reads as reads
-use Rattle.dump_writer.proofs.fill.put_flags.Lts as lts
-use Rattle.dump_map.proofs.counts.bit.Reads as bit-reads
-use Rattle.dump_map.proofs.counts.has_kind.Reads as has-kind-reads
-use Rattle.dump_writer.proofs.fill.flag_of.Reads as flag-of-reads
-use Rattle.dump_writer.proofs.put.put_number.Reads as put-number-reads
-use Rattle.map.proofs.number.register_at.Reads as register-at-reads
+use Rattle.dump_writer.proofs.FillLaws.{bits_to}
 use Rattle.dump_writer.proofs.fill.put_flags.Given as goal
 
 abbrev pub invariant-loop-r : goal.invariant-loop-r

@@ -1,9 +1,6 @@
 -- `fill::put_stage` meets its contract.
 -- Assumes nothing.
 use Rattle.dump_writer.proofs.EntryLaws.{put_two}
-use Rattle.dump_writer.proofs.fill.put_stage.Reads as reads
-use Rattle.dump_writer.proofs.fill.put_stage.Lts as lts
-use Rattle.dump_writer.proofs.put.put_number.Reads as put-number-reads
 use Rattle.dump_writer.proofs.fill.put_stage.Goals as goal
 
 pub returns : goal.returns

@@ -22,13 +22,6 @@ use Rattle.dump_map.proofs.CountLaws.{num_le}
 use Rattle.dump_writer.proofs.FillLaws.{room}
 use Rattle.dump_writer.proofs.PutLaws.{puts_none}
 use Rattle.dump_writer.proofs.EntryLaws.{entries_to, entry_turn, entry_place, maybe_stage}
-use Rattle.dump_writer.proofs.fill.put_stages.Reads as reads
-use Rattle.dump_writer.proofs.fill.put_stages.Lts as lts
-use Rattle.dump_map.proofs.counts.bit.Reads as bit-reads
-use Rattle.dump_writer.proofs.fill.put_stage.Reads as put-stage-reads
-use Rattle.dump_writer.proofs.fill.staged_value.Reads as staged-value-reads
-use Rattle.map.proofs.number.register_at.Reads as register-at-reads
-use Rattle.register_file.proofs.stage.stage_of.Reads as stage-of-reads
 use Rattle.dump_writer.proofs.fill.put_stages.Goals as goal
 
 pub loop-r-init : goal.loop-r-init

@@ -1,8 +1,6 @@
 -- `put::push` meets its contract.
 -- Assumes nothing.
 use Rattle.dump_writer.proofs.PutLaws.{push_stores, push_waits}
-use Rattle.dump_writer.proofs.put.push.Reads as reads
-use Rattle.dump_writer.proofs.put.push.Lts as lts
 use Rattle.dump_writer.proofs.put.push.Goals as goal
 
 pub returns-then-at-eq7 : goal.returns-then-at-eq7

@@ -1,15 +1,8 @@
 -- `put::put_number` meets its contract.
 -- Assumes nothing.
-use Prim.Native.Nat.{◌-◌, ◌≤◌}
-use mathlib.Core.Path.{◌≡◌}
+use Prim.Native.Nat.{◌≤◌}
 use borrow.Author.Rules.{rules}
-use lib.ListN.{length, take}
-use Rattle.formats.specs.BitList.{bit_list}
-use Rattle.dump_writer.specs.Puts.{Puts}
 use Rattle.dump_writer.proofs.PutLaws.{puts_none, put_next, put_all}
-use Rattle.dump_writer.proofs.put.put_number.Reads as reads
-use Rattle.dump_writer.proofs.put.put_number.Lts as lts
-use Rattle.dump_writer.proofs.put.push.Reads as push-reads
 use Rattle.dump_writer.proofs.put.put_number.Goals as goal
 
 pub loop-i-init : goal.loop-i-init

@@ -2,10 +2,6 @@
 -- Assumes nothing.
 use lib.ListN.{length}
 use Rattle.dump_writer.proofs.WriteLaws.{dump_put}
-use Rattle.dump_writer.proofs.write.put_dump.Reads as reads
-use Rattle.dump_writer.proofs.write.put_dump.Lts as lts
-use Rattle.dump_writer.proofs.fill.put_stages.Reads as put-stages-reads
-use Rattle.dump_writer.proofs.write.put_head.Reads as put-head-reads
 use Rattle.dump_writer.proofs.write.put_dump.Goals as goal
 
 pub returns : goal.returns

@@ -2,12 +2,6 @@
 -- Assumes nothing.
 use lib.ListN.{length}
 use Rattle.dump_writer.proofs.WriteLaws.{head_put}
-use Rattle.dump_writer.proofs.write.put_head.Reads as reads
-use Rattle.dump_writer.proofs.write.put_head.Lts as lts
-use Rattle.dump_writer.proofs.fill.put_classes.Reads as put-classes-reads
-use Rattle.dump_writer.proofs.fill.put_flags.Reads as put-flags-reads
-use Rattle.dump_writer.proofs.put.put_number.Reads as put-number-reads
-use Rattle.dump_writer.proofs.write.put_mark.Reads as put-mark-reads
 use Rattle.dump_writer.proofs.write.put_head.Goals as goal
 
 pub returns : goal.returns

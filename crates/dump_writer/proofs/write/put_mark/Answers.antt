@@ -3,8 +3,6 @@
 use native.Mathlib.Omega.{arith}
 use lib.ListN.{length-set}
 use Rattle.dump_writer.proofs.WriteLaws.{mark_stored}
-use Rattle.dump_writer.proofs.write.put_mark.Reads as reads
-use Rattle.dump_writer.proofs.write.put_mark.Lts as lts
 use Rattle.dump_writer.proofs.write.put_mark.Goals as goal
 
 pub bounds-out-1 : goal.bounds-out-1

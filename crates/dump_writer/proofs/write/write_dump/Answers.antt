@@ -13,24 +13,17 @@ use mir.Val.{to_z, of_z}
 use Rattle.rules.specs.Valid.{valid}
 use Rattle.dump_rules.specs.Dump.{dump_of}
 use Rattle.dump_rules.specs.Shown.{shown}
-use Rattle.dump_writer.specs.Written.{Sized}
 use Rattle.dump_writer.proofs.WriteLaws.{sized, size_is, wrote_bad, wrote_short, wrote_dump}
-use Rattle.dump_writer.proofs.write.write_dump.Reads as reads
-use Rattle.dump_writer.proofs.write.write_dump.Lts as lts
-use Rattle.dump_writer.proofs.write.refused.Reads as refused-reads
-use Rattle.dump_map.proofs.counts.how_many.Reads as how-many-reads
-use Rattle.dump_writer.proofs.fill.count_open.Reads as count-open-reads
-use Rattle.dump_map.proofs.counts.zeros_behind.Reads as zeros-behind-reads
-use Rattle.dump_writer.proofs.write.put_dump.Reads as put-dump-reads
-use Rattle.state.proofs.valid.is_valid.Reads as is-valid-reads
 use Rattle.dump_writer.proofs.write.write_dump.Goals as goal
 
 pub put_dump-requires : goal.put_dump-requires
 put_dump-requires c =
     let ok : valid c.args.h ≡ true = sym c.is_valid.ensures ∙ c.if-is_valid.true in
-    let size : ℕ = 6 + (219 + c.how_many-c.result + c.how_many-l.result) / 8 + 6 * c.count_open-k.result in
-    (ok, sized c.args.h ok _ _ _ _ _ size c.how_many-c.ensures.0 c.how_many-l.ensures.0 c.zeros_behind-z.ensures.0
-    c.count_open-k.ensures.0 refl c.if-size-out.true)
+    let size : ℕ = 6 + (219 + c.how_many-c.result + c.how_many-l.result) / 8 + 6 * c.count_open-k.result in (
+      ok,
+      sized c.args.h ok _ _ _ _ _ size c.how_many-c.ensures.0 c.how_many-l.ensures.0 c.zeros_behind-z.ensures.0
+          c.count_open-k.ensures.0 refl c.if-size-out.true,
+    )
 
 pub returns-then-size-out : goal.returns-then-size-out
 returns-then-size-out c =

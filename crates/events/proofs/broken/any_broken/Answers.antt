@@ -1,13 +1,12 @@
 -- `broken::any_broken` meets its contract. The invariant: none of the alerts that have had their turn is enabled and has equal wires.
 -- Assumes nothing.
-use Prim.Native.Nat.{ℕ, ◌+◌, ◌-◌, ◌*◌, ◌≤◌}
+use Prim.Native.Nat.{◌+◌, ◌*◌}
 use native.Mathlib.Numerals.{add-one}
 use native.Mathlib.Omega.{arith}
 use borrow.Author.Rules.{rules}
 use borrow.Author.Tests.{ne_eqb, eq-eqb}
-use Rattle.rules.specs.State.{words}
-use Rattle.events.proofs.Turns.{Left, counted, counted_below, left_start, left_here, left_after}
-use Rattle.events.proofs.Unbroken.{Unbroken, unbroken_start, unbroken_turn, unbroken_word, unbroken_end, broken_turn}
+use Rattle.events.proofs.Turns.{counted_below, left_start, left_here, left_after}
+use Rattle.events.proofs.Unbroken.{unbroken_start, unbroken_turn, unbroken_word, unbroken_end, broken_turn}
 use Rattle.events.proofs.broken.any_broken.Goals as goal
 
 pub loop-v-init : goal.loop-v-init

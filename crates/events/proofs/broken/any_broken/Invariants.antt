@@ -1,11 +1,7 @@
-use Prim.Native.Nat.{ℕ, ◌+◌, ◌-◌, ◌*◌, ◌≤◌}
-use native.Mathlib.Numerals.{add-one}
-use native.Mathlib.Omega.{arith}
-use borrow.Author.Rules.{rules}
-use borrow.Author.Tests.{ne_eqb, eq-eqb}
+use Prim.Native.Nat.{ℕ, ◌-◌, ◌*◌, ◌≤◌}
 use Rattle.rules.specs.State.{words}
-use Rattle.events.proofs.Turns.{Left, counted, counted_below, left_start, left_here, left_after}
-use Rattle.events.proofs.Unbroken.{Unbroken, unbroken_start, unbroken_turn, unbroken_word, unbroken_end, broken_turn}
+use Rattle.events.proofs.Turns.{Left, counted}
+use Rattle.events.proofs.Unbroken.{Unbroken}
 use Rattle.events.proofs.broken.any_broken.Given as goal
 
 abbrev pub invariant-loop-left : goal.invariant-loop-left

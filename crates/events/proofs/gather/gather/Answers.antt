@@ -1,18 +1,15 @@
 -- `gather::gather` meets its contract. The invariant: the alerts that have had their turn are noted.
 -- Assumes nothing.
-use Prim.Native.Nat.{ℕ, ◌+◌, ◌-◌, ◌*◌, ◌≤◌, ◌<◌}
-use mathlib.Core.Path.{◌≡◌, sym}
-use mathlib.Core.List.{List}
-use lib.ListN.{length}
+use Prim.Native.Nat.{◌+◌, ◌*◌, ◌<◌}
+use mathlib.Core.Path.{sym}
 use native.Mathlib.Numerals.{add-one}
 use native.Mathlib.Omega.{arith}
 use borrow.Author.Rules.{rules}
-use Rattle.rules.specs.State.{most, words}
+use Rattle.rules.specs.State.{most}
 use Rattle.events.specs.Gathered.{among_words}
-use Rattle.events.specs.Noted.{Noted}
 use Rattle.events.proofs.Notes.{noted_start, noted_long, noted_cut}
 use Rattle.events.proofs.Noting.{noted_turn, noted_word}
-use Rattle.events.proofs.Turns.{Left, counted, visited, counted_below, left_start, left_here, left_after}
+use Rattle.events.proofs.Turns.{counted_below, left_start, left_here, left_after}
 use Rattle.events.proofs.gather.gather.Goals as goal
 
 pub loop-v-init : goal.loop-v-init

@@ -1,16 +1,8 @@
-use Prim.Native.Nat.{ℕ, ◌+◌, ◌-◌, ◌*◌, ◌≤◌, ◌<◌}
-use mathlib.Core.Path.{◌≡◌, sym}
+use Prim.Native.Nat.{ℕ, ◌-◌, ◌*◌, ◌≤◌}
 use mathlib.Core.List.{List}
-use lib.ListN.{length}
-use native.Mathlib.Numerals.{add-one}
-use native.Mathlib.Omega.{arith}
-use borrow.Author.Rules.{rules}
 use Rattle.rules.specs.State.{most, words}
-use Rattle.events.specs.Gathered.{among_words}
 use Rattle.events.specs.Noted.{Noted}
-use Rattle.events.proofs.Notes.{noted_start, noted_long, noted_cut}
-use Rattle.events.proofs.Noting.{noted_turn, noted_word}
-use Rattle.events.proofs.Turns.{Left, counted, visited, counted_below, left_start, left_here, left_after}
+use Rattle.events.proofs.Turns.{Left, counted, visited}
 use Rattle.events.proofs.gather.gather.Given as goal
 
 abbrev pub invariant-loop-left : goal.invariant-loop-left

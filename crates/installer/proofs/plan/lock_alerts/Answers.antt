@@ -1,12 +1,9 @@
 -- `lock_alerts` meets its contract: one part more in each turn.
 -- Assumes nothing.
-use Prim.Native.Nat.{◌-◌, ◌≤◌}
 use mathlib.Core.Path.{◌≡◌}
 use native.Mathlib.Omega.{arith}
 use native.Mathlib.Numerals.{add-one}
 use Rattle.installer.proofs.AskParts.{none, more}
-use Rattle.policy.specs.Install.{install, asks}
-use Rattle.policy.specs.Plan.{lock_entries, parts_to}
 use Rattle.installer.proofs.plan.lock_alerts.Goals as goal
 
 pub loop-i-init : goal.loop-i-init

@@ -1,8 +1,5 @@
 use Prim.Native.Nat.{◌-◌, ◌≤◌}
 use mathlib.Core.Path.{◌≡◌}
-use native.Mathlib.Omega.{arith}
-use native.Mathlib.Numerals.{add-one}
-use Rattle.installer.proofs.AskParts.{none, more}
 use Rattle.policy.specs.Install.{install, asks}
 use Rattle.policy.specs.Plan.{alert_entries, parts_to}
 use Rattle.installer.proofs.plan.put_alerts.Given as goal

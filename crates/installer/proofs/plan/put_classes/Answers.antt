@@ -1,12 +1,9 @@
 -- `put_classes` meets its contract: one part more in each turn.
 -- Assumes nothing.
-use Prim.Native.Nat.{◌-◌, ◌≤◌}
 use mathlib.Core.Path.{◌≡◌}
 use native.Mathlib.Omega.{arith}
 use native.Mathlib.Numerals.{add-one}
 use Rattle.installer.proofs.AskParts.{none, more}
-use Rattle.policy.specs.Install.{install, asks}
-use Rattle.policy.specs.Plan.{class_entries, parts_to}
 use Rattle.installer.proofs.plan.put_classes.Goals as goal
 
 pub loop-k-init : goal.loop-k-init

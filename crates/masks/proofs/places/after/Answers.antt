@@ -2,7 +2,6 @@
 -- Assumes nothing.
 use Prim.Native.Nat.{◌-◌}
 use native.Mathlib.Omega.{arith}
-use lib.Pow.{pow_pos}
 use Rattle.bits.proofs.FirstLaws.{one_shl}
 use Rattle.masks.proofs.Firsts.{rest_of}
 use Rattle.masks.proofs.places.after.Goals as goal

@@ -5,7 +5,6 @@ use lib.ListN.{length}
 use Rattle.register_file.proofs.Parts.{Long}
 use Rattle.rules.specs.State.{most}
 use Rattle.registers.specs.Put.{accessed_by}
-use Rattle.registers.specs.declared.put.Put.{Put}
 use Rattle.registers.proofs.Puts.{put_whole}
 use borrow.Author.Rules.{rules}
 use Rattle.registers.proofs.put.put_of.Goals as goal

@@ -1,6 +1,5 @@
 -- `back::wrong_lines` meets its contract.
 -- Assumes nothing.
-use mathlib.Core.Path.{sym}
 use native.Mathlib.Omega.{arith}
 use Rattle.bits.proofs.BitLaws.{bit_none, is_bits_of}
 use Rattle.link_rules.specs.Senders.{line_count}

@@ -1,6 +1,5 @@
 -- `locals::occur` meets its contract. The invariant: the local alerts below j are noted.
 -- Assumes nothing.
-use Prim.Native.Nat.{◌-◌, ◌≤◌}
 use mathlib.Core.Path.{◌≡◌, sym}
 use lib.ListN.{length}
 use native.Mathlib.Numerals.{add-one}
@@ -8,8 +7,6 @@ use native.Mathlib.Omega.{arith}
 use borrow.Author.Rules.{rules}
 use Rattle.bits.specs.Bits.{bit}
 use Rattle.rules.specs.State.{local_count}
-use Rattle.events.specs.Noted.{Noted}
-use Rattle.samples.specs.Occurred.{among_bits}
 use Rattle.events.proofs.Notes.{noted_start, noted_long, noted_step}
 use Rattle.samples.proofs.locals.occur.Goals as goal
 

@@ -1,14 +1,7 @@
 use Prim.Native.Nat.{◌-◌, ◌≤◌}
-use mathlib.Core.Path.{◌≡◌, sym}
-use lib.ListN.{length}
-use native.Mathlib.Numerals.{add-one}
-use native.Mathlib.Omega.{arith}
-use borrow.Author.Rules.{rules}
-use Rattle.bits.specs.Bits.{bit}
 use Rattle.rules.specs.State.{local_count}
 use Rattle.events.specs.Noted.{Noted}
 use Rattle.samples.specs.Occurred.{among_bits}
-use Rattle.events.proofs.Notes.{noted_start, noted_long, noted_step}
 use Rattle.samples.proofs.locals.occur.Given as goal
 
 abbrev pub invariant-loop-j : goal.invariant-loop-j

@@ -1,8 +1,5 @@
 -- `pace::is_line_answered` meets its contract.
 -- Assumes nothing.
-use mathlib.Core.Path.{ap, ◌∙◌}
-use mathlib.Core.Bool.{Bool, ◌&&◌}
-use Rattle.bits.specs.Bits.{bit}
 use Rattle.samples.proofs.pace.is_line_answered.Goals as goal
 
 pub returns-then-is_checked : goal.returns-then-is_checked

@@ -1,14 +1,10 @@
 -- `stages::classes_fit` meets its contract: after k classes the flag says whether those k fit.
 -- Assumes nothing.
-use Prim.Native.Nat.{◌≤◌, ◌-◌}
 use mathlib.Core.Path.{◌≡◌, refl}
 use native.Mathlib.Omega.{arith}
 use native.Mathlib.Numerals.{add-one}
 use borrow.Author.Rules.{rules}
-use lib.ListN.{get_or}
 use Rattle.bits.specs.Index.{all_to}
-use Rattle.rules.specs.Stages.{no_class_stages}
-use Rattle.rules.specs.Valid.{class_stages_fit}
 use Rattle.state.proofs.stages.classes_fit.Goals as goal
 
 pub loop-k-init : goal.loop-k-init

@@ -1,6 +1,6 @@
 -- `stages::largest` meets its contract: after i codes the largest fits a width exactly if those i codes do.
 -- Assumes nothing.
-use Prim.Native.Nat.{ℕ, ◌^◌, ◌≤◌, ◌-◌}
+use Prim.Native.Nat.{◌^◌}
 use mathlib.Core.Path.{◌≡◌, ap, ◌∙◌}
 use mathlib.Core.Bool.{Bool, ◌&&◌}
 use native.Mathlib.Omega.{arith}
@@ -9,7 +9,7 @@ use borrow.Author.Rules.{rules}
 use borrow.Author.Tests.{le-leb}
 use lib.ListN.{get_or}
 use Rattle.bits.specs.Index.{all_to}
-use Rattle.rules.specs.Valid.{code_fits, codes_fit}
+use Rattle.rules.specs.Valid.{code_fits}
 use Rattle.state.proofs.stages.largest.Goals as goal
 
 pub loop-i-init : goal.loop-i-init

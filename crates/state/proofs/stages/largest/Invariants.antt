@@ -1,12 +1,5 @@
-use Prim.Native.Nat.{ℕ, ◌^◌, ◌≤◌, ◌-◌}
-use mathlib.Core.Path.{◌≡◌, ap, ◌∙◌}
-use mathlib.Core.Bool.{Bool, ◌&&◌}
-use native.Mathlib.Omega.{arith}
-use native.Mathlib.Numerals.{add-one}
-use borrow.Author.Rules.{rules}
-use borrow.Author.Tests.{le-leb}
-use lib.ListN.{get_or}
-use Rattle.bits.specs.Index.{all_to}
+use Prim.Native.Nat.{ℕ, ◌≤◌, ◌-◌}
+use mathlib.Core.Path.{◌≡◌}
 use Rattle.rules.specs.Valid.{code_fits, codes_fit}
 use Rattle.state.proofs.stages.largest.Given as goal
 

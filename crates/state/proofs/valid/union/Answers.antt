@@ -1,6 +1,5 @@
 -- `valid::union` meets its contract: after i entries the union fits a width exactly if those i entries do.
 -- Assumes nothing.
-use Prim.Native.Nat.{ℕ, ◌≤◌, ◌-◌}
 use mathlib.Core.Path.{◌≡◌, ap, ◌∙◌}
 use mathlib.Core.Bool.{Bool, ◌&&◌}
 use native.Mathlib.Omega.{arith}
@@ -9,7 +8,6 @@ use borrow.Author.Rules.{rules}
 use lib.ListN.{get_or}
 use Rattle.bits.specs.Bits.{fits}
 use Rattle.bits.specs.Index.{all_to}
-use Rattle.rules.specs.Valid.{column_fits}
 use Rattle.state.proofs.Widths.{fits_or, fits_zero}
 use Rattle.state.proofs.valid.union.Goals as goal
 

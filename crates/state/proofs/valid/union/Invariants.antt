@@ -1,14 +1,7 @@
 use Prim.Native.Nat.{ℕ, ◌≤◌, ◌-◌}
-use mathlib.Core.Path.{◌≡◌, ap, ◌∙◌}
-use mathlib.Core.Bool.{Bool, ◌&&◌}
-use native.Mathlib.Omega.{arith}
-use native.Mathlib.Numerals.{add-one}
-use borrow.Author.Rules.{rules}
-use lib.ListN.{get_or}
+use mathlib.Core.Path.{◌≡◌}
 use Rattle.bits.specs.Bits.{fits}
-use Rattle.bits.specs.Index.{all_to}
 use Rattle.rules.specs.Valid.{column_fits}
-use Rattle.state.proofs.Widths.{fits_or, fits_zero}
 use Rattle.state.proofs.valid.union.Given as goal
 
 abbrev pub invariant-loop-i : goal.invariant-loop-i

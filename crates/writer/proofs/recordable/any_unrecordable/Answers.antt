@@ -1,13 +1,11 @@
 -- `recordable::any_unrecordable` meets its contract: one more entry is looked at in each turn.
 -- Assumes nothing.
-use Prim.Native.Nat.{◌-◌, ◌≤◌}
 use mathlib.Core.Path.{◌≡◌}
 use native.Mathlib.Omega.{arith}
 use native.Mathlib.Numerals.{add-one}
 use borrow.Author.Rules.{rules}
 use lib.ListN.{length}
 use Rattle.bits.specs.Index.{any_to}
-use Rattle.writer.specs.EntryParts.{unrecordable_at}
 use Rattle.writer.proofs.recordable.any_unrecordable.Goals as goal
 
 pub loop-i-init : goal.loop-i-init

@@ -1,15 +1,10 @@
 use Prim.Native.Nat.{◌-◌, ◌≤◌}
 use mathlib.Core.Path.{◌≡◌}
-use native.Mathlib.Omega.{arith}
-use borrow.Author.Rules.{rules}
-use borrow.Author.Tests.{not-false}
 use lib.ListN.{length, take}
 use lib.Seq.{sets}
 use Rattle.trace_rules.specs.Edition.{newest}
 use Rattle.trace_rules.specs.Writer.{records_of}
 use Rattle.writer.specs.Lent.{lent, list_of}
-use Rattle.writer.proofs.EntryLists.{put_next, put_end}
-use Rattle.bits.proofs.IndexLaws.{none_at}
 use Rattle.writer.proofs.records.put_all.Given as goal
 
 abbrev pub invariant-loop-i : goal.invariant-loop-i

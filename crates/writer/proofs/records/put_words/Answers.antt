@@ -1,12 +1,10 @@
 -- `records::put_words` meets its contract: one more word stands in each turn.
 -- Assumes nothing.
-use Prim.Native.Nat.{◌+◌, ◌-◌, ◌*◌, ◌≤◌}
+use Prim.Native.Nat.{◌+◌, ◌*◌}
 use mathlib.Core.Path.{◌≡◌}
 use native.Mathlib.Numerals.{add-one}
 use native.Mathlib.Omega.{arith}
 use borrow.Author.Rules.{rules}
-use lib.ListN.{length}
-use lib.Seq.{sets}
 use Rattle.rules.specs.State.{words}
 use Rattle.writer.specs.Lent.{word_at}
 use Rattle.writer.specs.EntryParts.{word_bytes}

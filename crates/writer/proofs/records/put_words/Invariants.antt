@@ -1,14 +1,9 @@
-use Prim.Native.Nat.{◌+◌, ◌-◌, ◌*◌, ◌≤◌}
+use Prim.Native.Nat.{◌-◌, ◌≤◌}
 use mathlib.Core.Path.{◌≡◌}
-use native.Mathlib.Numerals.{add-one}
-use native.Mathlib.Omega.{arith}
-use borrow.Author.Rules.{rules}
 use lib.ListN.{length}
 use lib.Seq.{sets}
-use Rattle.rules.specs.State.{words}
 use Rattle.writer.specs.Lent.{word_at}
 use Rattle.writer.specs.EntryParts.{word_bytes}
-use Rattle.writer.proofs.StoreLaws.{put_word_next}
 use Rattle.writer.proofs.records.put_words.Given as goal
 
 abbrev pub invariant-loop-v : goal.invariant-loop-v
