@@ -12,36 +12,36 @@ const INTR_TEST: u16 = 2;
 const NO_LINES: u32 = 0x3903;
 
 // No event and no interrupt from an alert; an interrupt by INTR_TEST is not due.
-pub fn no_event() {
-    print(b"no lines: no event\n");
+pub fn no_event(rt: &impl Print) {
+    print(rt, b"no lines: no event\n");
     let h = configure(station(0), TIMEOUT_CYC, 1);
     let h = configure(h, INTR_ENABLE, 1);
     let h = configure(h, CTRL, NO_LINES);
-    let h = show(h, Access::Nothing, RAISE);
-    let h = show(h, Access::Write(INTR_TEST, 1), REST);
-    show_rest(h, 1);
+    let h = show(rt, h, Access::Nothing, RAISE);
+    let h = show(rt, h, Access::Write(INTR_TEST, 1), REST);
+    show_rest(rt, h, 1);
 }
 
 // A Timeout falls back to Idle, though the interrupt bit is 1.
-pub fn timeout() {
-    print(b"no lines: a timeout falls back\n");
+pub fn timeout(rt: &impl Print) {
+    print(rt, b"no lines: a timeout falls back\n");
     let h = configure(station(100), TIMEOUT_CYC, 4);
     let h = configure(h, INTR_ENABLE, 1);
     let h = stage(h, CTRL, NO_LINES);
-    let h = show(h, Access::Nothing, RAISE);
-    let h = show_rest(h, 1);
-    let h = show(h, Access::Write(CTRL, NO_LINES), REST);
-    show_rest(h, 1);
+    let h = show(rt, h, Access::Nothing, RAISE);
+    let h = show_rest(rt, h, 1);
+    let h = show(rt, h, Access::Write(CTRL, NO_LINES), REST);
+    show_rest(rt, h, 1);
 }
 
 // A running phase goes on to Terminal, driving no line; an event is no longer counted.
-pub fn phase() {
-    print(b"no lines: a phase goes on\n");
+pub fn phase(rt: &impl Print) {
+    print(rt, b"no lines: a phase goes on\n");
     let h = configure(station(0), PHASE0_CYC, 5);
     let h = stage(h, CTRL, NO_LINES);
-    let h = show(h, Access::Nothing, RAISE);
-    let h = show(h, Access::Write(CTRL, NO_LINES), REST);
-    let h = show_rest(h, 2);
-    let h = show(h, Access::Nothing, RAISE);
-    show_rest(h, 4);
+    let h = show(rt, h, Access::Nothing, RAISE);
+    let h = show(rt, h, Access::Write(CTRL, NO_LINES), REST);
+    let h = show_rest(rt, h, 2);
+    let h = show(rt, h, Access::Nothing, RAISE);
+    show_rest(rt, h, 4);
 }

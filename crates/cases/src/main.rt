@@ -1,6 +1,7 @@
 // The cases of document 01 that are run, its slips that look right, the waves of the public papers, the handshake, the ping timer, the escalation
 // wires and a class with no lines, through the code's own tick, the trace writer and shadow writes. What each prints is held to the file `stdout`.
 #![tactic(auto)]
+
 mod play; // play.rt: one tick, played and shown
 mod refusals; // refusals.rt: answers of single accesses
 mod slips; // slips.rt: "Slips that look right"
@@ -13,44 +14,44 @@ mod lines; // lines.rt: a class with no lines
 mod writing; // writing.rt: the trace writer
 mod shadow; // shadow.rt: shadow writes
 
-fn main() {
-    refusals::making();
-    refusals::accesses();
-    slips::two_alerts();
-    slips::zero_phase();
-    slips::threshold();
-    slips::clear_under_lock();
-    slips::refused_sample();
-    slips::refusal_as_value();
-    waves::gathering();
-    waves::timeout();
-    handshake::alert_signaling();
-    handshake::ping_testing();
-    pairs::integrity();
-    pairs::skewed();
-    handshake::earliest_rise();
-    handshake::waiting_rise();
-    handshake::held_pause();
-    handshake::answered_ping();
-    handshake::alert_answers();
-    pings::answered();
-    pings::failing();
-    pings::line_answered();
-    pings::line_failing();
-    pings::waiting();
-    pings::not_locked();
-    wires::signaling();
-    wires::integrity();
-    wires::ping_testing();
-    wires::lone_tick();
-    wires::late_answer();
-    wires::escalation_wins();
-    wires::unsent();
-    wires::unasked();
-    lines::no_event();
-    lines::timeout();
-    lines::phase();
-    writing::two_records();
-    shadow::two_writes();
-    shadow::differing();
+fn main(rt: HostRuntime) {
+    refusals::making(&rt);
+    refusals::accesses(&rt);
+    slips::two_alerts(&rt);
+    slips::zero_phase(&rt);
+    slips::threshold(&rt);
+    slips::clear_under_lock(&rt);
+    slips::refused_sample(&rt);
+    slips::refusal_as_value(&rt);
+    waves::gathering(&rt);
+    waves::timeout(&rt);
+    handshake::alert_signaling(&rt);
+    handshake::ping_testing(&rt);
+    pairs::integrity(&rt);
+    pairs::skewed(&rt);
+    handshake::earliest_rise(&rt);
+    handshake::waiting_rise(&rt);
+    handshake::held_pause(&rt);
+    handshake::answered_ping(&rt);
+    handshake::alert_answers(&rt);
+    pings::answered(&rt);
+    pings::failing(&rt);
+    pings::line_answered(&rt);
+    pings::line_failing(&rt);
+    pings::waiting(&rt);
+    pings::not_locked(&rt);
+    wires::signaling(&rt);
+    wires::integrity(&rt);
+    wires::ping_testing(&rt);
+    wires::lone_tick(&rt);
+    wires::late_answer(&rt);
+    wires::escalation_wins(&rt);
+    wires::unsent(&rt);
+    wires::unasked(&rt);
+    lines::no_event(&rt);
+    lines::timeout(&rt);
+    lines::phase(&rt);
+    writing::two_records(&rt);
+    shadow::two_writes(&rt);
+    shadow::differing(&rt);
 }

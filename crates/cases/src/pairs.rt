@@ -49,43 +49,43 @@ pub fn letter_at(letters: &[u8], i: usize) -> u8 {
 
 // A tick with this pair at alert 0 and the others at rest, shown as: the pair, CAUSE of alert 0 and of local alert 2, STATE of
 // class 0, ACCUM_CNT of classes 0 and 1, interrupts, lines.
-fn show_pair(h: Handler, pos: u64, neg: u64) -> Handler {
+fn show_pair(rt: &impl Print, h: Handler, pos: u64, neg: u64) -> Handler {
     let t = handler::tick::tick(h, input(Access::Nothing, pos, neg | !RAISE));
     let g = t.handler;
-    print(b"  ");
-    print_number(pos / RAISE);
-    print(b" ");
-    print_number(neg / RAISE);
-    print(b" ");
-    show_value(g, ALERT0_CAUSE);
-    show_value(g, LOCAL2_CAUSE);
-    show_value(g, STATE);
-    show_value(g, ACCUM_CNT);
-    show_value(g, ACCUM_CNT + NEXT_CLASS);
-    show_output(t.output);
+    print(rt, b"  ");
+    print_number(rt, pos / RAISE);
+    print(rt, b" ");
+    print_number(rt, neg / RAISE);
+    print(rt, b" ");
+    show_value(rt, g, ALERT0_CAUSE);
+    show_value(rt, g, LOCAL2_CAUSE);
+    show_value(rt, g, STATE);
+    show_value(rt, g, ACCUM_CNT);
+    show_value(rt, g, ACCUM_CNT + NEXT_CLASS);
+    show_output(rt, t.output);
     g
 }
 
 // A tick for each column.
-fn show_wave(positive: &[u8], negative: &[u8]) {
+fn show_wave(rt: &impl Print, positive: &[u8], negative: &[u8]) {
     let mut g = watched();
     let mut pos = REST;
     let mut neg = RAISE;
     for i in 0..positive.len() {
         pos = wire(positive[i], pos);
         neg = wire(letter_at(negative, i), neg);
-        g = show_pair(g, pos, neg);
+        g = show_pair(rt, g, pos, neg);
     }
 }
 
 // "signal integrity issues occur at times 2 and 8".
-pub fn integrity() {
-    print(b"W3: integrity issues\n");
-    show_wave(b"0.1...|0..10101", b"1.....|....0101");
+pub fn integrity(rt: &impl Print) {
+    print(rt, b"W3: integrity issues\n");
+    show_wave(rt, b"0.1...|0..10101", b"1.....|....0101");
 }
 
 // "Correctly sampled diff pair at time 2; staggered samples at time 6-7 and 10-11".
-pub fn skewed() {
-    print(b"W4: skewed pair\n");
-    show_wave(b"0.1.|.0.|..1", b"1.0.|..1|.0.");
+pub fn skewed(rt: &impl Print) {
+    print(rt, b"W4: skewed pair\n");
+    show_wave(rt, b"0.1.|.0.|..1", b"1.0.|..1|.0.");
 }

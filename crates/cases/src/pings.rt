@@ -63,113 +63,113 @@ fn locked(timeout: u32) -> Handler {
 }
 
 // The turn's number and count, whether alert 0's ping is open, and the lines whose ping is.
-fn show_turn(h: Handler) {
-    print_number(h.links.turn.number as u64);
-    print(b" ");
-    print_number(h.links.turn.count as u64);
-    print(b" ");
-    print_number(is_open(h));
-    print(b" ");
-    print_number(h.links.lines as u64);
-    print(b" ");
+fn show_turn(rt: &impl Print, h: Handler) {
+    print_number(rt, h.links.turn.number as u64);
+    print(rt, b" ");
+    print_number(rt, h.links.turn.count as u64);
+    print(rt, b" ");
+    print_number(rt, is_open(h));
+    print(rt, b" ");
+    print_number(rt, h.links.lines as u64);
+    print(rt, b" ");
 }
 
 // A tick, shown as: alert 0's positive wire and the lines that answer; the access's answer; the turn; ACCUM_CNT of classes 0 and 1, CAUSE of local
 // alerts 0 and 1, and the level of alert 0's ping pair.
-fn show_tick(h: Handler, x: Access, pos: u64, word: u32, answers: u32) -> Handler {
+fn show_tick(rt: &impl Print, h: Handler, x: Access, pos: u64, word: u32, answers: u32) -> Handler {
     let t = handler::tick::tick(h, timing(x, pos, !pos, word, Receive::Answers(answers)));
     let g = t.handler;
-    print(b"  ");
-    print_number(pos / RAISE);
-    print(b" ");
-    print_number(answers as u64);
-    print(b" ");
-    print_answer(t.answer);
-    print(b" ");
-    show_turn(g);
-    show_value(g, ACCUM_CNT);
-    show_value(g, ACCUM_CNT + NEXT_CLASS);
-    show_value(g, LOCAL0_CAUSE);
-    show_value(g, LOCAL0_CAUSE + 1);
-    print_number(level(g));
-    print(b"\n");
+    print(rt, b"  ");
+    print_number(rt, pos / RAISE);
+    print(rt, b" ");
+    print_number(rt, answers as u64);
+    print(rt, b" ");
+    print_answer(rt, t.answer);
+    print(rt, b" ");
+    show_turn(rt, g);
+    show_value(rt, g, ACCUM_CNT);
+    show_value(rt, g, ACCUM_CNT + NEXT_CLASS);
+    show_value(rt, g, LOCAL0_CAUSE);
+    show_value(rt, g, LOCAL0_CAUSE + 1);
+    print_number(rt, level(g));
+    print(rt, b"\n");
     g
 }
 
 // The tick in which 6 becomes 1.
-fn show_begin(h: Handler, word: u32) -> Handler {
-    show_tick(h, Access::Write(ENABLE, 1), REST, word, 0)
+fn show_begin(rt: &impl Print, h: Handler, word: u32) -> Handler {
+    show_tick(rt, h, Access::Write(ENABLE, 1), REST, word, 0)
 }
 
 // A tick of rest with word 0.
-fn show_rest(h: Handler) -> Handler {
-    show_tick(h, Access::Nothing, REST, 0, 0)
+fn show_rest(rt: &impl Print, h: Handler) -> Handler {
+    show_tick(rt, h, Access::Nothing, REST, 0, 0)
 }
 
 // The first turn is answered in the tick in which its ping opens; the next is line 0's, due in the next tick.
-fn line_due(timeout: u32) -> Handler {
-    let h = show_begin(locked(timeout), 0);
-    show_tick(h, Access::Nothing, RAISE, 0, 0)
+fn line_due(rt: &impl Print, timeout: u32) -> Handler {
+    let h = show_begin(rt, locked(timeout), 0);
+    show_tick(rt, h, Access::Nothing, RAISE, 0, 0)
 }
 
 // "its low 16 bits plus 1 are the ticks to the ping": 3; a rise answers it and is no event, and that tick's word sets the next turn.
-pub fn answered() {
-    print(b"timer: a ping answered by a rise\n");
-    let h = show_begin(locked(9), 2);
-    let h = show_rest(h);
-    let h = show_rest(h);
-    let h = show_rest(h);
-    let h = show_rest(h);
-    let h = show_tick(h, Access::Nothing, RAISE, 7, 0);
-    show_rest(h);
+pub fn answered(rt: &impl Print) {
+    print(rt, b"timer: a ping answered by a rise\n");
+    let h = show_begin(rt, locked(9), 2);
+    let h = show_rest(rt, h);
+    let h = show_rest(rt, h);
+    let h = show_rest(rt, h);
+    let h = show_rest(rt, h);
+    let h = show_tick(rt, h, Access::Nothing, RAISE, 7, 0);
+    show_rest(rt, h);
 }
 
 // "unanswered up to and in the first tick at least the timeout after it": local 0 occurs, the ping closes, and a rise is an event again.
-pub fn failing() {
-    print(b"timer: a ping that fails after 2 ticks\n");
-    let h = show_begin(locked(2), 0);
-    let h = show_rest(h);
-    let h = show_rest(h);
-    let h = show_tick(h, Access::Nothing, REST, 9, 0);
-    show_tick(h, Access::Nothing, RAISE, 0, 0);
+pub fn failing(rt: &impl Print) {
+    print(rt, b"timer: a ping that fails after 2 ticks\n");
+    let h = show_begin(rt, locked(2), 0);
+    let h = show_rest(rt, h);
+    let h = show_rest(rt, h);
+    let h = show_tick(rt, h, Access::Nothing, REST, 9, 0);
+    show_tick(rt, h, Access::Nothing, RAISE, 0, 0);
 }
 
 // A line's ping is answered by its own bit; another line's counts for nothing.
-pub fn line_answered() {
-    print(b"timer: a line's ping answered by its bit\n");
-    let h = line_due(9);
-    let h = show_tick(h, Access::Nothing, REST, 0, 14);
-    let h = show_tick(h, Access::Nothing, REST, 5, 1);
-    show_rest(h);
+pub fn line_answered(rt: &impl Print) {
+    print(rt, b"timer: a line's ping answered by its bit\n");
+    let h = line_due(rt, 9);
+    let h = show_tick(rt, h, Access::Nothing, REST, 0, 14);
+    let h = show_tick(rt, h, Access::Nothing, REST, 5, 1);
+    show_rest(rt, h);
 }
 
 // Unanswered it makes local 1 occur.
-pub fn line_failing() {
-    print(b"timer: a line's ping that fails after 1 tick\n");
-    let h = line_due(1);
-    let h = show_rest(h);
-    let h = show_tick(h, Access::Nothing, REST, 5, 0);
-    show_rest(h);
+pub fn line_failing(rt: &impl Print) {
+    print(rt, b"timer: a line's ping that fails after 1 tick\n");
+    let h = line_due(rt, 1);
+    let h = show_rest(rt, h);
+    let h = show_tick(rt, h, Access::Nothing, REST, 5, 0);
+    show_rest(rt, h);
 }
 
 // "at timeout 0 it waits for its answer"; a timeout that is given later counts from the ping's opening, and fails it at once.
-pub fn waiting() {
-    print(b"timer: at timeout 0 a ping waits\n");
-    let h = show_begin(locked(0), 0);
-    let h = show_rest(h);
-    let h = show_rest(h);
-    let h = show_rest(h);
-    let h = show_tick(h, Access::Write(TIMEOUT, 2), REST, 0, 0);
-    show_tick(h, Access::Write(TIMEOUT, 2), REST, 9, 0);
+pub fn waiting(rt: &impl Print) {
+    print(rt, b"timer: at timeout 0 a ping waits\n");
+    let h = show_begin(rt, locked(0), 0);
+    let h = show_rest(rt, h);
+    let h = show_rest(rt, h);
+    let h = show_rest(rt, h);
+    let h = show_tick(rt, h, Access::Write(TIMEOUT, 2), REST, 0, 0);
+    show_tick(rt, h, Access::Write(TIMEOUT, 2), REST, 9, 0);
 }
 
 // "If the drawn alert isn't locked and enabled when the ping is due, none opens and the turn ends"; a lock in the due tick is in time.
-pub fn not_locked() {
-    print(b"timer: the drawn alert is not locked\n");
-    let h = show_begin(timed(9), 0);
-    let h = show_tick(h, Access::Nothing, REST, 3, 0);
-    show_rest(h);
-    print(b"timer: it is locked in the due tick\n");
-    let h = show_begin(timed(9), 0);
-    show_tick(h, Access::Write(REGWEN, 0), REST, 0, 0);
+pub fn not_locked(rt: &impl Print) {
+    print(rt, b"timer: the drawn alert is not locked\n");
+    let h = show_begin(rt, timed(9), 0);
+    let h = show_tick(rt, h, Access::Nothing, REST, 3, 0);
+    show_rest(rt, h);
+    print(rt, b"timer: it is locked in the due tick\n");
+    let h = show_begin(rt, timed(9), 0);
+    show_tick(rt, h, Access::Write(REGWEN, 0), REST, 0, 0);
 }

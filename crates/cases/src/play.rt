@@ -1,5 +1,4 @@
 // One tick, played and shown.
-use libc::STDOUT_FILENO;
 use rules::{Access, Handler, Input, Output, Receive, Sample, Wires};
 use trace::edition::carry;
 use trace_rules::Edition;
@@ -44,32 +43,33 @@ pub const RAISE_NEXT: u64 = 0x4000_0000_0000_0000;
 
 pub const RAISE_TWO: u64 = 0xC000_0000_0000_0000;
 
-pub fn print(text: &[u8]) {
-    io::write_all(STDOUT_FILENO, text);
+// What the output doesn't take is dropped: the cases that follow are printed all the same.
+pub fn print(rt: &impl Print, text: &[u8]) {
+    let _ = rt.write_all(text);
 }
 
-pub fn print_number(n: u64) {
-    io::print_decimal(STDOUT_FILENO, n);
+pub fn print_number(rt: &impl Print, n: u64) {
+    let _ = rt.print(n);
 }
 
 // An answer: of those that the cases get, and a question mark for any other.
-pub fn print_answer(a: i64) {
+pub fn print_answer(rt: &impl Print, a: i64) {
     match a {
-        -12 => print(b"-12"),
-        -11 => print(b"-11"),
-        -10 => print(b"-10"),
-        -6 => print(b"-6"),
-        -5 => print(b"-5"),
-        -4 => print(b"-4"),
-        -3 => print(b"-3"),
-        -2 => print(b"-2"),
-        -1 => print(b"-1"),
-        0 => print(b"0"),
-        1 => print(b"1"),
-        150 => print(b"150"),
-        14652 => print(b"14652"),
-        65535 => print(b"65535"),
-        _ => print(b"?"),
+        -12 => print(rt, b"-12"),
+        -11 => print(rt, b"-11"),
+        -10 => print(rt, b"-10"),
+        -6 => print(rt, b"-6"),
+        -5 => print(rt, b"-5"),
+        -4 => print(rt, b"-4"),
+        -3 => print(rt, b"-3"),
+        -2 => print(rt, b"-2"),
+        -1 => print(rt, b"-1"),
+        0 => print(rt, b"0"),
+        1 => print(rt, b"1"),
+        150 => print(rt, b"150"),
+        14652 => print(rt, b"14652"),
+        65535 => print(rt, b"65535"),
+        _ => print(rt, b"?"),
     }
 }
 
@@ -119,52 +119,55 @@ pub fn configure(h: Handler, r: u16, v: u32) -> Handler {
 }
 
 // What register r holds, and a space.
-pub fn show_value(h: Handler, r: u16) {
-    print_number(register_file::read::value_of(
-        h,
-        map::number::register_at(h.n, carry(Edition::Alerts64, r)),
-    ) as u64);
-    print(b" ");
+pub fn show_value(rt: &impl Print, h: Handler, r: u16) {
+    print_number(
+        rt,
+        register_file::read::value_of(
+            h,
+            map::number::register_at(h.n, carry(Edition::Alerts64, r)),
+        ) as u64,
+    );
+    print(rt, b" ");
 }
 
 // Interrupts, lines, and the end of the row.
-pub fn show_output(o: Output) {
-    print_number(o.interrupts as u64);
-    print(b" ");
-    print_number(o.lines as u64);
-    print(b"\n");
+pub fn show_output(rt: &impl Print, o: Output) {
+    print_number(rt, o.interrupts as u64);
+    print(rt, b" ");
+    print_number(rt, o.lines as u64);
+    print(rt, b"\n");
 }
 
 // A tick, shown as: answer, STATE, ESC_CNT and ACCUM_CNT of class 0, interrupts, lines.
-pub fn show(h: Handler, x: Access, pos: u64) -> Handler {
+pub fn show(rt: &impl Print, h: Handler, x: Access, pos: u64) -> Handler {
     let t = handler::tick::tick(h, input(x, pos, !pos));
     let g = t.handler;
-    print(b"  ");
-    print_answer(t.answer);
-    print(b" ");
-    show_value(g, STATE);
-    show_value(g, ESC_CNT);
-    show_value(g, ACCUM_CNT);
-    show_output(t.output);
+    print(rt, b"  ");
+    print_answer(rt, t.answer);
+    print(rt, b" ");
+    show_value(rt, g, STATE);
+    show_value(rt, g, ESC_CNT);
+    show_value(rt, g, ACCUM_CNT);
+    show_output(rt, t.output);
     g
 }
 
 // n ticks of rest, shown.
-pub fn show_rest(h: Handler, n: usize) -> Handler {
+pub fn show_rest(rt: &impl Print, h: Handler, n: usize) -> Handler {
     let mut g = h;
     for _ in 0..n {
-        g = show(g, Access::Nothing, REST);
+        g = show(rt, g, Access::Nothing, REST);
     }
     g
 }
 
 // n ticks of rest that are not shown, and one that is.
-pub fn show_after(h: Handler, n: usize) -> Handler {
+pub fn show_after(rt: &impl Print, h: Handler, n: usize) -> Handler {
     let mut g = h;
     for _ in 0..n {
         g = play(g, Access::Nothing, REST);
     }
-    show(g, Access::Nothing, REST)
+    show(rt, g, Access::Nothing, REST)
 }
 
 // The ticks of rest between two rises of an alert, not shown: its drop, and two of pause.

@@ -16,31 +16,31 @@ fn with_lengths(h: Handler, p0: u32, p1: u32, p2: u32, p3: u32) -> Handler {
 
 // "alert class A gathers 16 alerts, triggers first escalation, followed by three more": threshold 15, lengths 1e3 to 1e6. The
 // first alert and 13 more are alert 0's, each after a pause, then alert 1 comes, and alert 0 in the tick after it.
-pub fn gathering() {
-    print(b"W5: 16 alerts, threshold 15\n");
+pub fn gathering(rt: &impl Print) {
+    print(rt, b"W5: 16 alerts, threshold 15\n");
     let h = with_lengths(station(15), 1000, 10000, 100000, 1000000);
     let h = configure(h, INTR_ENABLE, 1);
-    let h = show(h, Access::Nothing, REST);
-    let h = show(h, Access::Nothing, RAISE);
-    let h = show(h, Access::Nothing, REST);
-    let h = show_after(play_events(h, 13), 2);
-    let h = show(h, Access::Nothing, RAISE_NEXT);
-    let h = show(h, Access::Nothing, RAISE);
-    let h = show_rest(show_after(h, 998), 2);
-    let h = show_rest(show_after(h, 9997), 3);
-    let h = show_rest(show_after(h, 99996), 3);
-    show_rest(show_after(h, 999996), 2);
+    let h = show(rt, h, Access::Nothing, REST);
+    let h = show(rt, h, Access::Nothing, RAISE);
+    let h = show(rt, h, Access::Nothing, REST);
+    let h = show_after(rt, play_events(h, 13), 2);
+    let h = show(rt, h, Access::Nothing, RAISE_NEXT);
+    let h = show(rt, h, Access::Nothing, RAISE);
+    let h = show_rest(rt, show_after(rt, h, 998), 2);
+    let h = show_rest(rt, show_after(rt, h, 9997), 3);
+    let h = show_rest(rt, show_after(rt, h, 99996), 3);
+    show_rest(rt, show_after(rt, h, 999996), 2);
 }
 
 // "alert class A triggers an interrupt and the timeout counter, which eventually triggers escalation after 1e4 cycles". The
 // paper gives no lengths: with these each later gap is one tick.
-pub fn timeout() {
-    print(b"W6: timeout of 10000\n");
+pub fn timeout(rt: &impl Print) {
+    print(rt, b"W6: timeout of 10000\n");
     let h = with_lengths(station(100), 2, 3, 4, 5);
     let h = configure(h, TIMEOUT_CYC, 10000);
     let h = configure(h, INTR_ENABLE, 1);
-    let h = show(h, Access::Nothing, REST);
-    let h = show(h, Access::Nothing, RAISE);
-    let h = show_rest(h, 2);
-    show_rest(show_after(h, 9995), 17);
+    let h = show(rt, h, Access::Nothing, REST);
+    let h = show(rt, h, Access::Nothing, RAISE);
+    let h = show_rest(rt, h, 2);
+    show_rest(rt, show_after(rt, h, 9995), 17);
 }

@@ -50,44 +50,59 @@ fn level_at(letters: &[u8], i: usize, before: u32) -> u32 {
 }
 
 // Line 0's pair, or a question mark where another line's is not (0,1).
-fn show_escalation(p: LinePairs) {
+fn show_escalation(rt: &impl Print, p: LinePairs) {
     if p.pos / 2 == 0 && p.neg / 2 == 7 {
-        print_number((p.pos % 2) as u64);
-        print(b" ");
-        print_number((p.neg % 2) as u64);
+        print_number(rt, (p.pos % 2) as u64);
+        print(rt, b" ");
+        print_number(rt, (p.neg % 2) as u64);
     } else {
-        print(b"?");
+        print(rt, b"?");
     }
-    print(b" ");
+    print(rt, b" ");
 }
 
 // A tick with this receive pair at line 0 and the others at (0,1), shown as: the receive pair, the lines, line 0's escalation pair, ACCUM_CNT of class 1,
 // which counts local 3, and of class 2, which counts local 1, the lines whose ping is open, and the turn's number.
-fn show_line(h: Handler, x: Access, alert: u64, word: u32, pos: u32, neg: u32) -> Handler {
+fn show_line(
+    rt: &impl Print,
+    h: Handler,
+    x: Access,
+    alert: u64,
+    word: u32,
+    pos: u32,
+    neg: u32,
+) -> Handler {
     let t = handler::tick::tick(
         h,
         timing(x, alert, !alert, word, Receive::Pairs(pos, neg | 14)),
     );
     let g = t.handler;
-    print(b"  ");
-    print_number(pos as u64);
-    print(b" ");
-    print_number(neg as u64);
-    print(b" ");
-    print_number(t.output.lines as u64);
-    print(b" ");
-    show_escalation(t.output.escalation);
-    show_value(g, ACCUM_CNT + NEXT_CLASS);
-    show_value(g, ACCUM_CNT + 2 * NEXT_CLASS);
-    print_number(g.links.lines as u64);
-    print(b" ");
-    print_number(g.links.turn.number as u64);
-    print(b"\n");
+    print(rt, b"  ");
+    print_number(rt, pos as u64);
+    print(rt, b" ");
+    print_number(rt, neg as u64);
+    print(rt, b" ");
+    print_number(rt, t.output.lines as u64);
+    print(rt, b" ");
+    show_escalation(rt, t.output.escalation);
+    show_value(rt, g, ACCUM_CNT + NEXT_CLASS);
+    show_value(rt, g, ACCUM_CNT + 2 * NEXT_CLASS);
+    print_number(rt, g.links.lines as u64);
+    print(rt, b" ");
+    print_number(rt, g.links.turn.number as u64);
+    print(rt, b"\n");
     g
 }
 
 // A tick for each column: alert 0 has an event where its letter is 1, and every tick has this word.
-fn show_wave(h: Handler, word: u32, positive: &[u8], negative: &[u8], alert: &[u8]) -> Handler {
+fn show_wave(
+    rt: &impl Print,
+    h: Handler,
+    word: u32,
+    positive: &[u8],
+    negative: &[u8],
+    alert: &[u8],
+) -> Handler {
     let mut g = h;
     let mut pos: u32 = 0;
     let mut neg: u32 = 1;
@@ -95,6 +110,7 @@ fn show_wave(h: Handler, word: u32, positive: &[u8], negative: &[u8], alert: &[u
         pos = level_at(positive, i, pos);
         neg = level_at(negative, i, neg);
         g = show_line(
+            rt,
             g,
             Access::Nothing,
             wire(letter_at(alert, i), REST),
@@ -127,52 +143,59 @@ fn answer_all(h: Handler, n: usize) -> Handler {
 
 // "escalation enable pulse shown at input sender at time 1 and 11; missing response and repeated integfail at time 12 and 14". Class 0 is cleared in the
 // gap.
-pub fn signaling() {
-    print(b"W7: escalation signaling and response\n");
-    let h = show_wave(lined(5), 0, b"0.101010.", b"1.010101.", b".1");
-    let h = show_line(h, Access::Write(CLR, 1), REST, 0, 0, 1);
-    show_wave(h, 0, b"0........", b"1........", b".1");
+pub fn signaling(rt: &impl Print) {
+    print(rt, b"W7: escalation signaling and response\n");
+    let h = show_wave(rt, lined(5), 0, b"0.101010.", b"1.010101.", b".1");
+    let h = show_line(rt, h, Access::Write(CLR, 1), REST, 0, 0, 1);
+    show_wave(rt, h, 0, b"0........", b"1........", b".1");
 }
 
 // "direct signal integrity failure at time 2; indirect failure at time 6".
-pub fn integrity() {
-    print(b"W8: signal integrity failures\n");
-    show_wave(lined(5), 0, b"0.1.0|..1010", b"1....|.01010", b".");
+pub fn integrity(rt: &impl Print) {
+    print(rt, b"W8: signal integrity failures\n");
+    show_wave(rt, lined(5), 0, b"0.1.0|..1010", b"1....|.01010", b".");
 }
 
 // A ping of line 0 answered by 1010, and one that is not; in the gap are the turns of lines 1 to 3, which answer.
-pub fn ping_testing() {
-    print(b"W9: ping testing of escalation lines\n");
-    let h = show_wave(pinged(5, 5, 1), 0, b"0.1010.", b"1.0101.", b".");
-    show_wave(answer_all(h, 16), 0, b"|.......", b"|.......", b".");
+pub fn ping_testing(rt: &impl Print) {
+    print(rt, b"W9: ping testing of escalation lines\n");
+    let h = show_wave(rt, pinged(5, 5, 1), 0, b"0.1010.", b"1.0101.", b".");
+    show_wave(rt, answer_all(h, 16), 0, b"|.......", b"|.......", b".");
 }
 
 // "a lone tick lengthened to two".
-pub fn lone_tick() {
-    print(b"wires: a line of one tick\n");
-    show_wave(lined(1), 0, b"001000", b"110111", b".1");
+pub fn lone_tick(rt: &impl Print) {
+    print(rt, b"wires: a line of one tick\n");
+    show_wave(rt, lined(1), 0, b"001000", b"110111", b".1");
 }
 
 // "answered from the next tick": 1010 one tick late is wrong in four ticks, and "local 1 follows on a ping timeout".
-pub fn late_answer() {
-    print(b"wires: a ping answered one tick late\n");
-    show_wave(pinged(5, 6, 1), LATER, b"000101000", b"111010111", b".");
+pub fn late_answer(rt: &impl Print) {
+    print(rt, b"wires: a ping answered one tick late\n");
+    show_wave(rt, pinged(5, 6, 1), LATER, b"000101000", b"111010111", b".");
 }
 
 // "A real escalation wins over a ping and closes it unfailed": at 3, a tick before its timeout.
-pub fn escalation_wins() {
-    print(b"wires: an escalation closes a ping\n");
-    show_wave(pinged(4, 3, 1), LATER, b"001010100", b"110101011", b"...1");
+pub fn escalation_wins(rt: &impl Print) {
+    print(rt, b"wires: an escalation closes a ping\n");
+    show_wave(
+        rt,
+        pinged(4, 3, 1),
+        LATER,
+        b"001010100",
+        b"110101011",
+        b"...1",
+    );
 }
 
 // "a ping due right after one on the wire closes unsent": the pair is on at 1 and 2, the ping is due at 3.
-pub fn unsent() {
-    print(b"wires: a ping due right after an escalation\n");
-    show_wave(pinged(1, 3, 3), LATER, b"0010000", b"1101111", b".1");
+pub fn unsent(rt: &impl Print) {
+    print(rt, b"wires: a ping due right after an escalation\n");
+    show_wave(rt, pinged(1, 3, 3), LATER, b"0010000", b"1101111", b".1");
 }
 
 // An answer that nothing asked for.
-pub fn unasked() {
-    print(b"wires: an answer to nothing\n");
-    show_wave(lined(5), 0, b"0010", b"1101", b".");
+pub fn unasked(rt: &impl Print) {
+    print(rt, b"wires: an answer to nothing\n");
+    show_wave(rt, lined(5), 0, b"0010", b"1101", b".");
 }

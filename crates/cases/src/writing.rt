@@ -4,17 +4,17 @@ use rules::WORDS;
 use writer::write;
 
 // The buffer's bytes.
-fn show_bytes(bytes: &[u8]) {
+fn show_bytes(rt: &impl Print, bytes: &[u8]) {
     for i in 0..bytes.len() {
-        print(b" ");
-        print_number(bytes[i] as u64);
+        print(rt, b" ");
+        print_number(rt, bytes[i] as u64);
     }
-    print(b"\n");
+    print(rt, b"\n");
 }
 
 // A read of 1281 and a write of 0 to this register, with negative wire 0 at 1, into the first bytes of a buffer. The second has a word, lines
 // 0 and 2 at (1,0), and bits that are no line's.
-fn show_two(register: u16, out: &mut [u8]) {
+fn show_two(rt: &impl Print, register: u16, out: &mut [u8]) {
     let registers: [u16; 2] = [1281, register];
     let positive: [u64; 2 * WORDS] = [0; 2 * WORDS];
     let mut negative: [u64; 2 * WORDS] = [0; 2 * WORDS];
@@ -32,18 +32,18 @@ fn show_two(register: u16, out: &mut [u8]) {
         &[15, 0x2A],
         out,
     );
-    print(b"  ");
-    print_answer(answer);
-    show_bytes(out);
+    print(rt, b"  ");
+    print_answer(rt, answer);
+    show_bytes(rt, out);
 }
 
 // The two records of document 01 in the newest form; a register that no record holds; a buffer one byte too short; both.
-pub fn two_records() {
-    print(b"writing\n");
+pub fn two_records(rt: &impl Print) {
+    print(rt, b"writing\n");
     let mut long: [u8; 152] = [7; 152];
-    show_two(2047, &mut long);
-    show_two(2048, &mut long);
+    show_two(rt, 2047, &mut long);
+    show_two(rt, 2048, &mut long);
     let mut short: [u8; 149] = [7; 149];
-    show_two(2047, &mut short);
-    show_two(2048, &mut short);
+    show_two(rt, 2047, &mut short);
+    show_two(rt, 2048, &mut short);
 }
