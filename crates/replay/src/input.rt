@@ -1,6 +1,7 @@
 // Standard input, one read at a time: what a live source has sent is taken at once.
 ghost use Rattle.std.specs.Prelude.{◌+◌, ◌≤◌, ◌≡◌, length, take};
-ghost use Rattle.io.specs.Counts.{IsPrefixLen};
+
+use std::io::Read;
 
 // How many bytes a read gave, and whether it failed. No bytes: the input ended or the read failed.
 #[derive(Clone, Copy)]
@@ -10,20 +11,25 @@ pub struct Got {
 }
 
 // Reads once, to the start of buf.
-pub fn read_some(fd: i32, buf: &mut [u8]) -> Got
-    ensures { IsPrefixLen result.count buf.new }
+pub fn read_some(input: &mut impl Read, buf: &mut [u8]) -> Got
+    ensures { result.count ≤ length buf.new }
 {
-    let got = libc::read(fd, buf);
-    Got {
-        count: io::count(got, buf),
-        failed: got < 0,
+    match input.read(buf) {
+        Ok(count) => Got {
+            count,
+            failed: false,
+        },
+        Err(_) => Got {
+            count: 0,
+            failed: true,
+        },
     }
 }
 
 // Reads once, behind the first bytes of buf, which stay.
-pub fn read_behind(fd: i32, buf: &mut [u8], at: usize) -> Got
+pub fn read_behind(input: &mut impl Read, buf: &mut [u8], at: usize) -> Got
     requires { at ≤ length buf.old }
     ensures { (at + result.count ≤ length buf.new) × (take at buf.new ≡ take at buf.old) }
 {
-    read_some(fd, &mut buf[at..])
+    read_some(input, &mut buf[at..])
 }

@@ -1,5 +1,6 @@
 // "The program reads from standard input one byte N, then records, and prints each word".
 #![tactic(auto)]
+
 mod input;
 mod records;
 mod rest;
@@ -11,11 +12,11 @@ ghost use Rattle.rules.specs.State.{made};
 ghost use Rattle.replay.specs.Rest.{Ran, Turned};
 
 use input::{read_behind, read_some};
-use libc::{STDERR_FILENO, STDIN_FILENO, STDOUT_FILENO};
 use records::{TEXT, TURN, replay};
 use rest::keep_rest;
 use rules::{Handler, Made};
 use state::new::new;
+use std::io::Read;
 use trace::edition::{ALERTS_64_BYTES, ALERTS_248_BYTES, PINGS_BYTES, WIRES_BYTES};
 use trace_rules::Edition;
 
@@ -35,26 +36,32 @@ enum Byte {
 }
 
 // Prints to standard output, and says whether it could; that it could not is told on standard error.
-fn print(text: &[u8]) -> bool {
-    let done = io::write_all(STDOUT_FILENO, text);
+fn print(rt: &(impl Print + Eprint), text: &[u8]) -> bool {
+    let done = rt.write_all(text).is_ok();
     if !done {
-        io::write_all(STDERR_FILENO, b"replay: write failed\n");
+        let _ = rt.eprint("replay: write failed\n");
     }
     done
 }
 
 // After the last record: rest bytes print `cut`. That a read failed is told on standard error.
-fn finish(rest: usize, failed: bool) {
+fn finish(rt: &(impl Print + Eprint), rest: usize, failed: bool) {
     if rest != 0 {
-        print(b"cut\n");
+        print(rt, b"cut\n");
     }
     if failed {
-        io::write_all(STDERR_FILENO, b"replay: read failed\n");
+        let _ = rt.eprint("replay: read failed\n");
     }
 }
 
 // Runs the whole records of count bytes, keeps the rest for the next turn and prints the words.
-fn run_whole(edition: Edition, h: Handler, bytes: &mut [u8], count: usize) -> Turn
+fn run_whole(
+    rt: &(impl Print + Eprint),
+    edition: Edition,
+    h: Handler,
+    bytes: &mut [u8],
+    count: usize,
+) -> Turn
     requires { (admits edition h ≡ true) × (length bytes.old ≡ 2048 * record_bytes edition) × (count ≤ length bytes.old) }
     ensures { Ran edition h (take count bytes.old) result.handler result.rest bytes.new }
 {
@@ -66,36 +73,49 @@ fn run_whole(edition: Edition, h: Handler, bytes: &mut [u8], count: usize) -> Tu
     Turn {
         handler,
         rest,
-        goes_on: print(&text[..written]),
+        goes_on: print(rt, &text[..written]),
     }
 }
 
 // Reads once behind the bytes that wait, and runs what is whole now. A read that gives nothing makes the turn the last.
-fn take_turn(edition: Edition, h: Handler, bytes: &mut [u8], rest: usize) -> Turn
+fn take_turn(
+    input: &mut impl Read,
+    rt: &(impl Print + Eprint),
+    edition: Edition,
+    h: Handler,
+    bytes: &mut [u8],
+    rest: usize,
+) -> Turn
     requires { (admits edition h ≡ true) × (length bytes.old ≡ 2048 * record_bytes edition) × (rest < record_bytes edition) }
     ensures { Turned edition h (take rest bytes.old) result.handler result.rest bytes.new }
 {
-    let got = read_behind(STDIN_FILENO, bytes, rest);
+    let got = read_behind(input, bytes, rest);
     if got.count == 0 {
-        finish(rest, got.failed);
+        finish(rt, rest, got.failed);
         return Turn {
             handler: h,
             rest,
             goes_on: false,
         };
     }
-    run_whole(edition, h, bytes, rest + got.count)
+    run_whole(rt, edition, h, bytes, rest + got.count)
 }
 
 // A proved loop has to end, and nothing says that the input does: so it counts its turns down, from a number that no run uses up.
-fn take_turns(edition: Edition, h: Handler, bytes: &mut [u8])
+fn take_turns(
+    input: &mut impl Read,
+    rt: &(impl Print + Eprint),
+    edition: Edition,
+    h: Handler,
+    bytes: &mut [u8],
+)
     requires { (admits edition h ≡ true) × (length bytes.old ≡ 2048 * record_bytes edition) }
 {
     let mut handler = h;
     let mut rest = 0;
     let mut turns = u64::MAX;
     while turns > 0 {
-        let next = take_turn(edition, handler, bytes, rest);
+        let next = take_turn(input, rt, edition, handler, bytes, rest);
         if !next.goes_on {
             return;
         }
@@ -106,35 +126,35 @@ fn take_turns(edition: Edition, h: Handler, bytes: &mut [u8])
 }
 
 // The records of 24 bytes, from a buffer of a turn's bytes.
-fn run_64(h: Handler)
+fn run_64(input: &mut impl Read, rt: &(impl Print + Eprint), h: Handler)
     requires { admits Edition.Alerts64 h ≡ true }
 {
     let mut bytes = [0u8; TURN * ALERTS_64_BYTES];
-    take_turns(Edition::Alerts64, h, &mut bytes);
+    take_turns(input, rt, Edition::Alerts64, h, &mut bytes);
 }
 
 // The records of 70 bytes.
-fn run_248(h: Handler)
+fn run_248(input: &mut impl Read, rt: &(impl Print + Eprint), h: Handler)
     requires { admits Edition.Alerts248 h ≡ true }
 {
     let mut bytes = [0u8; TURN * ALERTS_248_BYTES];
-    take_turns(Edition::Alerts248, h, &mut bytes);
+    take_turns(input, rt, Edition::Alerts248, h, &mut bytes);
 }
 
 // Records of 75 bytes, with the ping timer's word and answers.
-fn run_pings(h: Handler)
+fn run_pings(input: &mut impl Read, rt: &(impl Print + Eprint), h: Handler)
     requires { admits Edition.Pings h ≡ true }
 {
     let mut bytes = [0u8; TURN * PINGS_BYTES];
-    take_turns(Edition::Pings, h, &mut bytes);
+    take_turns(input, rt, Edition::Pings, h, &mut bytes);
 }
 
 // The newest records, of 75 bytes, with receive pairs.
-fn run_wires(h: Handler)
+fn run_wires(input: &mut impl Read, rt: &(impl Print + Eprint), h: Handler)
     requires { admits Edition.Wires h ≡ true }
 {
     let mut bytes = [0u8; TURN * WIRES_BYTES];
-    take_turns(Edition::Wires, h, &mut bytes);
+    take_turns(input, rt, Edition::Wires, h, &mut bytes);
 }
 
 // A handler for N.
@@ -145,61 +165,61 @@ fn make(n: u8) -> Made
 }
 
 // A missing or refused N prints `refused` only.
-fn refuse() {
-    print(b"refused\n");
+fn refuse(rt: &(impl Print + Eprint)) {
+    print(rt, b"refused\n");
 }
 
 // Old records, of 24 bytes, speak of at most 64 alerts.
-fn start_64(n: u8) {
+fn start_64(input: &mut impl Read, rt: &(impl Print + Eprint), n: u8) {
     if 64 < n {
-        refuse();
+        refuse(rt);
         return;
     }
     let made = make(n);
     if made.answer < 0 {
-        refuse();
+        refuse(rt);
     } else {
-        run_64(made.handler);
+        run_64(input, rt, made.handler);
     }
 }
 
 // Records of 70 bytes.
-fn start_248(n: u8) {
+fn start_248(input: &mut impl Read, rt: &(impl Print + Eprint), n: u8) {
     let made = make(n);
     if made.answer < 0 {
-        refuse();
+        refuse(rt);
     } else {
-        run_248(made.handler);
+        run_248(input, rt, made.handler);
     }
 }
 
 // Records of 75 bytes with answers.
-fn start_pings(n: u8) {
+fn start_pings(input: &mut impl Read, rt: &(impl Print + Eprint), n: u8) {
     let made = make(n);
     if made.answer < 0 {
-        refuse();
+        refuse(rt);
     } else {
-        run_pings(made.handler);
+        run_pings(input, rt, made.handler);
     }
 }
 
 // The newest records, of 75 bytes with receive pairs.
-fn start_wires(n: u8) {
+fn start_wires(input: &mut impl Read, rt: &(impl Print + Eprint), n: u8) {
     let made = make(n);
     if made.answer < 0 {
-        refuse();
+        refuse(rt);
     } else {
-        run_wires(made.handler);
+        run_wires(input, rt, made.handler);
     }
 }
 
 // One byte of the input. That none came, or a read failed, is told as a missing N is.
-fn read_byte() -> Byte {
+fn read_byte(input: &mut impl Read, rt: &(impl Print + Eprint)) -> Byte {
     let mut byte = [0u8; 1];
-    let got = read_some(STDIN_FILENO, &mut byte);
+    let got = read_some(input, &mut byte);
     if got.count == 0 {
-        refuse();
-        finish(0, got.failed);
+        refuse(rt);
+        finish(rt, 0, got.failed);
         return Byte::Missing;
     }
     Byte::Read(byte[0])
@@ -221,22 +241,23 @@ fn choose(first: u8) -> Edition
 }
 
 // N comes behind a first byte that names an edition; any other first byte is N itself.
-fn main() {
-    match read_byte() {
+fn main(rt: HostRuntime) {
+    let mut input = rt.stdin();
+    match read_byte(&mut input, &rt) {
         Byte::Missing => {}
         Byte::Read(first) => match choose(first) {
-            Edition::Alerts64 => start_64(first),
-            Edition::Alerts248 => match read_byte() {
+            Edition::Alerts64 => start_64(&mut input, &rt, first),
+            Edition::Alerts248 => match read_byte(&mut input, &rt) {
                 Byte::Missing => {}
-                Byte::Read(n) => start_248(n),
+                Byte::Read(n) => start_248(&mut input, &rt, n),
             },
-            Edition::Pings => match read_byte() {
+            Edition::Pings => match read_byte(&mut input, &rt) {
                 Byte::Missing => {}
-                Byte::Read(n) => start_pings(n),
+                Byte::Read(n) => start_pings(&mut input, &rt, n),
             },
-            Edition::Wires => match read_byte() {
+            Edition::Wires => match read_byte(&mut input, &rt) {
                 Byte::Missing => {}
-                Byte::Read(n) => start_wires(n),
+                Byte::Read(n) => start_wires(&mut input, &rt, n),
             },
         },
     }
