@@ -1,17 +1,17 @@
 # What the commands run: the proved program, the proved library, and the tools that ask it. Each is built on first use and
 # where a source is newer; what stands is run as it is, without rt or cargo, and nothing is written then.
 program=$here/target/bin/replay
-archive=$here/target/staticlib/libboundary.a
 library=$here/target/staticlib/libtarravane.a
 cli=$here/target/cargo/release/tarravane-cli
 harness=$here/target/cargo/release/harness
 plain=$here/target/cargo/release/reference-replay
 
-# stands BUILT SOURCE...: whether BUILT is there and no file of the sources is newer.
+# stands BUILT SOURCE...: whether BUILT is there and no file of the sources is newer. What the kit writes, the folder out/ of each
+# crate, is no source.
 stands() {
   built=$1
   shift
-  [ -f "$built" ] && [ -z "$(find "$@" -type f -newer "$built" | head -n 1)" ]
+  [ -f "$built" ] && [ -z "$(find "$@" -type d -name out -prune -o -type f -newer "$built" -print | head -n 1)" ]
 }
 
 # rust_stands BUILT SOURCE...: the same of what cargo builds over the library.
@@ -20,8 +20,8 @@ rust_stands() {
   stands "$@" "$library" "$here/tools/handler" "$here/Cargo.toml" "$here/Cargo.lock"
 }
 
-program_stands() { stands "$program" "$here/crates" "$here/crates.txt"; }
-library_stands() { stands "$archive" "$here/crates" "$here/crates.txt" && stands "$library" "$archive" "$here/include" "$here/launcher/library"; }
+program_stands() { stands "$program" "$here/crates" "$here/crates.txt" "$here/launcher/program"; }
+library_stands() { stands "$library" "$here/crates" "$here/crates.txt" "$here/include" "$here/launcher/library"; }
 tool_stands() { rust_stands "$cli" "$here/tools/tarravane" "$here/launcher/help"; }
 harness_stands() { rust_stands "$harness" "$here/tools/harness" "$here/reference"; }
 plain_stands() { stands "$plain" "$here/reference" "$here/Cargo.toml" "$here/Cargo.lock"; }
@@ -43,16 +43,16 @@ need() {
   [ -z "$missing" ] || fail "the build needs what is not on the path: $missing"
 }
 
-# find_stale PART...: which of them do not stand, what building them needs, and what it writes in target/.
+# find_stale PART...: which of them do not stand, what building them needs, and what it writes.
 find_stale() {
   stale='' needed='' written='' parts=0
   for part in "$@"; do
     is_unfinished "$part" || ! "${part}_stands" || continue
     stale="$stale $part" parts=$((parts + 1))
     case $part in
-      tool | harness | plain) needed="$needed cargo cc" written="$written cargo" ;;
-      library) needed="$needed rt objcopy" written="$written log rlib stamp obj bin staticlib" ;;
-      *) needed="$needed rt" written="$written log rlib stamp obj bin staticlib" ;;
+      tool | harness | plain) needed="$needed cargo cc" written="$written target/cargo" ;;
+      library) needed="$needed rt objcopy" written="$written target/staticlib $(written_for boundary_c)" ;;
+      *) needed="$needed rt" written="$written target/bin $(written_for replay)" ;;
     esac
   done
 }
@@ -87,19 +87,22 @@ announce() {
   printf 'tarravane: %s%s\n' "$which" "$1" >&2
 }
 
-# The kit makes a program anew only where its crates have changed, or where it does not know that it proved them.
-build_program() {
-  [ -f "$program" ] || rm -f "$here/target/stamp/replay"
-  prove check replay "the program"
-  finished program "$program"
+# place PART LEFT FILE WHAT: of what the kit has left there, launcher/PART makes FILE.
+place() {
+  [ -f "$here/$2" ] || fail "the build left no $here/$2"
+  "$here/launcher/$1" </dev/null || fail "$4 was not built"
+  finished "$1" "$3"
 }
 
-# Proved in any case, so that no part of an archive is taken: where nothing has changed, the kit says so at once.
+# The kit proves and builds anew only what has changed, by checksums of its own.
+build_program() {
+  prove run replay "the program"
+  place program crates/replay/out/replay "$program" "the program"
+}
+
 build_library() {
-  prove staticlib boundary "the library"
-  finished library "$archive"
-  "$here/launcher/library" </dev/null || fail "the library was not built"
-  finished library "$library"
+  prove lib boundary_c "the library"
+  place library crates/boundary_c/out/libboundary_c.a "$library" "the library"
 }
 
 # run_cargo PACKAGE WHAT: the lock stays with the launcher; cargo has one of its own.

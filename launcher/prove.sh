@@ -1,33 +1,46 @@
 # Proving: rt's own lines, as they come, become one line of progress for each crate.
 
-# crates_of NAME: how many crates of the repository are proved for NAME, itself included.
-crates_of() {
+# crates_below NAME: the crates of the repository that are proved for NAME, itself included, in the order in which rt takes them.
+crates_below() {
   awk -v name="$1" '
     { sub(/#.*/, ""); at = index($0, ":") }
-    at { crate = substr($0, 1, at - 1); gsub(/[ \t]/, "", crate); below[crate] = substr($0, at + 1) }
+    at { split(substr($0, 1, at - 1), crate, " "); below[crate[1]] = substr($0, at + 1) }
     function visit(crate,    i, n, list) {
       if (crate in seen || !(crate in below)) return
       seen[crate] = 1
-      count++
       n = split(below[crate], list, " ")
       for (i = 1; i <= n; i++) visit(list[i])
+      print crate
     }
-    END { visit(name); print count + 0 }' "$here/crates.txt"
+    END { visit(name) }' "$here/crates.txt"
 }
 
-# Shows the lines of rt. Those of a crate that is proved give one line; all others stand as rt has them where it fails.
+# place_of CRATE NAME...: at which place of the names the crate stands.
+place_of() {
+  wanted=$1 place=0
+  shift
+  for name; do
+    place=$((place + 1))
+    [ "$name" != "$wanted" ] || break
+  done
+  echo $place
+}
+
+# show_progress NAME...: shows the lines of rt, which takes these crates in turn. It names a crate that it begins to check, and says
+# nothing of one that has not changed. A crate that is proved gives one line; all others stand as rt has them where it fails.
 show_progress() {
-  proved=0 kept='' status=2
+  kept='' status=2 checked='' began=0
   while IFS= read -r line; do
     case $line in
-      'rt: '*' proved (unchanged'*) proved=$((proved + 1)) kept='' ;;
-      'rt: '*' proved ('*)
-        proved=$((proved + 1)) kept='' name=${line#rt: }
-        printf 'tarravane: proving %s of %s: %s\n' "$proved" "$1" "$name" >&2
+      'rt: chose --jobs '*' for '*)
+        checked=${line##* for } began=$(date +%s)
+        echo "$checked" >"$here/target/$part.checking"
         ;;
-      'rt: '*' NOT PROVED'*)
-        printf '%s%s\n' "$kept" "$line" >&2
-        kept=''
+      'logic=proved'*)
+        [ -z "$checked" ] ||
+          printf 'tarravane: proving %s of %s: %s proved (%s s)\n' "$(place_of "$checked" "$@")" $# "$checked" $(($(date +%s) - began)) >&2
+        kept='' checked=''
+        : >"$here/target/$part.checking"
         ;;
       'ended: '*) status=${line#ended: } ;;
       *) kept="$kept$line
@@ -38,38 +51,34 @@ show_progress() {
   return "$status"
 }
 
-# running MARK: the crates that rt checks now. It makes target/log/NAME.say when it begins with one, and the verdict is its last line.
-running() {
-  # shellcheck disable=SC2016 # for the inner shell
-  find "$here/target/log" -name '*.say' -newer "$1" -exec sh -c 'grep -q "^logic=" "$1" || echo "${1##*/}"' sh {} \; 2>/dev/null |
-    sed 's/\.say$//' | sort | tr '\n' ' '
-}
-
-# Says every few seconds what is being checked and for how long, while the launcher lives. Crates that are checked side by side began together.
+# Says every few seconds what is being checked and for how long, while the launcher lives.
 show_running() {
-  known='' began=0 due=5
+  known='' took=0 due=5
   while sleep 1 >/dev/null 2>&1 && kill -0 $$ 2>/dev/null; do
-    now=$(date +%s) names=$(running "$1")
-    for name in $names; do
-      case " $known" in *" $name "*) ;; *) began=$now due=5 ;; esac
-    done
-    known=$names took=$((now - began))
-    [ -n "$names" ] && [ "$took" -ge "$due" ] || continue
+    name=''
+    { read -r name <"$here/target/$part.checking"; } 2>/dev/null
+    [ "$name" = "$known" ] || { known=$name took=0 due=5; }
+    took=$((took + 1))
+    [ -n "$name" ] && [ "$took" -ge "$due" ] || continue
     due=$((took + 5))
-    printf 'tarravane: checking %sfor %s s\n' "$names" "$took" >&2
+    printf 'tarravane: checking %s for %s s\n' "$name" "$took" >&2
   done
 }
 
-# prove VERB NAME WHAT: runs rt VERB NAME.
+# prove VERB NAME WHAT: runs rt VERB in the crate's folder. `rt run` runs the program at the end: on N alone, of which it prints nothing.
 prove() {
-  total=$(crates_of "$2")
-  announce "proving and building $3, once: $total crates, a few minutes"
-  forget_verdicts
-  show_running "$here/target/$part.unfinished" 9<&- &
+  # shellcheck disable=SC2046 # words on purpose
+  set -- "$@" $(crates_below "$2")
+  verb=$1 crate=$2 what=$3
+  shift 3
+  announce "proving and building $what, once: $# crates, a few minutes"
+  : >"$here/target/$part.checking"
+  show_running 9<&- &
   clock=$!
-  { (cd "$here" && rt "$1" "$2") </dev/null 2>&1; echo "ended: $?"; } | show_progress "$total"
+  { (cd "$here/crates/$crate" && printf '\100' | rt "$verb") 2>&1; echo "ended: $?"; } | show_progress "$@"
   status=$?
   kill "$clock" 2>/dev/null
   wait "$clock" 2>/dev/null
-  [ "$status" -eq 0 ] || fail "$3 was not built"
+  rm -f "$here/target/$part.checking"
+  [ "$status" -eq 0 ] || fail "$what was not built"
 }

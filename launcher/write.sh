@@ -1,4 +1,7 @@
-# What a build writes. It is looked at before anything slow, since the kit reads its old verdicts where it cannot write new ones.
+# What a build writes. It is looked at before anything slow.
+
+# written_for NAME: what the kit writes in proving the crate NAME: the folder out/ of each crate below it, and of itself.
+written_for() { crates_below "$1" | sed 's|.*|crates/&/out|'; }
 
 # unwritable PATH...: the first file or folder in these that cannot be written.
 unwritable() {
@@ -16,14 +19,20 @@ refuse_to_write() {
   fail "the build cannot write $1 (its owner is $(ls -ld "$1" | awk '{ print $3 }')): build in a checkout of your own"
 }
 
-# check_writable NAME...: ends where one of these of target/ could not be written, or made.
+# check_writable PATH...: ends where one of these of the checkout could not be written, or made.
 check_writable() {
   [ -e "$here/target" ] || [ -L "$here/target" ] || mkdir "$here/target" 2>/dev/null || refuse_to_write "$here"
   [ -d "$here/target" ] || fail "the build writes to $here/target, and that is no folder"
   [ -w "$here/target" ] && [ -x "$here/target" ] || refuse_to_write "$here/target"
-  for name in "$@"; do
+  for path; do
     shift
-    [ ! -e "$here/target/$name" ] || set -- "$@" "$here/target/$name"
+    path=$here/$path
+    above=${path%/*}
+    if [ -e "$path" ]; then
+      set -- "$@" "$path"
+    else
+      [ -w "$above" ] && [ -x "$above" ] || [ ! -e "$above" ] || refuse_to_write "$above"
+    fi
   done
   [ $# -gt 0 ] || return 0
   first=$(unwritable "$@")
@@ -44,9 +53,6 @@ lock() {
 }
 
 unlock() { exec 9<&-; }
-
-# forget_verdicts: the kit's, of earlier builds.
-forget_verdicts() { rm -f "$here"/target/log/*.res 2>/dev/null || fail "cannot remove the verdicts of an earlier build"; }
 
 # begun PART, ended PART: between the two its file is not taken for a whole one, also where the build was killed.
 begun() { touch "$here/target/$1.unfinished" 2>/dev/null || fail "cannot write $here/target/$1.unfinished"; }

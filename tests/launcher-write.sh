@@ -14,24 +14,27 @@ as_other() { ends "$1" "$2" "${drop[@]}" env -i "PATH=$work/stand-ins:$work/plai
 lock_up() { chmod -R u-w,go-w "$@"; }
 not_called() { expect "$1: nothing was started" no "$([ -e "$work/called" ] && echo yes || echo no)"; }
 
-# A changed source, and one thing that the build writes that cannot be written: old verdicts are not read, nothing runs.
-mkdir -p "$tree/target/log" "$tree/target/stamp" "$tree/target/rlib/bits.rlib" "$tree/target/obj"
-touch "$tree/target/log/bits.res" "$tree/target/log/bits.out" "$tree/target/stamp/bits" "$tree/target/rlib/bits.rlib/a" "$tree/target/obj/replay.o"
-touch -d 2000-01-01 "$tree/target/bin/replay" "$tree/target/staticlib/libboundary.a"
+# A changed source, and one thing that the build writes that cannot be written: nothing runs, also not what was built before.
+mkdir -p "$tree/crates/bits/out/incremental" "$tree/crates/bits/out/rlib/bits.rlib" "$tree/crates/replay/out"
+touch "$tree/crates/bits/out/incremental/a" "$tree/crates/bits/out/rlib/stamp" "$tree/crates/bits/out/rlib/bits.rlib/a" "$tree/crates/replay/out/replay.o"
+touch -d 2000-01-01 "$tree/target/bin/replay" "$tree/target/staticlib/libtarravane.a"
 touch "$tree/crates/bits/src/lib.rt"
-for part in log log/bits.res log/bits.out stamp/bits rlib/bits.rlib/a obj/replay.o bin bin/replay; do
-  chmod -R a+rwX "$tree/target"
-  chmod a-w "$tree/target/$part"
+# unlocked: all that a build writes can be written.
+unlocked() { chmod -R a+rwX "$tree/target" "$tree/crates"; }
+for part in crates/bits/out crates/bits/out/incremental/a crates/bits/out/rlib/stamp crates/bits/out/rlib/bits.rlib/a crates/replay/out/replay.o crates/rules \
+  target/bin target/bin/replay; do
+  unlocked
+  chmod a-w "$tree/$part"
   as_other 2 1 replay examples/broken-seal.trace
-  says "tarravane: the build cannot write *target/$part (its owner is *"
+  says "tarravane: the build cannot write *$part (its owner is *"
 done
-for part in staticlib cargo/release cargo/release/tarravane-cli; do
-  chmod -R a+rwX "$tree/target"
-  chmod a-w "$tree/target/$part"
+for part in target/staticlib target/cargo/release target/cargo/release/tarravane-cli; do
+  unlocked
+  chmod a-w "$tree/$part"
   as_other 2 1 explain examples/broken-seal.trace
-  says "tarravane: the build cannot write *target/$part (its owner is *"
+  says "tarravane: the build cannot write *$part (its owner is *"
 done
-chmod -R a+rwX "$tree/target"
+unlocked
 chmod a-w "$tree/target"
 as_other 2 1 replay examples/broken-seal.trace
 says "tarravane: the build cannot write *target (its owner is *"
@@ -40,9 +43,10 @@ chmod a+w "$tree/target"
 lock_up "$tree/target"
 as_other 2 1 build
 says "tarravane: the build cannot write *target (its owner is *"
-chmod -R a+rwX "$tree/target"
-chmod 700 "$tree/target/log"
-[ "$(id -u)" -ne 0 ] || { as_other 2 1 build && says "*target/log (its owner is root)*"; }
+unlocked
+chmod 700 "$tree/crates/bits/out"
+[ "$(id -u)" -ne 0 ] || { as_other 2 1 build && says "*crates/bits/out (its owner is root)*"; }
+rm -rf "$tree"/crates/*/out
 not_called 'what cannot be written'
 
 # A fresh checkout that cannot be written, and a target that is no folder.
@@ -59,13 +63,12 @@ for odd in file link; do
 done
 not_called 'a fresh checkout that cannot be written'
 
-# A build that leaves its file where it cannot be touched, or leaves none, or old verdicts alone, is none.
+# A build that leaves its file where it cannot be touched, or leaves none, or an old one alone, is none.
 stand_in rt <<<'#!/bin/sh
-mkdir -p target/bin'
+mkdir -p out'
 ends 2 2 env -i "PATH=$work/stand-ins:$work/plain" "$tree/tarravane" replay examples/broken-seal.trace
-says '*the build left no *target/bin/replay'
-cp target/bin/replay "$tree/target/bin/replay"
-touch -d 2000-01-01 "$tree/target/bin/replay"
+says '*the build left no *crates/replay/out/replay'
+cp target/bin/replay "$tree/crates/replay/out/replay"
 stand_in touch <<<"#!/bin/sh
 case \$* in */replay) exit 1 ;; esac
 exec $(command -v touch) \"\$@\""
@@ -73,23 +76,21 @@ ends 2 2 env -i "PATH=$work/stand-ins:$work/plain" "$tree/tarravane" replay exam
 says '*tarravane: cannot write *target/bin/replay'
 rm "$work/stand-ins/touch"
 rm -rf "$tree/target"
-mkdir -p "$tree/target/log"
-touch "$tree/target/log/bits.res"
 stand_in rt <<<'#!/bin/sh
-cat target/log/*.res && exit 0
+ls out/replay
 exit 1'
 ends 2 3 env -i "PATH=$work/stand-ins:$work/plain" "$tree/tarravane" replay examples/broken-seal.trace
-says '*the program was not built'
+says '*out/replay*the program was not built'
+expect 'an old program is not taken' no "$([ -e "$tree/target/bin/replay" ] && echo yes || echo no)"
 
 # A source that is changed while the build runs is newer than what was built of it.
 rm -rf "$tree/target"
 stand_in rt <<TXT
 #!/bin/sh
 echo called >>"$work/calls"
-mkdir -p target/bin
-cp /bin/cat target/bin/replay
+cp /bin/cat out/replay
 sleep 0.05
-touch crates/bits/src/lib.rt
+touch ../bits/src/lib.rt
 TXT
 lines one two >"$work/input"
 for _ in first second; do ends 0 1 env -i "PATH=$work/stand-ins:$work/plain" "$tree/tarravane" replay "$work/input"; done
@@ -102,9 +103,8 @@ mkfifo "$work/go_on"
 stand_in rt <<TXT
 #!/bin/sh
 echo called >>"$work/calls"
-mkdir -p target/bin
 read -r line <"$work/go_on"
-cp /bin/cat target/bin/replay
+cp /bin/cat out/replay
 TXT
 two=("PATH=$work/stand-ins:$work/plain" "$tree/tarravane" replay "$work/input")
 timeout 60 env -i "${two[@]}" >"$work/first" 2>"$work/first.said" &
@@ -126,6 +126,7 @@ rm -rf "$tree/target" "$work/calls"
 env -i "${two[@]}" >/dev/null 2>&1 &
 first=$!
 await test -s "$work/calls"
+mkdir "$tree/target/bin"
 cp /bin/cat "$tree/target/bin/replay"
 kill -s KILL $first
 wait $first 2>/dev/null || true

@@ -1,4 +1,4 @@
-//! Links the proved library, as `launcher/library` makes it of what `rt staticlib boundary` writes.
+//! Links the proved library, as `launcher/library` makes it of what `rt lib` writes in `crates/boundary_c`.
 use std::path::Path;
 use std::process::exit;
 
@@ -8,7 +8,7 @@ fn main() {
     let library = folder.join("libtarravane.a");
     println!("cargo:rerun-if-changed={}", library.display());
     if !library.is_file() {
-        eprintln!("target/staticlib/libtarravane.a is missing: run `rt staticlib boundary` and `launcher/library` first");
+        eprintln!("target/staticlib/libtarravane.a is missing: run `rt lib` in crates/boundary_c and then `launcher/library` first");
         exit(1);
     }
     println!("cargo:rustc-link-search=native={}", folder.display());
