@@ -11,25 +11,26 @@
  * No struct has padding: equal states are equal bytes, memcmp tells them apart, and nothing else of a caller's memory leaves
  * in one.
  *
- * The promises are proved for the functions of crates/boundary. Trusted: the compiler's back end, the C ABI, this header.
+ * The promises are proved for the functions of crates/boundary_c, which the library exports. Trusted: the compiler's back end, the C ABI, this header.
  *
  * The stack that a call takes below its caller's frame, argument and result included, whatever the lengths of its lists:
  *   tarravane_new 3208 bytes
- *   tarravane_tick 29000 bytes
- *   tarravane_hear 13896 bytes
- *   tarravane_batch_24 28136 bytes
- *   tarravane_batch_70 28136 bytes
- *   tarravane_batch_pings 28136 bytes
- *   tarravane_batch_wires 28136 bytes
+ *   tarravane_tick 29400 bytes
+ *   tarravane_hear 18792 bytes
+ *   tarravane_batch_24 35416 bytes
+ *   tarravane_batch_70 35416 bytes
+ *   tarravane_batch_pings 35416 bytes
+ *   tarravane_batch_wires 35416 bytes
  *   tarravane_receive 64 bytes
- *   tarravane_record 152 bytes
- *   tarravane_install 60856 bytes
- *   tarravane_calm 44872 bytes
- *   tarravane_dump 9896 bytes
- *   tarravane_read_dump 39560 bytes
+ *   tarravane_record 184 bytes
+ *   tarravane_install 75896 bytes
+ *   tarravane_calm 53888 bytes
+ *   tarravane_dump 6904 bytes
+ *   tarravane_read_dump 78696 bytes
  * Measured, not proved (tests/stack, the gate): each call ran on a stack filled with a pattern, with accesses of every kind
  * and lists of 0 to 300 entries, linked with -z now. Else the dynamic loader binds memcpy within the first call and takes
- * stack there: with it the first tarravane_new took 6344 bytes on the machine that was measured, the other calls no more. */
+ * stack there: with it the first tarravane_new took 6408 bytes on the machine that was measured, and tarravane_dump 6984; the
+ * other calls took no more. */
 #ifndef TARRAVANE_H
 #define TARRAVANE_H
 
