@@ -9,13 +9,12 @@ use native.Mathlib.Omega.{arith}
 use native.Mathlib.Decide.{ℕ_discrete}
 use borrow.Author.Tests.{ne_eqb, eq-eqb, eqb-true}
 use lib.Dec.{eqb}
-use lib.IntN.{pos}
 use lib.ListN.{get_or, length}
 use Rattle.bits.proofs.IndexLaws.{at_each, length_each, and-true, true_and}
 use Rattle.boundary.specs.Input.{input_by}
 use Rattle.rules.specs.Answer.{number}
 use Rattle.trace_rules.specs.Record.{access_of}
-use Rattle.trace_rules.specs.Writer.{write, write_of}
+use Rattle.trace_rules.specs.Writer.{write_of}
 use Rattle.rules.specs.declared.Input.{Input}
 use Rattle.trace_laws.proofs.RecordLaws.{kind_over}
 use Rattle.trace_sentences.specs.Writers.{entry, Arrays}

@@ -1,6 +1,7 @@
 // What the boundary promises, part by part. It is no product surface and nobody links it: each function calls one of the boundary's and promises each part of
 // what comes back by itself, so that a part which the boundary's contract leaves out no longer proves here.
 #![tactic(auto)]
+
 ghost use Rattle.std.specs.Prelude.{◌≡◌, true};
 ghost use Rattle.bits.specs.Bits.{bit, bits_of};
 ghost use Rattle.boundary.specs.Input.{input_by};
