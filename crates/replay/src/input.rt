@@ -12,7 +12,7 @@ pub struct Got {
 
 // Reads once, to the start of buf.
 pub fn read_some(input: &mut impl Read, buf: &mut [u8]) -> Got
-    ensures { result.count ≤ length buf.new }
+    ensures { (result.count ≤ length buf.new) × (result.count ≡ length (take result.count buf.new)) }
 {
     match input.read(buf) {
         Ok(count) => Got {
