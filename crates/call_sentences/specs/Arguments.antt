@@ -1,5 +1,5 @@
--- A tick and a writing as a caller in C hands them in, in sentences: numbers and lists of numbers, and no definition of the rules. The quotes are of the
--- header's and the code's comments: document 01 leaves the form of the calls open.
+-- A tick and a writing as a caller in C hands them in, in sentences: numbers and lists of numbers, and no definition of the rules. The form of
+-- the calls is this repository's, as document 01 leaves it open: the quotes are of the boundary's comments, but for those of document 01 below.
 -- Assumes nothing.
 use Rattle.std.specs.Prelude.{ℕ, ◌+◌, ◌*◌, ◌≤◌, ◌<◌, ◌≡◌, ◌⊎◌, ◌≢◌, List, ℤ, get_or, length}
 use Rattle.boundary.specs.declared.Wired.{Wired}
@@ -18,13 +18,13 @@ pub record TickInput (kind register value : ℕ) (w : Wired) (x : Input) : Type 
   -- the alerts' pairs and the word as they were handed in
   pub alerts : x.sample.alerts ≡ w.alerts
   pub word : x.sample.word ≡ w.word
-  -- request (xi): "receive pairs are checked"
+  -- "receive pairs are checked": request (xi) leaves those of older editions unchecked, and a call has none
   pub receive : x.sample.receive ≡ Receive.Pairs w.receive_positive w.receive_negative
 
 abbrev pub TickInputs : (ℕ → ℕ → ℕ → Wired → Input) → Type 0
 TickInputs by = (kind register value : ℕ) (w : Wired) → TickInput kind register value w (by kind register value w)
 
--- ── a writing: "eight lists of numbers, of which entry i is tick i's", as a record would hold it ──
+-- ── a writing: eight lists of numbers, of which entry i is tick i's, as a record would hold it ──
 
 pub record Lists : Type 0 where
   pub kinds : List ℕ
@@ -41,7 +41,7 @@ pub record EntryIs (kind register value : ℕ) (a : Access) : Type 0 where
   pub nothing : kind ≡ 0 → register ≡ 0 → value ≡ 0 → a ≡ Access.Nothing
   pub read : kind ≡ 1 → value ≡ 0 → a ≡ Access.Read register
   pub write : kind ≡ 2 → a ≡ Access.Write register value
-  -- "kind 3, .., a read with a value, kind 0 with a register or value"
+  -- document 01, "Malformed": "kind 3, .., a read with a value, kind 0 with a register or value"
   pub other : 3 ≤ kind → a ≡ Access.Malformed
   pub read_value : kind ≡ 1 → value ≢ 0 → a ≡ Access.Malformed
   pub nothing_register : kind ≡ 0 → register ≢ 0 → a ≡ Access.Malformed
@@ -62,7 +62,7 @@ pub record ListIs (l : Lists) (xs : List Input) : Type 0 where
   pub receive :
       (i : ℕ) → i < length l.kinds → (entry xs i).sample.receive ≡ Receive.Pairs (get_or l.receive_positive_law i 0) (get_or l.receive_negative_law i 0)
 
--- "lists of unequal lengths name a tick that lacks a part, which no record holds: 10"
+-- a reading: lists of unequal lengths name a tick that lacks a part, which no record holds, so 10
 abbrev pub Uneven : Lists → Type 0
 Uneven l =
     (length l.registers ≢ length l.kinds)

@@ -1,7 +1,8 @@
--- What a tick hears, as a caller in C asks for it, in sentences: raw bits, and no definition of the rules. The quotes are of the boundary's comments.
+-- What a tick hears, as a caller in C asks for it, in sentences: raw bits, and no definition of the rules. The quotes are of the comments in the handler's `account`.
 -- Assumes nothing.
 use Rattle.std.specs.Prelude.{ℕ, ◌≤◌, ◌<◌, ◌≡◌, ◌↔◌, true, List, [], ◌∷◌}
 use Rattle.bits.specs.Bits.{bit}
+use Rattle.handler.specs.declared.account.Account.{Account}
 use Rattle.rules.specs.declared.Access.{Access}
 use Rattle.rules.specs.declared.Accessed.{Accessed}
 use Rattle.rules.specs.declared.Effects.{Effects}
@@ -19,6 +20,9 @@ pub record Told : Type 0 where
   pub events : List ℕ
   pub answers : List ℕ
   pub locals : ℕ
+
+abbrev pub told_of : Account → Told
+told_of a = record { events = a.events; answers = a.answers; locals = a.locals }
 
 -- of a tick that runs: g is the state that step 1 leaves, f what it hands on, s the tick's sample
 pub record Tells (g : Handler) (s : Sample) (f : Effects) (t : Told) : Type 0 where

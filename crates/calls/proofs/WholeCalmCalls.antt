@@ -8,12 +8,14 @@ use mathlib.Core.List.{List, [], ◌∷◌, ◌++◌}
 use native.Mathlib.Omega.{arith}
 use borrow.Author.Tests.{lt-ltb, le-ltb}
 use lib.Dec.{ltb}
-use lib.ListN.{length, take}
+use lib.ListN.{get_or, length, take}
 use Rattle.bits.proofs.IndexLaws.{or_right, at_each}
 use Rattle.bits.specs.Bits.{bit}
 use Rattle.calm_laws.proofs.CalmRuns.{length_inputs}
+use Rattle.calm_laws.proofs.CalmTicks.{input_at}
 use Rattle.calm_laws.specs.Tells.{lines_by}
 use Rattle.calm_rules.specs.Call.{calm_verdict, inputs_by, calmed, calmed_list, call_inputs}
+use Rattle.calm_rules.specs.Ticks.{calm_input, calm_run}
 use Rattle.calm_rules.specs.declared.Bar.TheVariants.{BadState, TimerOn, ShortList}
 use Rattle.calm_rules.specs.declared.Verdict.{Verdict}
 use Rattle.calm_rules.specs.declared.Verdict.TheVariants.{Runs, Barred}
@@ -21,7 +23,9 @@ use Rattle.escalation.specs.List.{given_at}
 use Rattle.rules.specs.State.{is_on}
 use Rattle.rules.specs.Tick.{lines}
 use Rattle.rules.specs.Valid.{valid}
+use Rattle.rules.specs.declared.Access.{Access}
 use Rattle.rules.specs.declared.Handler.{Handler}
+use Rattle.rules.specs.declared.Input.{Input}
 use Rattle.rules.specs.declared.Wires.{Wires}
 use Rattle.calls.specs.Calls.{Call, Calm, inputs, Shown, Unseen, word_count, change_words, leaves_all, inputs_all}
 use Rattle.calls.proofs.WholeCalls.{every_good, every_line}
@@ -47,6 +51,16 @@ module _ (h : Handler) (v : valid h ≡ true) (us bs : List Call) (w : Wires) (n
   unfolding call_inputs
   calm_many off l =
       ap (λ (d : Verdict). length (inputs_by d met w n)) (calm_runs met list (every_good h v us calm bs) off l) ∙ length_inputs met w n
+
+  -- what comes in in its tick j: no access, these wires and word 0
+  pub calm_input_law : is_on met ≡ false → 20 ≤ length list → (j : ℕ) (d : Input) → j < n
+      → ((get_or (inputs met calm) j d).access ≡ Access.Nothing)
+      × (((get_or (inputs met calm) j d).sample.alerts ≡ w) × ((get_or (inputs met calm) j d).sample.word ≡ 0))
+  unfolding call_inputs
+  calm_input_law off l j d m =
+      let x : get_or (inputs met calm) j d ≡ calm_input w (calm_run met w j) =
+      ap (λ (u : Verdict). get_or (inputs_by u met w n) j d) (calm_runs met list (every_good h v us calm bs) off l) ∙ input_at met w n j d m in
+      (ap (λ (y : Input). y.access) x, (ap (λ (y : Input). y.sample.alerts) x, ap (λ (y : Input). y.sample.word) x))
 
   -- the lines of its tick j + 1: those of the last word whose tick is at most j + 1, else those of the state
   pub calm_line : is_on met ≡ false → 20 ≤ length list → (first e j : ℕ) → e < 4 → j < n

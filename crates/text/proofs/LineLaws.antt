@@ -3,10 +3,11 @@
 use Prim.Native.Nat.{ℕ, zero, suc, ◌+◌, ◌-◌, ◌*◌, ◌/◌, ◌%◌, ◌^◌, ◌≤◌, ◌<◌}
 use mathlib.Core.Path.{◌≡◌, refl, sym, ap, ◌∙◌}
 use mathlib.Core.List.{List, [], ◌∷◌, ◌++◌, map, append_assoc, append-nil}
+use native.Mathlib.Nat.{le_of_suc-le-suc, not-suc-le-zero}
 use native.Mathlib.Numerals.{add-one}
 use native.Mathlib.Omega.{arith}
 use lib.ListN.{length, get_or, set, take, drop, replicate, length-append, get_or-append, get_or-map}
-use lib.Seq.{paste, paste-suc, take-suc, take_all, take_at, drop_at, drop-drop, length-take-le}
+use lib.Seq.{get_or-append-add, paste, paste-suc, take-suc, take_all, take_at, drop_at, drop-drop, length-take-le}
 use Rattle.bits.specs.Fields.{total, unpack}
 use Rattle.text.specs.HexLines.{digit_of, line_of, lines_of}
 
@@ -26,6 +27,12 @@ field_at_law (suc n) b w (suc j) i e = field_at_law n b w j i (omega arith)
 length_line : (w : ℕ) → length (line_of w) ≡ 17
 unfolding line_of unpack
 length_line w = refl
+
+-- within a list it does not matter what stands for the places past it
+default_free : (xs : List ℕ) (i a b : ℕ) → i < length xs → get_or xs i a ≡ get_or xs i b
+default_free [] i a b l = absurd (not-suc-le-zero l)
+default_free (x ∷ xs) zero a b l = refl
+default_free (x ∷ xs) (suc i) a b l = default_free xs i a b (le_of_suc-le-suc l)
 
 -- 48 is the digit of 0
 digit_at : (w j : ℕ) → j < 16 → get_or (line_of w) j 48 ≡ digit_of (w / 2 ^ (60 - 4 * j) % 16)
@@ -49,15 +56,37 @@ put_newline d at w h = paste-suc d at (line_of w) 16 0 (omega arith) (omega arit
 
 -- ── lines ──
 
-length_lines : (ws : List ℕ) → length (lines_of ws) ≡ 17 * length ws
+pub length_lines : (ws : List ℕ) → length (lines_of ws) ≡ 17 * length ws
 unfolding lines_of
 length_lines [] = refl
 length_lines (w ∷ ws) = simp (length-append, length_line, length_lines ws) (omega arith)
 
+pub lines_joined : (vs ws : List ℕ) → lines_of (vs ++ ws) ≡ lines_of vs ++ lines_of ws
+unfolding lines_of
+lines_joined [] ws = refl
+lines_joined (v ∷ vs) ws = ap (λ (l : List ℕ). line_of v ++ l) (lines_joined vs ws) ∙ sym (append_assoc (line_of v) (lines_of vs) (lines_of ws))
+
+-- each place of a line, and of lines
+pub line_digit : (w j : ℕ) → j < 16 → get_or (line_of w) j 0 ≡ digit_of (w / 2 ^ (60 - 4 * j) % 16)
+line_digit w j h = default_free (line_of w) j 0 48 (omega (arith, length_line w)) ∙ digit_at w j h
+
+pub line_newline : (w : ℕ) → get_or (line_of w) 16 0 ≡ 10
+unfolding line_of unpack
+line_newline w = refl
+
+pub line_at_law : (ws : List ℕ) (i j : ℕ) → i < length ws → j < 17 → get_or (lines_of ws) (17 * i + j) 0 ≡ get_or (line_of (get_or ws i 0)) j 0
+unfolding lines_of
+line_at_law [] i j l m = absurd (not-suc-le-zero l)
+line_at_law (w ∷ ws) zero j l m =
+    let e : 17 * 0 + j ≡ j = omega arith in
+    ap (λ (k : ℕ). get_or (line_of w ++ lines_of ws) k 0) e ∙ get_or-append (line_of w) (lines_of ws) 0 j (omega (arith, length_line w))
+line_at_law (w ∷ ws) (suc i) j l m =
+    let e : 17 * suc i + j ≡ length (line_of w) + (17 * i + j) = omega (arith, length_line w) in
+    ap (λ (k : ℕ). get_or (line_of w ++ lines_of ws) k 0) e ∙ get_or-append-add (line_of w) (lines_of ws) (17 * i + j) 0 ∙ line_at_law ws i j (le_of_suc-le-suc l) m
+
 lines_append : (ws : List ℕ) (w : ℕ) → lines_of (ws ++ (w ∷ [])) ≡ lines_of ws ++ line_of w
 unfolding lines_of
-lines_append [] w = append-nil (line_of w)
-lines_append (v ∷ ws) w = ap (λ (l : List ℕ). line_of v ++ l) (lines_append ws w) ∙ sym (append_assoc (line_of v) (lines_of ws) (line_of w))
+lines_append ws w = lines_joined ws (w ∷ []) ∙ ap (λ (l : List ℕ). lines_of ws ++ l) (append-nil (line_of w))
 
 -- the line of word i behind the i lines before it
 pub put_next : (ws d : List ℕ) (i : ℕ) → i < length ws → 17 * i + 17 ≤ length d

@@ -46,6 +46,9 @@ map_at f (x ∷ xs) (suc i) d l = map_at f xs i d (le_of_suc-le-suc l)
 
 -- ── the ticks of n inputs ──
 
+pub word_at : (h : Handler) (xs : List Input) (i : ℕ) (d : Input) → i < length xs → get_or (map word_of (ticks h xs)) i 0 ≡ word_of (ticked (run h (take i xs)) (get_or xs i d))
+word_at h xs i d k = map_at word_of (ticks h xs) i (ticked h d) (omega (arith, length_ticks h xs)) ∙ ap word_of (ticks_at h xs i d (ticked h d) k)
+
 module _ (h : Handler) (xs : List Input) (out : List ℕ) (n : ℕ) (x : ℕ → Input) (d : Input) (l : length xs ≡ n) (at : (i : ℕ) → i < n → get_or xs i d ≡ x i)
     (r : n ≤ length out) where
   abbrev front : List ℕ
@@ -57,9 +60,7 @@ module _ (h : Handler) (xs : List Input) (out : List ℕ) (n : ℕ) (x : ℕ →
   front_at : (i : ℕ) → i < n → get_or (front ++ drop n out) i 0 ≡ word_of (ticked (run h (take i xs)) (x i))
   front_at i m =
       let k : i < length xs = omega arith in
-      get_or-append front (drop n out) 0 i (omega (arith, front_length))
-      ∙ map_at word_of (ticks h xs) i (ticked h d) (omega (arith, length_ticks h xs))
-      ∙ ap word_of (ticks_at h xs i d (ticked h d) k ∙ ap (ticked (run h (take i xs))) (at i m))
+      get_or-append front (drop n out) 0 i (omega (arith, front_length)) ∙ word_at h xs i d k ∙ ap (λ (y : Input). word_of (ticked (run h (take i xs)) y)) (at i m)
 
   rest_at : (i : ℕ) → n ≤ i → get_or (front ++ drop n out) i 0 ≡ get_or out i 0
   rest_at i m =

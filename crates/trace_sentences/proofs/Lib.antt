@@ -11,6 +11,7 @@ pub mod HoldsWriters
 pub mod OnlyWriters
 pub mod RoundTrips
 pub mod Library
+pub mod Sizes
 pub mod FirstBytes
 pub mod RefutedRecords
 pub mod RefutedSamples

@@ -84,7 +84,7 @@ dec_7 e h =
 
 -- ── the records ──
 
-length_record : (e : Edition) (bytes : List ℕ) (i : ℕ) → 0 < (form e).bytes → i < count e bytes → length (record_of e bytes i) ≡ (form e).bytes
+pub length_record : (e : Edition) (bytes : List ℕ) (i : ℕ) → 0 < (form e).bytes → i < count e bytes → length (record_of e bytes i) ≡ (form e).bytes
 length_record e bytes i p l =
     let w : i * (form e).bytes + (form e).bytes ≤ length bytes = part_within (form e).bytes p (length bytes) i l in
     length-take-le (form e).bytes (drop (i * (form e).bytes) bytes) (simp length-drop (omega arith))

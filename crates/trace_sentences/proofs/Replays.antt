@@ -32,7 +32,7 @@ use Rattle.sentences.proofs.HoldsValid.{holds_valid}
 use Rattle.sentences.proofs.Whole.{Same, holds_whole, only_whole}
 use Rattle.trace_sentences.specs.RecordBits.{form}
 use Rattle.trace_sentences.specs.Replays.{Replays}
-use Rattle.trace_sentences.specs.Words.{InRange}
+use Rattle.trace_sentences.specs.Words.{InRange, Words}
 use Rattle.trace_sentences.proofs.HoldsBatches.{holds_batches}
 use Rattle.trace_sentences.proofs.HoldsRecords.{holds_reader}
 use Rattle.trace_sentences.proofs.HoldsWords.{holds_words, in_range}
@@ -107,31 +107,32 @@ module _ (tick : Handler → Input → Ticked) (m : Answer → ℤ) (p : Whole t
 abbrev pub Good : Handler → Type 0
 Good h = Valid h × Sized h
 
-some : (e : Edition) → 0 < (form e).bytes
+pub some : (e : Edition) → 0 < (form e).bytes
 some Alerts64 = omega arith
 some Alerts248 = omega arith
 some Pings = omega arith
 some Wires = omega arith
 
-module _ (state other : Edition → Handler → List ℕ → List ℕ → Handler) (answer reply : Edition → Handler → List ℕ → List ℕ → ℤ)
-    (list words : Edition → Handler → List ℕ → List ℕ → List ℕ) (p : Replays state answer list) (q : Replays other reply words) where
-  same : (h : Handler) (x : Input) → Sized h → Same p.number q.number (p.tick h x) (q.tick h x)
-  same h x s = only_whole p.tick q.tick p.number q.number p.ticks q.ticks h x s
+-- two ticks of the sentences, with their words
+module _ (tick tock : Handler → Input → Ticked) (m n : Answer → ℤ) (p : Whole tick m) (q : Whole tock n) (word term : Ticked → ℕ) (u : Words m word) (v : Words n term) where
+  same : (h : Handler) (x : Input) → Sized h → Same m n (tick h x) (tock h x)
+  same h x s = only_whole tick tock m n p q h x s
 
-  agree : Agree Good p.tick q.tick p.word q.word
+  pub agree : Agree Good tick tock word term
   agree =
       record {
-        keeps = λ h x g. ((p.ticks.ticks h x).stays_valid g.0, sized_next p.tick p.number p.ticks h x g.0 g.1);
+        keeps = λ h x g. ((p.ticks h x).stays_valid g.0, sized_next tick m p h x g.0 g.1);
         state = λ h x g. (same h x g.1).state;
-        one_word = λ h x g.
-            only_words_of p.number q.number p.word q.word p.words q.words (p.tick h x) (q.tick h x) (same h x g.1)
-            (answer_range p.tick p.number p.ticks h x g.0 g.1);
+        one_word = λ h x g. only_words_of m n word term u v (tick h x) (tock h x) (same h x g.1) (answer_range tick m p h x g.0 g.1);
       }
 
+module _ (state other : Edition → Handler → List ℕ → List ℕ → Handler) (answer reply : Edition → Handler → List ℕ → List ℕ → ℤ)
+    (list words : Edition → Handler → List ℕ → List ℕ → List ℕ) (p : Replays state answer list) (q : Replays other reply words) where
   -- on any state whose arrays have their lengths, any bytes and any list
   pub only_replays : (e : Edition) (h : Handler) (bytes out : List ℕ) → Sized h → ((i : ℕ) → get_or bytes i 0 ≤ 255)
       → SameBatch (state e h bytes out) (other e h bytes out) (answer e h bytes out) (reply e h bytes out) (list e h bytes out) (words e h bytes out)
   only_replays e h bytes out s b =
       same_batch p.tick q.tick p.word q.word p.read q.read e h bytes out (state e h bytes out) (other e h bytes out) (answer e h bytes out) (reply e h bytes out)
-      (list e h bytes out) (words e h bytes out) (p.batches e h bytes out) (q.batches e h bytes out) (some e) Good agree (λ v. (v, s))
+      (list e h bytes out) (words e h bytes out) (p.batches e h bytes out) (q.batches e h bytes out) (some e) Good
+      (agree p.tick q.tick p.number q.number p.ticks q.ticks p.word q.word p.words q.words) (λ v. (v, s))
       (λ bs l c. only_reader p.read q.read p.reads q.reads e bs l c) b

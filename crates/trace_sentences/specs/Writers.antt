@@ -18,7 +18,8 @@ pub record HeldIn (bytes : List ℕ) (a : Access) : Type 0 where
   pub well_formed : ¬ Bad (form Wires) bytes
   pub held : (x : Input) × Holds Wires bytes x × (x.access ≡ a)
 
--- ── "with a record for each": the record of the access and sample x ──
+-- ── "with a record for each": the record of the access and sample x. "Reading what was written gives the same accesses and samples, and writing what was read gives
+-- the same bytes for every well-formed record": both follow from these fields (proofs/RoundTrips.antt) ──
 
 pub record RecordOf (x : Input) (bytes : List ℕ) : Type 0 where
   -- "Reading what was written gives the same accesses ..": it is well formed and holds the access

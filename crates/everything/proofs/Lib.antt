@@ -1,0 +1,3 @@
+pub mod HoldsEverything
+pub mod OnlyEverything
+pub mod Said

@@ -1,0 +1,3 @@
+pub mod HoldsPrograms
+pub mod OnlyPrograms
+pub mod RefutedPrograms
