@@ -1,7 +1,7 @@
 //! The proved alert handler, for Rust. Every call asks the proved library `boundary`; nothing is decided here. Beside them
 //! `registers` has the names and numbers of the registers, and `boot` the accesses of a boot, for tools.
 //!
-//! The promises stand in `include/tarravane.h` and are proved in `crates/boundary`.
+//! The promises stand in `include/tarravane.h` and are proved in `crates/boundary_c`.
 #![deny(missing_docs)]
 
 mod alert_names;

@@ -61,8 +61,9 @@ fn is_in(krate: &str, name: &str) -> bool {
 fn is_case(name: &str) -> bool {
     match name.split_once("::") {
         Some((file, function)) => {
-            text(&format!("crates/cases/src/{file}.rt")).contains(&format!("pub fn {function}()"))
-                && text("crates/cases/src/main.rt").contains(&format!("    {name}();"))
+            text(&format!("crates/cases/src/{file}.rt"))
+                .contains(&format!("pub fn {function}(rt: "))
+                && text("crates/cases/src/main.rt").contains(&format!("    {name}(&rt);"))
         }
         None => declares(&fields("cases", "List12"), name),
     }
