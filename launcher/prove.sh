@@ -42,6 +42,7 @@ show_progress() {
         kept='' checked=''
         : >"$here/target/$part.checking"
         ;;
+      'rt: '*'waiting for '*) printf 'tarravane: %s\n' "${line#rt: }" >&2 ;;
       'ended: '*) status=${line#ended: } ;;
       *) kept="$kept$line
 " ;;
