@@ -15,22 +15,22 @@
  *
  * The stack that a call takes below its caller's frame, argument and result included, whatever the lengths of its lists:
  *   tarravane_new 3208 bytes
- *   tarravane_tick 29400 bytes
- *   tarravane_hear 18792 bytes
- *   tarravane_batch_24 35416 bytes
- *   tarravane_batch_70 35416 bytes
- *   tarravane_batch_pings 35416 bytes
- *   tarravane_batch_wires 35416 bytes
+ *   tarravane_tick 28072 bytes
+ *   tarravane_hear 10432 bytes
+ *   tarravane_batch_24 28616 bytes
+ *   tarravane_batch_70 28616 bytes
+ *   tarravane_batch_pings 28616 bytes
+ *   tarravane_batch_wires 28616 bytes
  *   tarravane_receive 64 bytes
  *   tarravane_record 184 bytes
- *   tarravane_install 75896 bytes
- *   tarravane_calm 53888 bytes
- *   tarravane_dump 6904 bytes
- *   tarravane_read_dump 78696 bytes
+ *   tarravane_install 41000 bytes
+ *   tarravane_calm 42792 bytes
+ *   tarravane_dump 7160 bytes
+ *   tarravane_read_dump 68144 bytes
  * Measured, not proved (tests/stack, the gate): each call ran on a stack filled with a pattern, with accesses of every kind
  * and lists of 0 to 300 entries, linked with -z now. Else the dynamic loader binds memcpy within the first call and takes
- * stack there: with it the first tarravane_new took 6408 bytes on the machine that was measured, and tarravane_dump 6984; the
- * other calls took no more. */
+ * stack there: with it the first tarravane_new took 6408 bytes on the machine that was measured, tarravane_hear 13128 and
+ * tarravane_dump 7496; the other calls took no more. */
 #ifndef TARRAVANE_H
 #define TARRAVANE_H
 

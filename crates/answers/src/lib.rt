@@ -11,21 +11,7 @@ use rules::{Answer, Refusal};
 pub fn refusal_number(m: Refusal) -> u8
     ensures { (result ≡ refusal_number m) × (result < 16) }
 {
-    match m {
-        Refusal::NoRegister => 1,
-        Refusal::WrongWay => 2,
-        Refusal::Locked => 3,
-        Refusal::TooWide => 4,
-        Refusal::BadRecord => 5,
-        Refusal::BadCount => 6,
-        Refusal::BadState => 7,
-        Refusal::BadLength => 8,
-        Refusal::ShortList => 9,
-        Refusal::NoRecord => 10,
-        Refusal::ShortBuffer => 11,
-        Refusal::Differs => 12,
-        Refusal::SillyThreshold => 14,
-    }
+    m as u8
 }
 
 // A read gives its value, anything else accepted 0, and a refusal the negated refusal number.

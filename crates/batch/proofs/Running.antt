@@ -1,14 +1,13 @@
 -- A batch, record by record.
 -- Assumes nothing.
-use Prim.Native.Nat.{ℕ, suc, ◌+◌, ◌*◌, ◌≤◌, ◌<◌}
+use Prim.Native.Nat.{ℕ, suc, ◌≤◌, ◌<◌}
 use mathlib.Core.Path.{◌≡◌, refl, sym, ap, ap₂, subst, ◌∙◌}
-use mathlib.Core.Bool.{Bool, true, false, true≢false, not}
+use mathlib.Core.Bool.{true}
 use mathlib.Core.List.{List, [], ◌∷◌, ◌++◌, map, map-append}
 use native.Mathlib.Omega.{arith}
 use lib.ListN.{length, get_or, set, take, drop, length-set, length-map}
 use lib.Seq.{take-suc, take_all, length-take-le, drop-cons, set_at, append_snoc}
 use Rattle.bits.proofs.IndexLaws.{at_each, length_each}
-use Rattle.trace_rules.specs.Edition.{record_bytes}
 use Rattle.trace_rules.specs.Record.{input_of, inputs_of, record_at, record_count}
 use Rattle.rules.specs.Access.{answer_to, accessed}
 use Rattle.rules.specs.Run.{run, ticks}
@@ -16,23 +15,19 @@ use Rattle.rules.specs.State.{most}
 use Rattle.rules.specs.Tick.{tick, ticked}
 use Rattle.rules.specs.Valid.{valid}
 use Rattle.trace_rules.specs.declared.Edition.{Edition}
-use Rattle.rules.specs.declared.Access.{Access}
 use Rattle.rules.specs.declared.Accessed.{Accessed}
 use Rattle.rules.specs.declared.Answer.{Answer}
-use Rattle.rules.specs.declared.Effects.{Effects}
 use Rattle.rules.specs.declared.Handler.{Handler}
 use Rattle.rules.specs.declared.Input.{Input}
 use Rattle.rules.specs.declared.Ticked.{Ticked}
-use Rattle.handler.specs.Finished.{no_effects, finished, finished_of}
+use Rattle.handler.specs.Finished.{finished, finished_of}
 use Rattle.handler.specs.declared.tick.Finished.{Finished}
 use Rattle.handler.proofs.WholeTick.{finished_tick}
 use Rattle.trace_rules.specs.Word.{word_by, word_of}
 use Rattle.laws.proofs.Valid.KeepsValid.{run_valid}
-use Rattle.trace_laws.proofs.PartLaws.{some_bytes, part_within}
 use Rattle.laws.proofs.Valid.Refusal7.{ticked_good}
 use Rattle.laws.proofs.Tick.Runs.{run_next, ticks_append, length_ticks}
 use Rattle.laws.proofs.Valid.ValidLaws.{facts}
-use Rattle.registers.specs.Unmoved.{unmoved}
 use Rattle.batch.specs.Running.{Running}
 
 module _ (h : Handler) (xs : List Input) (old : List ℕ) where
@@ -97,10 +92,6 @@ input_at : (e : Edition) (bytes : List ℕ) (i : ℕ) (d : Input) → i < record
 unfolding inputs_of
 input_at e bytes i d l = at_each (record_count e bytes) (λ j. input_of e (record_at e bytes j)) i d l
 
--- where record i stands, by the size s of a record
-pub record_within : (e : Edition) (bytes : List ℕ) (i s : ℕ) → s ≡ record_bytes e → i < record_count e bytes → i * s + record_bytes e ≤ length bytes
-record_within e bytes i s z l = rw z (part_within (record_bytes e) (some_bytes e) (length bytes) i l)
-
 module _ (h : Handler) (xs : List Input) (old : List ℕ) (v : valid h ≡ true) (g : Handler) (out : List ℕ) (i : ℕ) (r : Running h xs old g out i) where
   -- refusal 7 is looked for once: each later state is valid
   pub still_valid : valid g ≡ true
@@ -127,9 +118,3 @@ module _ (e : Edition) (h : Handler) (bytes old : List ℕ) (v : valid h ≡ tru
       (subst (λ (d : Answer). Running h (inputs_of e bytes) old t.handler (set out i (word_by t.interrupts t.lines d)) (suc i)) b
       (subst (λ (d : Finished). Running h (inputs_of e bytes) old d.handler (set out i (word_by d.interrupts d.lines (ticked g (get_or (inputs_of e bytes) i x)).answer)) (suc i)) c
       (step h (inputs_of e bytes) old g out i x r k m)))
-
--- step 1 of an access that leaves the state as it is
-pub unmoved_accessed : (g : Handler) (x : Access) (b : Bool) (a : Answer) (e : Effects) → e ≡ no_effects → (b ≡ true → unmoved g a ≡ accessed g x) → not b ≡ false
-    → ◌≡◌ {A = Accessed} (record { handler = g; answer = a; effects = e }) (accessed g x)
-unmoved_accessed g x true a e d f n = ap (λ (d : Effects). record { handler = g; answer = a; effects = d }) d ∙ f refl
-unmoved_accessed g x false a e d f n = absurd (true≢false n)

@@ -11,6 +11,7 @@ use borrow.Author.Tests.{eq-eqb, ne_eqb, lt-ltb, le-ltb, le-leb, lt-leb}
 use lib.Dec.{leb}
 use lib.IntN.{pos, negsuc}
 use lib.ListN.{get_or, length, take, drop}
+use Rattle.std.specs.Prelude.{Ok, Err}
 use Rattle.bits.specs.Bits.{bit, field}
 use Rattle.bits.proofs.IndexLaws.{true_and}
 use Rattle.class_rules.specs.Step.{starts}
@@ -18,7 +19,7 @@ use Rattle.class_rules.specs.declared.Class.{Class}
 use Rattle.escalation.specs.Escalation.{OfPhase, Demand3}
 use Rattle.escalation.specs.List.{IsTick, no_input}
 use Rattle.rules.specs.Access.{acted}
-use Rattle.rules.specs.Answer.{first_of, number}
+use Rattle.rules.specs.Answer.{first_of, number, Verdict}
 use Rattle.rules.specs.Run.{run, ticks}
 use Rattle.rules.specs.State.{class_at, is_on}
 use Rattle.rules.specs.Tick.{signals_in}
@@ -28,7 +29,6 @@ use Rattle.rules.specs.declared.Handler.{Handler}
 use Rattle.rules.specs.declared.Input.{Input}
 use Rattle.rules.specs.declared.Refusal.{Refusal}
 use Rattle.rules.specs.declared.Refusal.TheVariants.{BadState, BadLength, ShortList}
-use Rattle.rules.specs.declared.Verdict.{Verdict}
 use Rattle.trace_laws.proofs.BatchLaws.{batch_good, batch_refused}
 use Rattle.trace_rules.specs.Batch as rules
 use Rattle.trace_rules.specs.Batch.{admits, batch_verdict, batch_inputs}
@@ -51,14 +51,14 @@ module _ (e : Edition) (h : Handler) (bytes out : List ℕ) where
   unfolding admits
   admitted v n o = true_and v (true_and (le-leb h.n (alerts e) n) o)
 
-  accepted : admits e h ≡ true → length bytes % record_bytes e ≡ 0 → length bytes / record_bytes e ≤ length out → batch_verdict e h bytes out ≡ Verdict.Accepted
+  accepted : admits e h ≡ true → length bytes % record_bytes e ≡ 0 → length bytes / record_bytes e ≤ length out → batch_verdict e h bytes out ≡ Ok tt
   unfolding batch_verdict first_of
   accepted a w m = rw (a, eq-eqb (length bytes % record_bytes e) 0 w, le-ltb (length out) (length bytes / record_bytes e) m)
 
   module _ (r : Batched) (left : List ℕ) (b : BatchedBy e h bytes out r left) where
     -- ── refused: state and list unchanged ──
 
-    refused : (m : Refusal) → batch_verdict e h bytes out ≡ Verdict.Refused m → (r.handler ≡ h) × (r.answer ≡ number (Answer.Refused m)) × (left ≡ out)
+    refused : (m : Refusal) → batch_verdict e h bytes out ≡ Err m → (r.handler ≡ h) × (r.answer ≡ number (Answer.Refused m)) × (left ≡ out)
     refused m v =
         let q = batch_refused e h bytes out m v in (
           b.handler ∙ ap (λ (x : rules.Batched). x.handler) q,

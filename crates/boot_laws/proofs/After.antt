@@ -48,7 +48,7 @@ use Rattle.boot_laws.specs.Stands.{Success, Stands, Untouched, NoPingEvent, Unas
 use Rattle.policy.specs.Table.{alert_count}
 use Rattle.policy.specs.declared.Installed.{Installed}
 use Rattle.policy.specs.declared.Lifecycle.{Lifecycle}
-use Rattle.policy.specs.declared.Progress.{Progress}
+use Rattle.policy.specs.Progress.{Progress}
 use Rattle.boot_laws.proofs.AskLaws.{install_keeps, install_goes_by, Kept, reach_kept, install_kept, install_run}
 use Rattle.boot_laws.proofs.EntryLaws.{Fit, Settled, spares, other_name, reach_stage}
 use Rattle.boot_laws.proofs.InstallLaws.{sound_fit, unnamed_at, moving_unnamed, all_asks, Same, same_start, install_frame, install_holds}

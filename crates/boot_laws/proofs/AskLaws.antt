@@ -18,7 +18,7 @@ use Rattle.rules.specs.declared.Handler.{Handler}
 use Rattle.policy.specs.Install.{Ask, under, stopped, asked, ask, install}
 use Rattle.boot_laws.specs.Ran.{input_of, inputs, wants, reach, no_ask, StoppedAt, All}
 use Rattle.boot_laws.specs.Ran.All.{none, more}
-use Rattle.policy.specs.declared.Progress.{Progress}
+use Rattle.policy.specs.Progress.{Progress}
 
 -- ── one access ──
 

@@ -37,7 +37,7 @@ use Rattle.boot_laws.specs.Stands.{Success}
 use Rattle.policy.specs.Table.{alert_count}
 use Rattle.policy.specs.declared.Bar.TheVariants.{BadState, FewAlerts}
 use Rattle.policy.specs.declared.Lifecycle.{Lifecycle}
-use Rattle.policy.specs.declared.Progress.{Progress}
+use Rattle.policy.specs.Progress.{Progress}
 use Rattle.boot_laws.proofs.AskLaws.{install_run, install_stops}
 use Rattle.boot_laws.proofs.EntryLaws.{Fit}
 use Rattle.boot_laws.proofs.InstallLaws.{sound_fit, all_asks}

@@ -38,7 +38,7 @@ use Rattle.rules.specs.declared.Register.{Register}
 use Rattle.policy.specs.Install.{Ask, Entry, rest, is, under, asked, ask, install, write, read, asks_of}
 use Rattle.boot_laws.specs.Ran.{input_of, wants, reach}
 use Rattle.policy.specs.Sound.{installable}
-use Rattle.policy.specs.declared.Progress.{Progress}
+use Rattle.policy.specs.Progress.{Progress}
 use Rattle.boot_laws.proofs.AskLaws.{asked_wanted, asked_going, was_going, Kept, reach_kept, install_kept, install_run}
 use Rattle.policy.proofs.Asks.{install_append}
 

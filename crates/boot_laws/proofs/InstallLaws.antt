@@ -23,7 +23,7 @@ use Rattle.boot_laws.specs.Ran.{reach, Among, All}
 use Rattle.boot_laws.specs.Ran.All.{none, more}
 use Rattle.boot_laws.specs.Ran.Among.{here, there}
 use Rattle.policy.specs.Sound.{unnamed, unguarded, installable, sound}
-use Rattle.policy.specs.declared.Progress.{Progress}
+use Rattle.policy.specs.Progress.{Progress}
 use Rattle.boot_laws.proofs.AskLaws.{was_going, install_keeps, Kept, reach_kept, install_kept, install_run}
 use Rattle.policy.proofs.Asks.{install_append}
 use Rattle.boot_laws.proofs.EntryLaws.{Fit, fit, spares, other_name, reach_value, reach_stage, Settled, put_holds}

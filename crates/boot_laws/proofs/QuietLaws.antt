@@ -9,6 +9,7 @@ use borrow.Author.Tests.{ne_eqb}
 use lib.Dec.{eqb}
 use lib.IntN.{ℤ}
 use lib.ListN.{get_or-replicate}
+use Rattle.std.specs.Prelude.{Ok, Err}
 use Rattle.bits.proofs.BitLaws.{bit_none, bit_ones}
 use Rattle.bits.proofs.IndexLaws.{any_none}
 use Rattle.bits.specs.Bits.{bit, place}
@@ -36,7 +37,7 @@ use Rattle.link_rules.specs.Senders.{line_count, sender_in}
 use Rattle.link_rules.specs.Timer.{is_line, opens, open_now, fails}
 use Rattle.rules.proofs.AnswerLaws.{refused_number}
 use Rattle.rules.specs.Access.{value, verdict, accepts, accepted, is_clr_of, writes_clr, accessed_by, accessed, acted, answer_to, effects, clears}
-use Rattle.rules.specs.Answer.{number}
+use Rattle.rules.specs.Answer.{number, Verdict}
 use Rattle.rules.specs.Map.{number_of}
 use Rattle.rules.specs.Samples.{alert_broken, line_wrong, asks_for, raised, alert_event, occurs}
 use Rattle.rules.specs.State.{most, words, local_count, class_count, local, class_at, sender}
@@ -53,7 +54,6 @@ use Rattle.rules.specs.declared.Register.{Register}
 use Rattle.rules.specs.declared.Sample.{Sample}
 use Rattle.rules.specs.declared.Register.TheVariants.{Only, Local, Block}
 use Rattle.rules.specs.declared.Single.TheVariants.{IntrState}
-use Rattle.rules.specs.declared.Verdict.{Verdict}
 use Rattle.policy.specs.Install.{Ask, rest, is, write, read}
 use Rattle.boot_laws.specs.Ran.{input_of, wants, reach}
 use Rattle.boot_laws.specs.Stands.{NoPingEvent, Unasked}
@@ -81,8 +81,8 @@ unfolding answer_to accessed
 wants_accepted h a t w = go (verdict h a.access) (ap (λ (x : Answer). is (number x) a.wanted) (sym (ticked_answer h (input_of a) t)) ∙ w)
   where
     go : (v : Verdict) → is (number (accessed_by v h a.access).answer) a.wanted ≡ true → accepts v ≡ true
-    go Verdict.Accepted x = refl
-    go (Verdict.Refused m) x = absurd (false≢true (sym (refused_not m a.wanted) ∙ x))
+    go (Ok tt) x = refl
+    go (Err m) x = absurd (false≢true (sym (refused_not m a.wanted) ∙ x))
 
 -- ── nothing comes of what step 2 hears in a tick of the boot that gets the answer that is wanted ──
 

@@ -26,7 +26,7 @@ use Rattle.rules.specs.declared.Register.{Register}
 use Rattle.policy.specs.Install.{Ask, Entry, rest, is, under, stopped, asked, ask, install, write, read, once, twice, asks_of, asks}
 use Rattle.boot_laws.specs.Ran.{wants}
 use Rattle.policy.specs.Sound.{unnamed, sound, free}
-use Rattle.policy.specs.declared.Progress.{Progress}
+use Rattle.policy.specs.Progress.{Progress}
 use Rattle.boot_laws.proofs.AskLaws.{asked_other, stays, Kept, install_kept, install_run}
 use Rattle.policy.proofs.Asks.{install_append, asks_append}
 use Rattle.boot_laws.proofs.EntryLaws.{Fit, names_it}

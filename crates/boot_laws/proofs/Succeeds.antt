@@ -29,7 +29,7 @@ use Rattle.rules.specs.declared.Setting.{Setting}
 use Rattle.rules.specs.declared.Setting.TheVariants.{AccumThresh}
 use Rattle.policy.specs.Install.{Entry, under, install, asks}
 use Rattle.policy.specs.Sound.{unnamed, unguarded, sound, ahead, free}
-use Rattle.policy.specs.declared.Progress.{Progress}
+use Rattle.policy.specs.Progress.{Progress}
 use Rattle.boot_laws.proofs.AskLaws.{Kept}
 use Rattle.boot_laws.proofs.EntryLaws.{put_holds, Open, put_goes}
 use Rattle.boot_laws.proofs.InstallLaws.{first, differ, Same, same_start, put_same, put, then, put_kept}

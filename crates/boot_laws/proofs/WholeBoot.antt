@@ -49,7 +49,7 @@ use Rattle.policy.specs.Plan.{class_of, en_of, is_a, locks, ctrl_of, length_of, 
 use Rattle.policy.specs.Sound.{unnamed, free}
 use Rattle.policy.specs.Table.{mark_at}
 use Rattle.policy.specs.declared.Lifecycle.{Lifecycle}
-use Rattle.policy.specs.declared.Progress.{Progress}
+use Rattle.policy.specs.Progress.{Progress}
 use Rattle.boot_laws.specs.Boots.{Either}
 use Rattle.boot_laws.specs.FromBoot.{FirstEvent, FirstInList}
 use Rattle.boot_laws.specs.Ran.{no_ask, Among}

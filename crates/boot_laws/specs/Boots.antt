@@ -25,7 +25,7 @@ use Rattle.policy.specs.Sound.{free}
 use Rattle.policy.specs.Table.{alert_count}
 use Rattle.policy.specs.declared.Installed.{Installed}
 use Rattle.policy.specs.declared.Lifecycle.{Lifecycle}
-use Rattle.policy.specs.declared.Progress.{Progress}
+use Rattle.policy.specs.Progress.{Progress}
 use Rattle.boot_laws.specs.Ran.{inputs, StoppedAt}
 use Rattle.boot_laws.specs.Stands.{Success, Stands, Untouched, Unlocked, NoPingEvent, NoWrongEvent, AtRest, Eventless, Linked}
 

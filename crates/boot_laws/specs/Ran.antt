@@ -8,7 +8,7 @@ use Rattle.rules.specs.declared.Access.{Access}
 use Rattle.rules.specs.declared.Handler.{Handler}
 use Rattle.rules.specs.declared.Input.{Input}
 use Rattle.policy.specs.Install.{Ask, Entry, rest, is, stopped}
-use Rattle.policy.specs.declared.Progress.{Progress}
+use Rattle.policy.specs.Progress.{Progress}
 
 abbrev pub input_of : Ask → Input
 input_of a = rest a.access

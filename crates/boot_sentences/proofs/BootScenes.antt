@@ -14,7 +14,7 @@ use Rattle.policy.specs.Plan.{alert_entries, class_entries, lock_entries, class_
 use Rattle.policy.specs.Table.{mark_at}
 use Rattle.policy.specs.declared.Bar.TheVariants.{BadState, FewAlerts}
 use Rattle.policy.specs.declared.Installed.{Installed}
-use Rattle.policy.specs.declared.Progress.{Progress}
+use Rattle.policy.specs.Progress.{Progress}
 use Rattle.rules.proofs.Scenes.{rules}
 use Rattle.rules.specs.State.{new_handler, reset_class, no_stages, with_alerts, with_classes, with_locals, with_stages}
 use Rattle.rules.specs.Valid.{valid}

@@ -14,7 +14,7 @@ use Rattle.boot_laws.specs.Ran.{wants, reach}
 use Rattle.boot_laws.proofs.AskLaws.{asked_wanted, asked_other, stays}
 use Rattle.policy.specs.Install.{Ask, is, under, stopped, ask, install, write, read}
 use Rattle.policy.specs.declared.Installed.{Installed}
-use Rattle.policy.specs.declared.Progress.{Progress}
+use Rattle.policy.specs.Progress.{Progress}
 use Rattle.rules.specs.Answer.{number}
 use Rattle.rules.specs.Tick.{ticked}
 use Rattle.rules.specs.declared.Access.TheVariants.{Read, Write}

@@ -13,7 +13,7 @@ use Rattle.policy.specs.Install.{Ask, rest, is, under, stopped, asked, write}
 use Rattle.policy.specs.Plan.{barred}
 use Rattle.policy.specs.declared.Bar.TheVariants.{FewAlerts}
 use Rattle.policy.specs.declared.Installed.{Installed}
-use Rattle.policy.specs.declared.Progress.{Progress}
+use Rattle.policy.specs.Progress.{Progress}
 use Rattle.rules.specs.Answer.{number}
 use Rattle.rules.specs.State.{reset_class, class_at, new_handler}
 use Rattle.rules.specs.Tick.{ticked}

@@ -25,7 +25,7 @@ use Rattle.policy.specs.Plan.{plan_of, barred, boot, lifecycle_of}
 use Rattle.policy.specs.Sound.{sound}
 use Rattle.policy.specs.declared.Bar.TheVariants.{BadState, FewAlerts}
 use Rattle.policy.specs.declared.Installed.{Installed}
-use Rattle.policy.specs.declared.Progress.{Progress}
+use Rattle.policy.specs.Progress.{Progress}
 use Rattle.rules.specs.Access.{value, locked, bars, unlike, is_first}
 use Rattle.rules.specs.Answer.{number}
 use Rattle.rules.specs.Map.{decode, number_of, is_lock, is_shadowed}

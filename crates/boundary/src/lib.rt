@@ -65,11 +65,20 @@ pub struct Wired {
 fn sample_by(w: Wired) -> Sample
     ensures { result ≡ sample_by w }
 {
-    let alerts = w.alerts;
     Sample {
-        alerts,
+        alerts: w.alerts,
         word: w.word,
         receive: Receive::Pairs(w.receive_positive as u32, w.receive_negative as u32),
+    }
+}
+
+// What a tick is given: the access, and the wires.
+fn input_by(kind: u8, register: u16, value: u32, wires: Wired) -> Input
+    ensures { result ≡ input_by kind register value wires }
+{
+    Input {
+        access: access_by(kind, register, value),
+        sample: sample_by(wires),
     }
 }
 
@@ -84,20 +93,14 @@ pub fn tarravane_new(n: usize) -> Made
 pub fn tarravane_tick(h: Handler, kind: u8, register: u16, value: u32, wires: Wired) -> Answered
     ensures { result ≡ answered (ticked h (input_by kind register value wires)) }
 {
-    let access = access_by(kind, register, value);
-    let sample = sample_by(wires);
-    let input = Input { access, sample };
-    tick(h, input)
+    tick(h, input_by(kind, register, value, wires))
 }
 
 // What that tick hears: it changes nothing.
 pub fn tarravane_hear(h: Handler, kind: u8, register: u16, value: u32, wires: Wired) -> Account
     ensures { result ≡ account h (input_by kind register value wires) }
 {
-    let access = access_by(kind, register, value);
-    let sample = sample_by(wires);
-    let input = Input { access, sample };
-    account_of(h, input)
+    account_of(h, input_by(kind, register, value, wires))
 }
 
 // The ticks of the old records, of 24 bytes, a word for each.
@@ -172,8 +175,7 @@ pub fn tarravane_record(
 pub fn tarravane_install(h: Handler, lifecycle: u8) -> Installed
     ensures { result ≡ boot (lifecycle_of lifecycle) h }
 {
-    let l = lifecycle_of(lifecycle);
-    boot(h, l)
+    boot(h, lifecycle_of(lifecycle))
 }
 
 // A tick of the receivers at the lines' ends, in which the lines' pairs are these: what they send back, what they see, and the receivers after it.

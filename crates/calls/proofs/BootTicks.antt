@@ -19,7 +19,7 @@ use Rattle.policy.specs.Plan.{plan_of, barred, boot}
 use Rattle.policy.specs.Table.{alert_count}
 use Rattle.policy.specs.declared.Bar.TheVariants.{BadState, FewAlerts}
 use Rattle.policy.specs.declared.Lifecycle.{Lifecycle}
-use Rattle.policy.specs.declared.Progress.{Progress}
+use Rattle.policy.specs.Progress.{Progress}
 use Rattle.boot_laws.specs.Ran
 use Rattle.boot_laws.specs.Ran.{input_of, wants, reach, no_ask}
 use Rattle.boot_laws.proofs.AskLaws.{asked_wanted, asked_other, asked_going, stays, was_going}

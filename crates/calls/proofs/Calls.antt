@@ -9,6 +9,7 @@ use native.Mathlib.Nat.{le_of_suc-le-suc, not-suc-le-zero, add-zero, add-suc, su
 use native.Mathlib.Omega.{arith}
 use lib.ListN.{get_or, length, take, drop, replicate, length-append, length-map}
 use lib.Seq.{take_at, take-append-add}
+use Rattle.std.specs.Prelude.{Result, Ok, Err}
 use Rattle.bits.specs.Bits.{bit}
 use Rattle.bits.specs.Index.{each, each_from}
 use Rattle.calm_laws.proofs.CalmRuns.{calm_is_run, length_inputs}
@@ -17,8 +18,7 @@ use Rattle.calm_laws.proofs.Tells.{tells}
 use Rattle.calm_laws.specs.Tells.{lines_by}
 use Rattle.calm_rules.specs.Call.{calm_verdict, inputs_by, calmed_by, list_by, calmed, calmed_list, call_inputs}
 use Rattle.calm_rules.specs.Ticks.{calm_inputs, calm_changes}
-use Rattle.calm_rules.specs.declared.Verdict.{Verdict}
-use Rattle.calm_rules.specs.declared.Verdict.TheVariants.{Runs, Barred}
+use Rattle.calm_rules.specs.declared.Bar.{Bar}
 use Rattle.escalation.proofs.Demand3.{demand3}
 use Rattle.escalation.specs.List.{IsTick, given_at, no_input, no_tick}
 use Rattle.laws.proofs.Valid.KeepsValid.{run_valid}
@@ -93,10 +93,10 @@ seen_at (shows_none a) b d n (suc i) l = seen_at a b d n i (le_of_suc-le-suc l)
 -- ── one call ──
 
 -- a calm call that runs, and one that is refused
-calm_leaves : (h : Handler) (w : Wires) (n : ℕ) (d : Verdict) → (calmed_by d h w n).handler ≡ run h (inputs_by d h w n)
+calm_leaves : (h : Handler) (w : Wires) (n : ℕ) (d : Result (Unit {0}) Bar) → (calmed_by d h w n).handler ≡ run h (inputs_by d h w n)
 unfolding run
-calm_leaves h w n Runs = calm_is_run h w n
-calm_leaves h w n (Barred b) = refl
+calm_leaves h w n (Ok _) = calm_is_run h w n
+calm_leaves h w n (Err b) = refl
 
 -- it leaves the state after its ticks
 leaves_run : (h : Handler) (c : Call) → leaves h c ≡ run h (inputs h c)
@@ -130,12 +130,12 @@ by_index f (t ∷ ts) first s =
     (by_index f ts (suc first) (λ i l e m. ap (λ (j : ℕ). f j e) (suc-add first i ∙ sym (add-suc first i)) ∙ s (suc i) (omega arith) e m))
 
 -- the words of a calm call tell the lines of its ticks
-calm_seen : (h : Handler) (w : Wires) (n : ℕ) (list : List ℕ) (d : Verdict) → valid h ≡ true → n ≤ 4294967295
+calm_seen : (h : Handler) (w : Wires) (n : ℕ) (list : List ℕ) (d : Result (Unit {0}) Bar) → valid h ≡ true → n ≤ 4294967295
     → SeenOf (replicate (length (inputs_by d h w n)) true)
     (each (length (inputs_by d h w n)) (λ i. Shown (bit (lines_by (lines h) (take (word_count (calmed_by d h w n).answer) (list_by d h w n list)) (suc i)))))
     (ticks h (inputs_by d h w n))
 unfolding ticks each_from
-calm_seen h w n list Runs v small =
+calm_seen h w n list (Ok _) v small =
     subst (λ (k : ℕ). SeenOf (replicate k true) (each k (λ i. Shown (bit (lines_by (lines h) ws (suc i))))) (ticks h xs)) (length_ticks h xs)
     (by_index (λ i. bit (lines_by (lines h) ws (suc i))) (ticks h xs) 0
     (λ i l e m. ap (λ (j : ℕ). bit (lines_by (lines h) ws (suc j)) e) (zero-add i) ∙ ap (λ (o : ℕ). bit o e) (told i (omega (arith, l, length_ticks h xs, length_inputs h w n)))))
@@ -151,7 +151,7 @@ calm_seen h w n list Runs v small =
         ap (λ (us : List ℕ). lines_by (lines h) us (suc i)) (take_at (calm_changes h w n) (drop (length (calm_changes h w n)) list) (length (calm_changes h w n)) refl)
         ∙ (tells h w n v (omega arith)).each_tick (suc i) l
         ∙ ap (λ (o : Output). o.lines) (sym (calm_output_at h w n i no_input no_tick l))
-calm_seen h w n list (Barred b) v small = none
+calm_seen h w n list (Err b) v small = none
 
 seen_ticks : (h : Handler) (c : Call) → valid h ≡ true → SeenOf (replicate (length (inputs h c)) (shows c)) (seen h c) (ticks h (inputs h c))
 unfolding ticks batch batch_of calmed calmed_list call_inputs

@@ -9,6 +9,7 @@ use borrow.Author.Tests.{lt-ltb}
 use lib.Dec.{eqb, ltb}
 use lib.IntN.{pos}
 use lib.ListN.{get_or, length}
+use Rattle.std.specs.Prelude.{Result, Ok, Err}
 use Rattle.bits.specs.Bits.{bits_of}
 use Rattle.bits.specs.Index.{place_in}
 use Rattle.calm_laws.proofs.CallTicks.{call_is_run}
@@ -20,8 +21,6 @@ use Rattle.calm_rules.specs.Ticks.{calm_input, calm_run, calm_inputs, calm_outpu
 use Rattle.calm_rules.specs.declared.Bar.{Bar}
 use Rattle.calm_rules.specs.declared.Bar.TheVariants.{BadState, TimerOn, ShortList}
 use Rattle.calm_rules.specs.declared.Calmed.{Calmed}
-use Rattle.calm_rules.specs.declared.Verdict.{Verdict}
-use Rattle.calm_rules.specs.declared.Verdict.TheVariants.{Runs, Barred}
 use Rattle.escalation.specs.List.{no_tick}
 use Rattle.laws.proofs.Tick.Pairs.{pairs_at}
 use Rattle.rules.specs.Run.{ticks}
@@ -52,14 +51,14 @@ low o a p e =
 module _ (h : Handler) (w : Wires) (n : ℕ) (list : List ℕ) where
   -- ── refused ──
 
-  refused : (b : Bar) → calm_verdict h list ≡ Barred b → RefusedWith (bar_number b) h w n list
+  refused : (b : Bar) → calm_verdict h list ≡ Err b → RefusedWith (bar_number b) h w n list
   unfolding calmed calmed_list
   refused b e =
-      let r : calmed h w n list ≡ calmed_by (Barred b) h w n = ap (λ (v : Verdict). calmed_by v h w n) e in
+      let r : calmed h w n list ≡ calmed_by (Err b) h w n = ap (λ (v : Result (Unit {0}) Bar). calmed_by v h w n) e in
       record {
         answer = ap (λ (c : Calmed). c.answer) r;
         state = ap (λ (c : Calmed). c.handler) r;
-        same_list = ap (λ (v : Verdict). list_by v h w n list) e;
+        same_list = ap (λ (v : Result (Unit {0}) Bar). list_by v h w n list) e;
         off = (ap (λ (c : Calmed). c.output.interrupts) r, ap (λ (c : Calmed). c.output.lines) r);
         pairs =
             low (calmed h w n list).output (ap (λ (c : Calmed). c.output.acknowledge) r) (ap (λ (c : Calmed). c.output.ping) r)
@@ -67,27 +66,27 @@ module _ (h : Handler) (w : Wires) (n : ℕ) (list : List ℕ) where
       }
 
   judged : (a b c : Bool) → valid h ≡ a → is_on h ≡ b → ltb (length list) 20 ≡ c
-      → calm_verdict h list ≡ cond (not a) (Barred BadState) (cond b (Barred TimerOn) (cond c (Barred ShortList) Runs))
+      → calm_verdict h list ≡ cond (not a) (Err BadState) (cond b (Err TimerOn) (cond c (Err ShortList) (Ok tt)))
   unfolding calm_verdict
-  judged a b c x y z = λ i. cond (not (x i)) (Barred BadState) (cond (y i) (Barred TimerOn) (cond (z i) (Barred ShortList) Runs))
+  judged a b c x y z = λ i. cond (not (x i)) (Err BadState) (cond (y i) (Err TimerOn) (cond (z i) (Err ShortList) (Ok tt)))
 
   -- ── runs ──
 
   module _ (v : valid h ≡ true) (off : is_on h ≡ false) (l : 20 ≤ length list) where
-    runs : calm_verdict h list ≡ Runs
+    runs : calm_verdict h list ≡ Ok tt
     runs = calm_runs h list v off l
 
-    gives : (m : ℕ) → calmed h w m list ≡ calmed_by Runs h w m
+    gives : (m : ℕ) → calmed h w m list ≡ calmed_by (Ok tt) h w m
     unfolding calmed
-    gives m = ap (λ (x : Verdict). calmed_by x h w m) runs
+    gives m = ap (λ (x : Result (Unit {0}) Bar). calmed_by x h w m) runs
 
     inputs_are : call_inputs h w n list ≡ calm_inputs h w n
     unfolding call_inputs
-    inputs_are = ap (λ (x : Verdict). inputs_by x h w n) runs
+    inputs_are = ap (λ (x : Result (Unit {0}) Bar). inputs_by x h w n) runs
 
     answer_is : (calmed h w n list).answer ≡ pos (length (call_words h w n list))
     unfolding call_words
-    answer_is = ap (λ (c : Calmed). c.answer) (gives n) ∙ ap (λ (x : Verdict). pos (length (words_by x h w n))) (sym runs)
+    answer_is = ap (λ (c : Calmed). c.answer) (gives n) ∙ ap (λ (x : Result (Unit {0}) Bar). pos (length (words_by x h w n))) (sym runs)
 
     tick_in : (i : ℕ) (d : Input) → i < n → (g : Handler) → g ≡ (calmed h w i list).handler → CalmTick g w (get_or (call_inputs h w n list) i d)
     tick_in i d m g e =

@@ -8,12 +8,12 @@ use native.Mathlib.Nat.{add-zero}
 use native.Mathlib.Omega.{arith}
 use lib.ListN.{get_or, length, take, length-take, get_or-append}
 use lib.Seq.{get_or-append-add}
+use Rattle.std.specs.Prelude.{Result, Ok}
 use Rattle.calm_laws.proofs.CalmRuns.{length_inputs}
 use Rattle.calm_laws.proofs.CalmTicks.{calm_output_at}
 use Rattle.calm_rules.specs.Call.{calm_verdict, inputs_by, calmed_by, calmed, call_inputs}
 use Rattle.calm_rules.specs.Ticks.{calm_inputs}
-use Rattle.calm_rules.specs.declared.Verdict.{Verdict}
-use Rattle.calm_rules.specs.declared.Verdict.TheVariants.{Runs}
+use Rattle.calm_rules.specs.declared.Bar.{Bar}
 use Rattle.escalation.specs.List.{no_input, no_tick}
 use Rattle.laws.proofs.Tick.Runs.{ticks_append, length_ticks}
 use Rattle.link_rules.specs.Senders.{line_count}
@@ -60,14 +60,14 @@ tick_gives h us bs x =
     ∙ ap (λ (n : ℕ). get_or (ticks h (inputs_all h (us ++ Tick x ∷ bs))) n no_tick) (add-zero (length (inputs_all h us)))
 
 -- a calm call gives the outputs of its last tick
-calm_gives : (h : Handler) (us bs : List Call) (w : Wires) (n : ℕ) (small : suc n ≤ 4294967295) (list : List ℕ) → calm_verdict (leaves_all h us) list ≡ Runs
+calm_gives : (h : Handler) (us bs : List Call) (w : Wires) (n : ℕ) (small : suc n ≤ 4294967295) (list : List ℕ) → calm_verdict (leaves_all h us) list ≡ Ok tt
     → (calmed (leaves_all h us) w (suc n) list).output
     ≡ (get_or (ticks h (inputs_all h (us ++ Calm w (suc n) small list ∷ bs))) (length (inputs_all h us) + n) no_tick).output
 unfolding calmed call_inputs
 calm_gives h us bs w n small list e =
     let g : Handler = leaves_all h us in
-    let run_inputs : call_inputs g w (suc n) list ≡ calm_inputs g w (suc n) = ap (λ (d : Verdict). inputs_by d g w (suc n)) e in
-    ap (λ (d : Verdict). (calmed_by d g w (suc n)).output) e
+    let run_inputs : call_inputs g w (suc n) list ≡ calm_inputs g w (suc n) = ap (λ (d : Result (Unit {0}) Bar). inputs_by d g w (suc n)) e in
+    ap (λ (d : Result (Unit {0}) Bar). (calmed_by d g w (suc n)).output) e
     ∙ sym (calm_output_at g w (suc n) n no_input no_tick (omega arith))
     ∙ ap (λ (xs : List Input). (get_or (ticks g xs) n no_tick).output) (sym run_inputs)
     ∙ ap (λ (t : Ticked). t.output)
@@ -87,7 +87,7 @@ module _ (h : Handler) (cs : List Call) (n : NewSenders h) where
       ∙ ap (λ (ds : List Call). (get_or (ticks h (inputs_all h ds)) (length (inputs_all h us)) no_tick).output.escalation) (sym e)
 
   calm_pairs : (us bs : List Call) (w : Wires) (n : ℕ) (small : suc n ≤ 4294967295) (list : List ℕ) → cs ≡ us ++ Calm w (suc n) small list ∷ bs
-      → calm_verdict (leaves_all h us) list ≡ Runs
+      → calm_verdict (leaves_all h us) list ≡ Ok tt
       → (calmed (leaves_all h us) w (suc n) list).output.escalation ≡ (get_or (ticks h xs) (length (inputs_all h us) + n) no_tick).output.escalation
   calm_pairs us bs w n small list e r =
       ap (λ (o : Output). o.escalation) (calm_gives h us bs w n small list r)

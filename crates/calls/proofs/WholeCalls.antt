@@ -20,7 +20,7 @@ use Rattle.policy.specs.Install.{Ask, asks}
 use Rattle.policy.specs.Plan.{plan_of, boot}
 use Rattle.policy.specs.declared.Installed.{Installed}
 use Rattle.policy.specs.declared.Lifecycle.{Lifecycle}
-use Rattle.policy.specs.declared.Progress.{Progress}
+use Rattle.policy.specs.Progress.{Progress}
 use Rattle.boot_laws.specs.Ran
 use Rattle.boot_laws.specs.Ran.{wants, no_ask, StoppedAt}
 use Rattle.boot_laws.proofs.Boot.{boot_either}

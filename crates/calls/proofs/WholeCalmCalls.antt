@@ -9,6 +9,7 @@ use native.Mathlib.Omega.{arith}
 use borrow.Author.Tests.{lt-ltb, le-ltb}
 use lib.Dec.{ltb}
 use lib.ListN.{get_or, length, take}
+use Rattle.std.specs.Prelude.{Result, Ok, Err}
 use Rattle.bits.proofs.IndexLaws.{or_right, at_each}
 use Rattle.bits.specs.Bits.{bit}
 use Rattle.calm_laws.proofs.CalmRuns.{length_inputs}
@@ -16,9 +17,8 @@ use Rattle.calm_laws.proofs.CalmTicks.{input_at}
 use Rattle.calm_laws.specs.Tells.{lines_by}
 use Rattle.calm_rules.specs.Call.{calm_verdict, inputs_by, calmed, calmed_list, call_inputs}
 use Rattle.calm_rules.specs.Ticks.{calm_input, calm_run}
+use Rattle.calm_rules.specs.declared.Bar.{Bar}
 use Rattle.calm_rules.specs.declared.Bar.TheVariants.{BadState, TimerOn, ShortList}
-use Rattle.calm_rules.specs.declared.Verdict.{Verdict}
-use Rattle.calm_rules.specs.declared.Verdict.TheVariants.{Runs, Barred}
 use Rattle.escalation.specs.List.{given_at}
 use Rattle.rules.specs.State.{is_on}
 use Rattle.rules.specs.Tick.{lines}
@@ -31,10 +31,10 @@ use Rattle.calls.specs.Calls.{Call, Calm, inputs, Shown, Unseen, word_count, cha
 use Rattle.calls.proofs.WholeCalls.{every_good, every_line}
 
 -- with the timer off and 20 entries it runs
-pub calm_runs : (h : Handler) (list : List ℕ) → valid h ≡ true → is_on h ≡ false → 20 ≤ length list → calm_verdict h list ≡ Runs
+pub calm_runs : (h : Handler) (list : List ℕ) → valid h ≡ true → is_on h ≡ false → 20 ≤ length list → calm_verdict h list ≡ Ok tt
 unfolding calm_verdict
 calm_runs h list v off l i =
-    cond (not (v i)) (Barred BadState) (cond (off i) (Barred TimerOn) (cond (le-ltb (length list) 20 l i) (Barred ShortList) Runs))
+    cond (not (v i)) (Err BadState) (cond (off i) (Err TimerOn) (cond (le-ltb (length list) 20 l i) (Err ShortList) (Ok tt)))
 
 -- ── calls us, then a calm call, then calls bs ──
 
@@ -50,7 +50,7 @@ module _ (h : Handler) (v : valid h ≡ true) (us bs : List Call) (w : Wires) (n
   pub calm_many : is_on met ≡ false → 20 ≤ length list → length (inputs met calm) ≡ n
   unfolding call_inputs
   calm_many off l =
-      ap (λ (d : Verdict). length (inputs_by d met w n)) (calm_runs met list (every_good h v us calm bs) off l) ∙ length_inputs met w n
+      ap (λ (d : Result (Unit {0}) Bar). length (inputs_by d met w n)) (calm_runs met list (every_good h v us calm bs) off l) ∙ length_inputs met w n
 
   -- what comes in in its tick j: no access, these wires and word 0
   pub calm_input_law : is_on met ≡ false → 20 ≤ length list → (j : ℕ) (d : Input) → j < n
@@ -59,7 +59,7 @@ module _ (h : Handler) (v : valid h ≡ true) (us bs : List Call) (w : Wires) (n
   unfolding call_inputs
   calm_input_law off l j d m =
       let x : get_or (inputs met calm) j d ≡ calm_input w (calm_run met w j) =
-      ap (λ (u : Verdict). get_or (inputs_by u met w n) j d) (calm_runs met list (every_good h v us calm bs) off l) ∙ input_at met w n j d m in
+      ap (λ (u : Result (Unit {0}) Bar). get_or (inputs_by u met w n) j d) (calm_runs met list (every_good h v us calm bs) off l) ∙ input_at met w n j d m in
       (ap (λ (y : Input). y.access) x, (ap (λ (y : Input). y.sample.alerts) x, ap (λ (y : Input). y.sample.word) x))
 
   -- the lines of its tick j + 1: those of the last word whose tick is at most j + 1, else those of the state
@@ -81,7 +81,7 @@ module _ (h : Handler) (v : valid h ≡ true) (us bs : List Call) (w : Wires) (n
       tests (inr m) = or_right (is_on met) (lt-ltb (length list) 20 m)
 
       go : (a b : Bool) → (a || b) ≡ true → valid met ≡ true
-          → inputs_by (cond (not (valid met)) (Barred BadState) (cond a (Barred TimerOn) (cond b (Barred ShortList) Runs))) met w n ≡ []
-      go true b e g = ap (λ (c : Bool). inputs_by (cond (not c) (Barred BadState) (Barred TimerOn)) met w n) g
-      go false true e g = ap (λ (c : Bool). inputs_by (cond (not c) (Barred BadState) (Barred ShortList)) met w n) g
+          → inputs_by (cond (not (valid met)) (Err BadState) (cond a (Err TimerOn) (cond b (Err ShortList) (Ok tt)))) met w n ≡ []
+      go true b e g = ap (λ (c : Bool). inputs_by (cond (not c) (Err BadState) (Err TimerOn)) met w n) g
+      go false true e g = ap (λ (c : Bool). inputs_by (cond (not c) (Err BadState) (Err ShortList)) met w n) g
       go false false e g = absurd (false≢true e)

@@ -8,7 +8,7 @@ use Rattle.policy.specs.Install.{Ask, asks}
 use Rattle.policy.specs.Plan.{plan_of}
 use Rattle.policy.specs.Table.{alert_count}
 use Rattle.policy.specs.declared.Lifecycle.{Lifecycle}
-use Rattle.policy.specs.declared.Progress.{Progress}
+use Rattle.policy.specs.Progress.{Progress}
 use Rattle.boot_laws.specs.Ran.{input_of, wants, reach, StoppedAt}
 use Rattle.boot_laws.specs.Ran
 use Rattle.boot_laws.specs.Stands.{Success}

@@ -3,9 +3,8 @@
 -- wire. proofs/SeenCalls.antt proves it of every sequence of calls from a new handler whose receivers are new with it, and from every accepted state whose
 -- senders are as new.
 -- Assumes nothing.
-use Rattle.std.specs.Prelude.{ℕ, suc, ◌+◌, ◌≤◌, ◌<◌, ◌≡◌, Bool, false, List, ◌∷◌, ◌++◌, get_or, length, take}
+use Rattle.std.specs.Prelude.{ℕ, suc, ◌+◌, ◌≤◌, ◌<◌, ◌≡◌, Bool, false, List, ◌∷◌, ◌++◌, get_or, length, take, Ok}
 use Rattle.calm_rules.specs.Call.{calm_verdict, calmed}
-use Rattle.calm_rules.specs.declared.Verdict.TheVariants.{Runs}
 use Rattle.escalation.specs.List.{no_tick}
 use Rattle.link_rules.specs.Senders.{line_count}
 use Rattle.rules.specs.Run.{ticks}
@@ -30,7 +29,7 @@ pub record SeenAcrossCalls (h : Handler) (cs : List Call) : Type 0 where
   -- a calm call that runs gives back the pairs of the last of its n + 1 ticks
   pub calm_pairs :
       (us bs : List Call) (w : Wires) (n : ℕ) (small : suc n ≤ 4294967295) (list : List ℕ) → cs ≡ us ++ Calm w (suc n) small list ∷ bs
-      → calm_verdict (leaves_all h us) list ≡ Runs
+      → calm_verdict (leaves_all h us) list ≡ Ok tt
       → (calmed (leaves_all h us) w (suc n) list).output.escalation
       ≡ (get_or (ticks h (inputs_all h cs)) (length (inputs_all h us) + n) no_tick).output.escalation
   -- after i calls the sender of the state that they leave is in step with the receiver at the other end of a sound pair

@@ -1,3 +1,5 @@
+pub mod Standing
 pub mod Walking
 pub mod Resting
+pub mod Rounding
 pub mod Calling

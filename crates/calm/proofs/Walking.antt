@@ -1,90 +1,66 @@
--- Request (xii): plain calm ticks one by one, and words after words in the lent list.
+-- Request (xii): plain calm ticks one by one.
 -- Assumes nothing.
 use Prim.Native.Nat.{ℕ, suc, ◌+◌, ◌≤◌, ◌<◌}
 use mathlib.Core.Path.{◌≡◌, refl, sym, ap, ap₂, ◌∙◌}
-use mathlib.Core.Bool.{Bool, true, false, cond}
-use mathlib.Core.List.{List, [], ◌∷◌, ◌++◌}
+use mathlib.Core.Bool.{true, false}
+use mathlib.Core.List.{List, ◌++◌, append-nil, append_assoc}
 use native.Mathlib.Omega.{arith}
-use native.Mathlib.Nat.{add-zero}
-use borrow.Author.Tests.{eq-eqb, ne_eqb}
-use lib.ListN.{length, drop, set, length-append, length-set}
-use lib.Seq.{take_at, drop-append-add, drop-drop}
-use Rattle.calm_laws.proofs.CalmRuns.{calm_valid, calm_off, output_lines, room_left, no_clear_in}
-use Rattle.calm_laws.proofs.Classes.{lent_none, lent_next, step_changes_fall}
+use lib.ListN.{length}
+use Rattle.calm_laws.proofs.CalmRuns.{calm_valid, calm_off, output_lines, no_clear_in}
+use Rattle.calm_laws.proofs.Classes.{step_changes_left, step_changes_fall}
 use Rattle.calm_laws.proofs.PlainTick.{calm_after_law}
+use Rattle.calm_laws.proofs.Rounds.{change_room}
 use Rattle.laws.specs.OutputMasks.{interrupts_on, lines_on}
-use Rattle.calm_laws.specs.Four.{changes_in, lent}
+use Rattle.calm_laws.specs.Four.{changes_in}
 use Rattle.calm_laws.specs.Settled.{calm_signals, calm_after}
-use Rattle.calm_rules.specs.Ticks.{calm_input, calm_run, given_output, calm_output, change_word, change, calm_changes}
+use Rattle.calm_rules.specs.Ticks.{calm_input, calm_run, given_output, calm_output, change, calm_changes}
 use Rattle.laws.proofs.Valid.Refusal7.{ticked_handler, ticked_lines}
 use Rattle.rules.specs.State.{is_on}
 use Rattle.rules.specs.Tick.{interrupts, lines, no_output, ticked}
 use Rattle.rules.specs.Valid.{valid}
 use Rattle.rules.specs.declared.Handler.{Handler}
 use Rattle.rules.specs.declared.Output.{Output}
+use Rattle.rules.specs.declared.Ticked.{Ticked}
 use Rattle.rules.specs.declared.Wires.{Wires}
 use Rattle.calm.specs.Walk.{NextBy, Walk}
-use Rattle.calm.specs.declared.walk.Walked.{Walked}
-
--- ── the lent list ──
-
-pub lent_first : (ws old : List ℕ) → lent 0 ws old ≡ ws ++ drop (length ws) old
-unfolding lent
-lent_first ws old = let z : 0 + length ws ≡ length ws = omega arith in ap (λ (n : ℕ). ws ++ drop n old) z
-
--- words after words
-pub lent_join : (us ws old : List ℕ) → lent (length us) ws (lent 0 us old) ≡ lent 0 (us ++ ws) old
-unfolding lent
-lent_join us ws old =
-    ap (lent (length us) ws) (lent_first us old)
-    ∙ ap₂ (λ (xs ys : List ℕ). (xs ++ ws) ++ ys) (take_at us (drop (length us) old) (length us) refl)
-    (drop-append-add us (drop (length us) old) (length ws) ∙ drop-drop (length ws) (length us) old)
-    ∙ ap (λ (n : ℕ). (us ++ ws) ++ drop n old) (sym (length-append us ws))
-    ∙ sym (lent_first (us ++ ws) old)
+use Rattle.calm.specs.declared.ticking.Ticking.{Ticking}
 
 -- ── one tick more ──
 
-module _ (h : Handler) (on : ℕ) (w : Wires) (tick : ℕ) (old : List ℕ) (first : ℕ) (r : Output) (g : Handler)
-    (e : g ≡ (ticked h (calm_input w h)).handler) (o : r ≡ (ticked h (calm_input w h)).output) where
-  pub next_quiet : r.lines ≡ on → NextBy h on w tick old first (record { handler = g; output = r; written = first }) old
-  next_quiet l =
-      let c : change on r.lines tick ≡ [] = ap (λ (b : Bool). cond b [] (change_word r.lines tick ∷ [])) (eq-eqb r.lines on l) in
-      record {
-        handler = e;
-        output = o;
-        words = sym (lent_none first old) ∙ ap (λ (ws : List ℕ). lent first ws old) (sym c);
-        count = sym (add-zero first) ∙ ap (λ (ws : List ℕ). first + length ws) (sym c);
-        same = refl;
-      }
+module _ (h : Handler) (w : Wires) (v : valid h ≡ true) (off : is_on h ≡ false) where
+  abbrev t : Ticked
+  t = ticked h (calm_input w h)
 
-  pub next_changed : (r.lines ≡ on → ⊥) → first < length old → (x : ℕ) → x ≡ change_word r.lines tick
-      → NextBy h on w tick old first (record { handler = g; output = r; written = first + 1 }) (set old first x)
-  next_changed d l x y =
-      let c : change on r.lines tick ≡ (x ∷ []) =
-      ap (λ (b : Bool). cond b [] (change_word r.lines tick ∷ [])) (ne_eqb r.lines on d) ∙ ap (λ (z : ℕ). z ∷ []) (sym y) in
-      let z : first + 0 ≡ first = omega arith in
-      record {
-        handler = e;
-        output = o;
-        words =
-            ap₂ (λ (os : List ℕ) (i : ℕ). set os i x) (sym (lent_none first old)) (sym z)
-            ∙ lent_next first [] old x (omega arith)
-            ∙ ap (λ (ws : List ℕ). lent first ws old) (sym c);
-        count = ap (λ (ws : List ℕ). first + length ws) (sym c);
-        same = length-set old first x;
-      }
+  state_is : t.handler ≡ calm_after h w
+  state_is = ticked_handler h (calm_input w h) v ∙ calm_after_law h w v off
 
--- there is room for a word: a change of a line leaves fewer that can come
-pub next_room : (h : Handler) (w : Wires) → valid h ≡ true → is_on h ≡ false → (first size : ℕ) → first + changes_in h.classes ≤ size
-    → ((ticked h (calm_input w h)).output.lines ≡ lines h → ⊥) → first < size
-unfolding lines lines_on calm_after
-next_room h w v off first size l d =
-    omega (
-      arith,
-      l,
-      step_changes_fall (calm_signals h w) (no_clear_in h w) h.classes
-          (λ x. d (ticked_lines h (calm_input w h) v ∙ ap lines (ticked_handler h (calm_input w h) v ∙ calm_after_law h w v off) ∙ x)),
-    )
+  pub next_valid : valid t.handler ≡ true
+  unfolding calm_run
+  next_valid = calm_valid h w v 1
+
+  pub next_off : is_on t.handler ≡ false
+  unfolding calm_run
+  next_off = calm_off h w v off 1
+
+  pub next_lines : t.output.lines ≡ lines t.handler
+  next_lines = ticked_lines h (calm_input w h) v
+
+  module _ (ws : List ℕ) (on : ℕ) (l : on ≡ lines h) (r : length ws + changes_in h.classes ≤ 20) where
+    -- a change of a line leaves fewer that can come
+    fewer : (t.output.lines ≡ on → ⊥) → changes_in t.handler.classes < changes_in h.classes
+    unfolding lines lines_on calm_after
+    fewer d =
+        rw state_is
+        (step_changes_fall (calm_signals h w) (no_clear_in h w) h.classes (λ x. d (next_lines ∙ ap lines state_is ∙ x ∙ sym l)))
+
+    pub next_entry : (t.output.lines ≡ on → ⊥) → length ws < 20
+    next_entry d = omega (arith, r, fewer d)
+
+    pub next_room : (tick : ℕ) → length (ws ++ change on t.output.lines tick) + changes_in t.handler.classes ≤ 20
+    unfolding calm_after
+    next_room tick =
+        let left : changes_in t.handler.classes ≤ changes_in h.classes = rw state_is (step_changes_left (calm_signals h w) (no_clear_in h w) h.classes) in
+        change_room ws on t.output.lines tick (changes_in h.classes) (changes_in t.handler.classes) r left fewer
 
 -- ── step 5 of a state, with all pairs at (0,1) ──
 
@@ -96,37 +72,24 @@ given_by h n i l e x y =
 
 -- ── n ticks ──
 
-pub walk_none : (h : Handler) (w : Wires) (old : List ℕ) (o : Output) → o ≡ given_output h → Walk h w 0 old (record { handler = h; output = o; written = 0 }) old
+pub walk_none : (c : Ticking) (o : Output) → o ≡ given_output c.handler → Walk c 0 c o
 unfolding calm_run calm_output calm_changes
-walk_none h w old o e = record { handler = refl; output = e; words = sym (lent_none 0 old); count = refl; same = refl }
+walk_none c o e = record { handler = refl; output = e; wires = refl; words = sym (append-nil c.changes) }
 
-module _ (h : Handler) (w : Wires) (v : valid h ≡ true) (off : is_on h ≡ false) (n : ℕ) (old : List ℕ) (b : Walked) (out : List ℕ) (r : Walk h w n old b out) where
-  pub walk_valid : valid b.handler ≡ true
-  walk_valid = ap valid r.handler ∙ calm_valid h w v n
-
-  pub walk_off : is_on b.handler ≡ false
-  walk_off = ap is_on r.handler ∙ calm_off h w v off n
-
-  pub walk_lines : b.output.lines ≡ lines b.handler
-  walk_lines = ap (λ (o : Output). o.lines) r.output ∙ output_lines h w v n ∙ ap lines (sym r.handler)
-
-  pub walk_room : 20 ≤ length old → b.written + changes_in b.handler.classes ≤ length out
-  walk_room l = omega (arith, l, r.same, r.count, ap (λ (g : Handler). changes_in g.classes) r.handler, room_left h w v off n)
-
-  pub walk_next : (x : Walked) (left : List ℕ) → NextBy b.handler b.output.lines w (suc n) out b.written x left → Walk h w (suc n) old x left
-  unfolding calm_run calm_output calm_changes
-  walk_next x left t =
-      let g = calm_run h w n in
-      let s : x.handler ≡ calm_run h w (suc n) = t.handler ∙ ap (λ (f : Handler). (ticked f (calm_input w f)).handler) r.handler in
-      let o : x.output ≡ calm_output h w (suc n) = t.output ∙ ap (λ (f : Handler). (ticked f (calm_input w f)).output) r.handler in
-      let c : change b.output.lines x.output.lines (suc n) ≡ change (calm_output h w n).lines (calm_output h w (suc n)).lines (suc n) =
-      ap₂ (λ (p q : Output). change p.lines q.lines (suc n)) r.output o in
-      let us = calm_changes h w n in
-      let ws = change (calm_output h w n).lines (calm_output h w (suc n)).lines (suc n) in
-      record {
-        handler = s;
-        output = o;
-        words = t.words ∙ (λ i. lent (r.count i) (c i) (r.words i)) ∙ lent_join us ws old;
-        count = t.count ∙ (λ i. r.count i + length (c i)) ∙ sym (length-append us ws);
-        same = t.same ∙ r.same;
-      }
+pub walk_next : (c d e : Ticking) (n : ℕ) (o p : Output) → Walk c n d o → NextBy d (suc n) e p → Walk c (suc n) e p
+unfolding calm_run calm_output calm_changes
+walk_next c d e n o p r t =
+    let h = c.handler in
+    let w = c.wires in
+    let s : p ≡ calm_output h w (suc n) =
+    t.output ∙ ap₂ (λ (f : Handler) (v : Wires). (ticked f (calm_input v f)).output) r.handler r.wires in
+    let l : d.on ≡ (calm_output h w n).lines = d.lit ∙ ap lines r.handler ∙ sym (output_lines h w c.good n) in
+    record {
+      handler = t.handler ∙ ap₂ (λ (f : Handler) (v : Wires). (ticked f (calm_input v f)).handler) r.handler r.wires;
+      output = s;
+      wires = t.wires ∙ r.wires;
+      words =
+          t.words
+          ∙ (λ i. r.words i ++ change (l i) (s i).lines (suc n))
+          ∙ append_assoc c.changes (calm_changes h w n) (change (calm_output h w n).lines (calm_output h w (suc n)).lines (suc n));
+    }

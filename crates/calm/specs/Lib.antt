@@ -1,4 +1,3 @@
 pub mod RoundBy
 pub mod Walk
-pub mod RestBy
 pub mod CalmedBy

@@ -12,7 +12,7 @@ use Rattle.calm.specs.declared.round.Round.{Round}
 
 -- from the classes ds and the senders ts
 pub record RoundBy (s : ℕ → Signals) (ds : List Class) (ts : Senders) (m : ℕ) (r : Round) : Type 0 where
-  pub classes : r.classes ≡ four_step s (four_jump s m ds)
+  pub classes : r.moved.classes ≡ four_step s (four_jump s m ds)
   pub before : r.before ≡ lines_on (four_jump s m ds)
   pub lines : r.lines ≡ lines_on (four_step s (four_jump s m ds))
-  pub senders : r.senders ≡ sent_all (senders_for (lines_on (four_jump s m ds)) m ts) (steady (lines_on (four_step s (four_jump s m ds))))
+  pub senders : r.moved.senders ≡ sent_all (senders_for (lines_on (four_jump s m ds)) m ts) (steady (lines_on (four_step s (four_jump s m ds))))

@@ -1,56 +1,38 @@
 // A call of calm ticks, from any state.
-ghost use Rattle.std.specs.Prelude.{◌≡◌, true, false, ◌<◌, ◌≤◌, ◌^◌, pos, neg_ℤ, length};
-ghost use Rattle.calm_rules.specs.Call.{bar_number};
-ghost use Rattle.rules.specs.State.{is_on};
+ghost use Rattle.std.specs.Prelude.{◌≡◌, pos, neg_ℤ};
+ghost use Rattle.calm_rules.specs.Call.{bar_number, calm_verdict};
 ghost use Rattle.rules.specs.Tick.{no_output};
-ghost use Rattle.rules.specs.Valid.{valid};
 ghost use Rattle.calm.specs.CalmedBy.{CalmedBy};
-ghost use Rattle.calm.specs.Walk.{Walk};
 
-use crate::rest::{SETTLE, rest};
-use crate::walk::{Walked, go_on, walk};
+use crate::changes::ENTRIES;
+use crate::ticking::Ticking;
 use calm_rules::{Bar, Calmed};
 use handler::tick::no_output;
 use rules::{Handler, Wires};
 use state::valid::is_valid;
 
-// The entries that the list of changes needs: five for each class.
-const ENTRIES: usize = 20;
-
-// n ticks of a state that may run: a few plain ones that settle it, the rest but one by the engine, and the last, whose outputs are asked for, a plain
-// one too.
-fn run(h: Handler, wires: Wires, n: u64, out: &mut [u64]) -> Walked
-    requires { (valid h ≡ true) × (is_on h ≡ false) × (n < 2 ^ 32) × (20 ≤ length out.old) }
-    ensures { Walk h wires n out.old result out.new }
+// Whether a call may begin.
+fn admit(h: &Handler, list: &[u64]) -> Result<(), Bar>
+    ensures { result ≡ calm_verdict h.now list.now }
 {
-    if n <= SETTLE {
-        walk(h, wires, n, out)
+    if !is_valid(*h) {
+        Err(Bar::BadState)
+    } else if h.timer.enable == 1 {
+        Err(Bar::TimerOn)
+    } else if list.len() < ENTRIES {
+        Err(Bar::ShortList)
     } else {
-        let b = walk(h, wires, SETTLE, out);
-        let g = b.handler;
-        let r = rest(g, wires, n - SETTLE - 1, out, b.written);
-        let last = r.handler;
-        go_on(last, r.lines, wires, n, out, r.written)
-    }
-}
-
-fn bar_answer(b: Bar) -> i64
-    ensures { result ≡ neg_ℤ (pos (bar_number b)) }
-{
-    match b {
-        Bar::BadState => -7,
-        Bar::TimerOn => -15,
-        Bar::ShortList => -18,
+        Ok(())
     }
 }
 
 // A call that does not begin.
-fn bar(h: Handler, b: Bar) -> Calmed
-    ensures { result ≡ record { handler = h; answer = neg_ℤ (pos (bar_number b)); output = no_output } }
+fn refused(h: Handler, bar: Bar) -> Calmed
+    ensures { result ≡ record { handler = h; answer = neg_ℤ (pos (bar_number bar)); output = no_output } }
 {
     Calmed {
         handler: h,
-        answer: bar_answer(b),
+        answer: -(bar as i64),
         output: no_output(),
     }
 }
@@ -59,21 +41,14 @@ fn bar(h: Handler, b: Bar) -> Calmed
 pub fn calm(h: Handler, wires: Wires, ticks: u32, out: &mut [u64]) -> Calmed
     ensures { CalmedBy h wires ticks out.old result out.new }
 {
-    if is_valid(h) {
-        if h.timer.enable == 1 {
-            return bar(h, Bar::TimerOn);
-        }
-        if out.len() < ENTRIES {
-            return bar(h, Bar::ShortList);
-        }
-        let w = run(h, wires, ticks as u64, out);
-        let handler = w.handler;
-        let output = w.output;
-        return Calmed {
-            handler,
-            answer: w.written as i64,
-            output,
-        };
+    if let Err(bar) = admit(&h, out) {
+        return refused(h, bar);
     }
-    bar(h, Bar::BadState)
+    let mut ticking = Ticking::new(h, wires);
+    let output = ticking.run(u64::from(ticks));
+    Calmed {
+        handler: ticking.handler,
+        answer: ticking.changes.store(out) as i64,
+        output,
+    }
 }

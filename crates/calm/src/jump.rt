@@ -9,15 +9,7 @@ use class_rules::{Class, ClassState, Signals};
 fn counts(m: ClassState) -> bool
     ensures { result ≡ counts m }
 {
-    match m {
-        ClassState::Idle => false,
-        ClassState::Timeout => true,
-        ClassState::Phase0 => true,
-        ClassState::Phase1 => true,
-        ClassState::Phase2 => true,
-        ClassState::Phase3 => true,
-        ClassState::Terminal => false,
-    }
+    !matches!(m, ClassState::Idle | ClassState::Terminal)
 }
 
 // ESC_CNT after n ticks, if it counts.
@@ -34,8 +26,7 @@ fn accum_after(event: bool, n: u64, accum: u16) -> u16
     ensures { result ≡ accum_after event n accum }
 {
     if event {
-        let sum = accum as u64 + n;
-        if sum <= 65535 { sum as u16 } else { 65535 }
+        (u64::from(accum) + n).min(65535) as u16
     } else {
         accum
     }
@@ -46,16 +37,9 @@ pub fn jumped(s: Signals, n: u64, c: Class) -> Class
     requires { Fits c × (n ≤ stands s c) }
     ensures { result ≡ jumped s n c }
 {
-    let lengths = c.lengths;
     Class {
-        lengths,
-        timeout: c.timeout,
         count: count_after(counts(state_of(c.state)), n, c.count),
-        ctrl: c.ctrl,
         accum: accum_after(s.event, n, c.accum),
-        thresh: c.thresh,
-        regwen: c.regwen,
-        clrwen: c.clrwen,
-        state: c.state,
+        ..c
     }
 }

@@ -17,6 +17,7 @@ pub fn send_lines(s: Senders, lines: u32) -> Senders
 }
 
 // As many ticks as do for m of them: after four a sender is as it was every second tick.
+#[tactic(auto, unfolding(calm_laws::specs::Steady::short))]
 fn short_of(m: u64) -> u64
     ensures { (result ≡ short m) × (result ≤ 5) }
 {
@@ -27,12 +28,9 @@ fn short_of(m: u64) -> u64
 pub fn send_for(s: Senders, lines: u32, m: u64) -> Senders
     ensures { result ≡ senders_for lines m s }
 {
-    let n = short_of(m);
     let mut now = s;
-    let mut i: u64 = 0;
-    while i < n {
+    for _ in 0..short_of(m) {
         now = send_lines(now, lines);
-        i += 1;
     }
     now
 }

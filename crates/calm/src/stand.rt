@@ -8,24 +8,13 @@ use class::state::state_of;
 use class_rules::{Class, ClassState, Signals};
 
 // More ticks than "0 to 4294967295".
-pub const FOREVER: u64 = 4294967296;
-
-// The smaller of two numbers.
-pub fn least(a: u64, b: u64) -> u64
-    ensures { result ≡ least a b }
-{
-    if a <= b { a } else { b }
-}
+const FOREVER: u64 = 1 << 32;
 
 // What a count lacks of a bound, 0 where it is there.
 fn lack(bound: u32, count: u32) -> u64
     ensures { result ≡ bound - count }
 {
-    if bound <= count {
-        0
-    } else {
-        (bound - count) as u64
-    }
+    u64::from(bound.saturating_sub(count))
 }
 
 // The ticks until ACCUM_CNT is at ACCUM_THRESH.
@@ -33,7 +22,7 @@ fn to_trigger(s: Signals, c: Class) -> u64
     ensures { result ≡ to_trigger s c }
 {
     if s.event {
-        lack(c.thresh as u32, c.accum as u32)
+        lack(u32::from(c.thresh), u32::from(c.accum))
     } else {
         FOREVER
     }
@@ -51,24 +40,24 @@ fn timeout(s: Signals, c: Class) -> u64
     ensures { result ≡ cond (due s c) (least (c.timeout - c.count) (to_trigger s c)) 0 }
 {
     if due(s, c) {
-        least(lack(c.timeout, c.count), to_trigger(s, c))
+        lack(c.timeout, c.count).min(to_trigger(s, c))
     } else {
         0
     }
 }
 
 // The ticks that leave it in this state.
+#[tactic(auto, unfolding(calm_laws::specs::Stand::stand_from))]
 fn stand_from(m: ClassState, s: Signals, c: Class) -> u64
     ensures { result ≡ stand_from m s c }
 {
-    let lengths = c.lengths;
     match m {
         ClassState::Idle => idle(s, c),
         ClassState::Timeout => timeout(s, c),
-        ClassState::Phase0 => lack(lengths[0], c.count),
-        ClassState::Phase1 => lack(lengths[1], c.count),
-        ClassState::Phase2 => lack(lengths[2], c.count),
-        ClassState::Phase3 => lack(lengths[3], c.count),
+        ClassState::Phase0 => lack(c.lengths[0], c.count),
+        ClassState::Phase1 => lack(c.lengths[1], c.count),
+        ClassState::Phase2 => lack(c.lengths[2], c.count),
+        ClassState::Phase3 => lack(c.lengths[3], c.count),
         ClassState::Terminal => FOREVER,
     }
 }

@@ -3,13 +3,10 @@
 -- Assumes nothing.
 use Prim.Native.Nat.{ℕ, zero, suc, ◌+◌, ◌≤◌, ◌<◌}
 use mathlib.Core.Path.{◌≡◌, refl, sym, ap, ap₂, ◌∙◌, subst}
-use mathlib.Core.Bool.{Bool, true, false, cond, ◌&&◌, ◌||◌}
+use mathlib.Core.Bool.{Bool, true, false, ◌&&◌, ◌||◌}
 use mathlib.Core.List.{List, [], ◌∷◌, ◌++◌, append-nil, append_assoc}
 use native.Mathlib.Nat.{add-zero, add-suc}
-use native.Mathlib.Decide.{ℕ_discrete}
 use native.Mathlib.Omega.{arith}
-use borrow.Author.Tests.{eq-eqb, ne_eqb}
-use lib.Dec.{eqb}
 use lib.ListN.{length, length-append}
 use Rattle.bits.proofs.IndexLaws.{at_each, each_ext}
 use Rattle.bits.specs.Bits.{bit}
@@ -34,7 +31,7 @@ use Rattle.laws.proofs.Valid.KeepsValid.{ticked_valid}
 use Rattle.laws.proofs.Valid.Refusal7.{ticked_handler, ticked_lines}
 use Rattle.laws.proofs.Valid.ValidLaws.{facts}
 use Rattle.laws.specs.Facts.{ClassValid}
-use Rattle.calm_rules.specs.Ticks.{calm_input, calm_run, calm_inputs, calm_output, change_word, change, calm_changes}
+use Rattle.calm_rules.specs.Ticks.{calm_input, calm_run, calm_inputs, calm_output, change, calm_changes}
 use Rattle.calm_laws.specs.Four as four
 use Rattle.laws.specs.OutputMasks.{lines_on}
 use Rattle.calm_laws.specs.Four.{class_of, four_step, changes, senders_after, changes_in, FourFit}
@@ -42,7 +39,7 @@ use Rattle.calm_laws.specs.Settled.{calm_assigned, calm_class_event, calm_interr
 use Rattle.calm_laws.specs.Stand.{Fits}
 use Rattle.calm_laws.specs.Steady.{steady}
 use Rattle.calm_laws.proofs.Classes.{step_changes_left, step_changes_fall}
-use Rattle.calm_laws.proofs.Rounds.{changes_twenty}
+use Rattle.calm_laws.proofs.Rounds.{changes_twenty, change_room}
 use Rattle.calm_laws.proofs.PlainTick.{bits_ext, calm_after_law}
 use Rattle.calm_laws.proofs.Settling.{settles}
 
@@ -222,39 +219,16 @@ module _ (h : Handler) (w : Wires) (v : valid h ≡ true) (off : is_on h ≡ fal
   room_next : (n : ℕ) → length (calm_changes h w n) + changes_in (calm_run h w n).classes ≤ 20
       → length (calm_changes h w (suc n)) + changes_in (calm_run h w (suc n)).classes ≤ 20
   unfolding calm_changes
-  room_next n r = go (ℕ_discrete (calm_output h w (suc n)).lines (calm_output h w n).lines)
-    where
-      cs : List Class
-      cs = (calm_run h w n).classes
-
-      s : ℕ → Signals
-      s = calm_signals (calm_run h w n) w
-
-      ws : List ℕ
-      ws = calm_changes h w n
-
-      before : (calm_output h w n).lines ≡ lines_on cs
-      before = output_lines h w v n ∙ lines_four (calm_run h w n)
-
-      now : (calm_output h w (suc n)).lines ≡ lines_on (four_step s cs)
-      now = output_lines h w v (suc n) ∙ lines_four (calm_run h w (suc n)) ∙ ap lines_on (next_classes n)
-
-      is : (b : Bool) → eqb (calm_output h w (suc n)).lines (calm_output h w n).lines ≡ b
-          → length (ws ++ change (calm_output h w n).lines (calm_output h w (suc n)).lines (suc n)) ≡ length ws + cond b 0 1
-      is b e = length-append ws _ ∙ ap (λ (x : ℕ). length ws + x) (ap (λ (c : Bool). length (cond c [] (change_word (calm_output h w (suc n)).lines (suc n) ∷ []))) e ∙ one b)
-        where
-          one : (b : Bool) → length (cond b [] (change_word (calm_output h w (suc n)).lines (suc n) ∷ [])) ≡ cond b 0 1
-          one true = refl
-          one false = refl
-
-      left : changes_in (calm_run h w (suc n)).classes ≡ changes_in (four_step s cs)
-      left = ap changes_in (next_classes n)
-
-      go : Dec ((calm_output h w (suc n)).lines ≡ (calm_output h w n).lines)
-          → length (ws ++ change (calm_output h w n).lines (calm_output h w (suc n)).lines (suc n)) + changes_in (calm_run h w (suc n)).classes ≤ 20
-      go (yes e) = omega (arith, is true (eq-eqb _ _ e), left, step_changes_left s (no_clear_in (calm_run h w n) w) cs, r)
-      go (no e) =
-          omega (arith, is false (ne_eqb _ _ e), left, step_changes_fall s (no_clear_in (calm_run h w n) w) cs (λ x. e (now ∙ x ∙ sym before)), r)
+  room_next n r =
+      let cs = (calm_run h w n).classes in
+      let s = calm_signals (calm_run h w n) w in
+      let before : (calm_output h w n).lines ≡ lines_on cs = output_lines h w v n ∙ lines_four (calm_run h w n) in
+      let now : (calm_output h w (suc n)).lines ≡ lines_on (four_step s cs) =
+      output_lines h w v (suc n) ∙ lines_four (calm_run h w (suc n)) ∙ ap lines_on (next_classes n) in
+      rw (ap changes_in (next_classes n))
+      (change_room (calm_changes h w n) _ _ (suc n) (changes_in cs) (changes_in (four_step s cs)) r
+      (step_changes_left s (no_clear_in (calm_run h w n) w) cs)
+      (λ d. step_changes_fall s (no_clear_in (calm_run h w n) w) cs (λ x. d (now ∙ x ∙ sym before))))
 
   pub room_left : (n : ℕ) → length (calm_changes h w n) + changes_in (calm_run h w n).classes ≤ 20
   unfolding calm_changes calm_run

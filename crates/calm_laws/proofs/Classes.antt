@@ -1,15 +1,14 @@
 -- Request (xii), the four classes: a jump is that many plain ticks, without a change of a line; and a round of the engine.
 -- Assumes nothing.
 use Prim.Native.Nat.{ℕ, zero, suc, ◌+◌, ◌≤◌, ◌<◌}
-use mathlib.Core.Path.{◌≡◌, refl, sym, ap, ap₂, ◌∙◌, fun_ext, subst}
+use mathlib.Core.Path.{◌≡◌, refl, sym, ap, ◌∙◌, fun_ext, subst}
 use mathlib.Core.Bool.{Bool, true, false, cond}
-use mathlib.Core.List.{List, [], ◌∷◌, ◌++◌, append-nil, append_assoc}
+use mathlib.Core.List.{List}
 use native.Mathlib.Omega.{arith}
 use native.Mathlib.Nat.{add-zero, add-suc}
 use native.Mathlib.Decide.{dec_lt}
 use lib.Dec.{leb}
-use lib.ListN.{get_or, length, take, drop, set, length-append, take-append-drop}
-use lib.Seq.{set_at, drop-cons, length-take-le, append_snoc}
+use lib.ListN.{length}
 use Rattle.bits.specs.Bits.{bits_of}
 use Rattle.bits.proofs.IndexLaws.{at_each, length_each, is_each, any_ext}
 use Rattle.class_rules.specs.Class.{drives, no_class}
@@ -19,7 +18,7 @@ use Rattle.class_rules.specs.declared.Signals.{Signals}
 use Rattle.calm_laws.specs.Stand.{class_after, forever, least, stands, jumped, Fits}
 use Rattle.calm_laws.specs.Rank.{changes_left, moves_left}
 use Rattle.laws.specs.OutputMasks.{lines_on}
-use Rattle.calm_laws.specs.Four.{class_of, four_step, after, four_stands, four_jump, four_of, changes_in, moves_in, FourFit, lent}
+use Rattle.calm_laws.specs.Four.{class_of, four_step, after, four_stands, four_jump, four_of, changes_in, moves_in, FourFit}
 use Rattle.calm_laws.proofs.Standing.{least_below, leaves, stands_less}
 use Rattle.calm_laws.proofs.Jumps.{jump_is, same_lines, jumped_fits, step_fits}
 use Rattle.calm_laws.proofs.Ranks.{fewer_changes, same_drives, fewer_moves, same_state}
@@ -116,24 +115,6 @@ sum_same f g h e k l = go (dec_lt (f k) (g k))
 
 sum_ext : (f g : ℕ → ℕ) → ((k : ℕ) → k < 4 → f k ≡ g k) → four_of f ≡ four_of g
 sum_ext f g h = omega (arith, h 0 (omega arith), h 1 (omega arith), h 2 (omega arith), h 3 (omega arith))
-
--- ── words in the lent list ──
-
-pub lent_none : (first : ℕ) (old : List ℕ) → lent first [] old ≡ old
-unfolding lent
-lent_none first old = rw (append-nil, add-zero) (take-append-drop first old)
-
-pub lent_next : (first : ℕ) (ws old : List ℕ) (w : ℕ) → first + length ws < length old → set (lent first ws old) (first + length ws) w ≡ lent first (ws ++ (w ∷ [])) old
-unfolding lent
-lent_next first ws old w h =
-    let i = first + length ws in
-    let p = take first old ++ ws in
-    let n : length p ≡ i = length-append (take first old) ws ∙ ap (λ (x : ℕ). x + length ws) (length-take-le first old (omega arith)) in
-    let m : suc i ≡ first + length (ws ++ (w ∷ [])) = rw (length-append ws (w ∷ [])) (omega arith) in
-    ap (λ (ys : List ℕ). set (p ++ ys) i w) (drop-cons old i 0 h)
-    ∙ set_at p (get_or old i 0) (drop (suc i) old) w i n
-    ∙ sym (append_snoc p w (drop (suc i) old))
-    ∙ ap₂ (λ (ys : List ℕ) (x : ℕ). ys ++ drop x old) (append_assoc (take first old) ws (w ∷ [])) m
 
 -- ── what a tick and a jump leave ──
 

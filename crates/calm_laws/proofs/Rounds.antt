@@ -3,27 +3,28 @@
 use Prim.Native.Nat.{ℕ, zero, suc, ◌+◌, ◌-◌, ◌^◌, ◌≤◌, ◌<◌}
 use mathlib.Core.Path.{◌≡◌, refl, sym, ap, ap₂, ◌∙◌, subst}
 use mathlib.Core.Bool.{Bool, true, false, cond}
-use mathlib.Core.List.{List, [], ◌∷◌, ◌++◌, append-nil}
+use mathlib.Core.List.{List, [], ◌∷◌, ◌++◌, append-nil, append_assoc}
 use native.Mathlib.Omega.{arith}
 use native.Mathlib.Nat.{add-zero, add-suc}
 use native.Mathlib.Numerals.{add-one}
-use native.Mathlib.Decide.{dec_lt}
+use native.Mathlib.Decide.{dec_lt, ℕ_discrete}
 use borrow.Author.Tests.{eq-eqb, ne_eqb, lt-ltb, le-ltb}
-use lib.Dec.{eqb, ltb}
-use lib.ListN.{length, set, length-append, length-set}
+use lib.Dec.{ltb}
+use lib.ListN.{length, length-append}
 use Rattle.bits.specs.Bits.{num}
 use Rattle.class_rules.specs.declared.Class.{Class}
 use Rattle.class_rules.specs.declared.Signals.{Signals}
 use Rattle.calm_laws.specs.Stand.{least}
 use Rattle.link_rules.specs.Senders.{sent_all}
 use Rattle.link_rules.specs.declared.Senders.{Senders}
+use Rattle.calm_rules.specs.Call.{entries}
 use Rattle.calm_rules.specs.Ticks.{change_word, change}
 use Rattle.laws.specs.OutputMasks.{lines_on}
-use Rattle.calm_laws.specs.Four.{class_of, met, four_step, after, changes, four_stands, four_jump, changes_in, moves_in, FourFit, lent, senders_after, Running}
+use Rattle.calm_laws.specs.Four.{class_of, met, four_step, after, changes, four_stands, four_jump, changes_in, moves_in, FourFit, senders_after, Running}
 use Rattle.calm_laws.specs.Steady.{steady, senders_for}
 use Rattle.calm_laws.proofs.Standing.{least_left, least_right}
 use Rattle.calm_laws.proofs.Ranks.{changes_most, moves_most}
-use Rattle.calm_laws.proofs.Classes.{after_add, after_fit, jump_after, jump_lines, jump_changes_left, lent_none, lent_next, step_changes_left, step_changes_fall, jump_moves_left, step_moves_left, moves_fall}
+use Rattle.calm_laws.proofs.Classes.{after_add, after_fit, jump_after, jump_lines, jump_changes_left, step_changes_left, step_changes_fall, jump_moves_left, step_moves_left, moves_fall}
 
 -- 20 entries are enough
 pub changes_twenty : (cs : List Class) → changes_in cs ≤ 20
@@ -31,15 +32,24 @@ unfolding changes_in
 changes_twenty cs =
     omega (arith, changes_most (class_of cs 0), changes_most (class_of cs 1), changes_most (class_of cs 2), changes_most (class_of cs 3))
 
-module _ (s : ℕ → Signals) (k : (j : ℕ) → (s j).clear ≡ false) (cs : List Class) (ss : Senders) (v : FourFit cs) (from first : ℕ) (old : List ℕ) where
-  abbrev At : ℕ → List Class → Senders → ℕ → List ℕ → Type 0
-  At n ds ts written out = Running s cs ss from first old n ds ts written out
+-- what a tick's change takes of the room: a change of a line leaves fewer that can come
+pub change_room : (ws : List ℕ) (before lines t left next : ℕ) → length ws + left ≤ entries → next ≤ left → ((lines ≡ before → ⊥) → next < left)
+    → length (ws ++ change before lines t) + next ≤ entries
+change_room ws before lines t left next h l d = go (ℕ_discrete lines before)
+  where
+    go : Dec (lines ≡ before) → length (ws ++ change before lines t) + next ≤ entries
+    go (yes e) = rw (eq-eqb lines before e, append-nil) (omega (arith, h, l))
+    go (no e) = rw (ne_eqb lines before e, length-append ws (change_word lines t ∷ [])) (omega (arith, h, d e))
 
-  pub start : first + changes_in cs ≤ length old → At 0 cs ss first old
+module _ (s : ℕ → Signals) (k : (j : ℕ) → (s j).clear ≡ false) (cs : List Class) (ss : Senders) (v : FourFit cs) (from : ℕ) (old : List ℕ) where
+  abbrev At : ℕ → List Class → Senders → List ℕ → Type 0
+  At n ds ts ws = Running s cs ss from old n ds ts ws
+
+  pub start : length old + changes_in cs ≤ entries → At 0 cs ss old
   unfolding after changes senders_after
-  start h = record { classes = refl; senders = refl; words = sym (lent_none first old); count = sym (add-zero first); room = h; same = refl }
+  start h = record { classes = refl; senders = refl; words = sym (append-nil old); room = h }
 
-  module _ (n : ℕ) (ds : List Class) (ts : Senders) (written : ℕ) (out : List ℕ) (r : At n ds ts written out) where
+  module _ (n : ℕ) (ds : List Class) (ts : Senders) (ws : List ℕ) (r : At n ds ts ws) where
     pub now_fit : FourFit ds
     now_fit = subst FourFit (sym r.classes) (after_fit s k cs n v)
 
@@ -67,15 +77,13 @@ module _ (s : ℕ → Signals) (k : (j : ℕ) → (s j).clear ≡ false) (cs : L
         ∙ ap₂ (λ (z : Senders) (x : ℕ). sent_all z (steady x)) (steady_senders m (omega arith))
         (ap (λ (x : ℕ). lines_on (after s x cs)) (sym (add-suc n m)) ∙ lines_still (suc m) h)
 
-    pub jump : (m : ℕ) → m ≤ four_stands s ds → At (n + m) (four_jump s m ds) (senders_for (lines_on ds) m ts) written out
+    pub jump : (m : ℕ) → m ≤ four_stands s ds → At (n + m) (four_jump s m ds) (senders_for (lines_on ds) m ts) ws
     jump m h =
         record {
           classes = jump_after s k ds m now_fit h ∙ ap (after s m) r.classes ∙ sym (after_add s cs n m);
           senders = sym (steady_senders m h);
-          words = r.words ∙ ap (λ (ws : List ℕ). lent first ws old) (sym (no_changes m h));
-          count = r.count ∙ ap (λ (ws : List ℕ). first + length ws) (sym (no_changes m h));
+          words = r.words ∙ ap (λ (ys : List ℕ). old ++ ys) (sym (no_changes m h));
           room = omega (arith, r.room, jump_changes_left s k ds m);
-          same = r.same;
         }
 
     next_classes : four_step s ds ≡ after s (suc n) cs
@@ -93,49 +101,30 @@ module _ (s : ℕ → Signals) (k : (j : ℕ) → (s j).clear ≡ false) (cs : L
     lines_before : lines_on ds ≡ lines_on (after s n cs)
     lines_before = ap lines_on r.classes
 
-    change_is : (b : Bool) → eqb (lines_on (four_step s ds)) (lines_on ds) ≡ b
-        → changes s from (suc n) cs ≡ changes s from n cs ++ cond b [] (change_word (lines_on (four_step s ds)) (from + suc n) ∷ [])
+    -- the word of a plain tick, if it changes a line
+    abbrev noted : List ℕ
+    noted = change (lines_on ds) (lines_on (four_step s ds)) (from + suc n)
+
+    noted_is : changes s from n cs ++ noted ≡ changes s from (suc n) cs
     unfolding changes
-    change_is b e =
-        ap (λ (ws : List ℕ). changes s from n cs ++ ws)
-        (ap₂ (λ (x y : ℕ). change x y (from + suc n)) (sym lines_before) (sym lines_after)
-        ∙ ap (λ (t : Bool). cond t [] (change_word (lines_on (four_step s ds)) (from + suc n) ∷ [])) e)
+    noted_is = ap₂ (λ (x y : ℕ). changes s from n cs ++ change x y (from + suc n)) lines_before lines_after
 
-    -- a plain tick that changes no line
-    pub quiet : lines_on (four_step s ds) ≡ lines_on ds → At (suc n) (four_step s ds) (sent_all ts (steady (lines_on (four_step s ds)))) written out
-    quiet e =
-        let w : changes s from (suc n) cs ≡ changes s from n cs =
-        change_is true (eq-eqb (lines_on (four_step s ds)) (lines_on ds) e) ∙ append-nil (changes s from n cs) in
-        record {
-          classes = next_classes;
-          senders = next_senders;
-          words = r.words ∙ ap (λ (ws : List ℕ). lent first ws old) (sym w);
-          count = r.count ∙ ap (λ (ws : List ℕ). first + length ws) (sym w);
-          room = omega (arith, r.room, step_changes_left s k ds);
-          same = r.same;
-        }
-
-    -- one that changes a line: there is room for its word
-    pub room_for : (lines_on (four_step s ds) ≡ lines_on ds → ⊥) → written < length old
+    -- there is room for it
+    pub room_for : (lines_on (four_step s ds) ≡ lines_on ds → ⊥) → length ws < entries
     room_for d = omega (arith, r.room, step_changes_fall s k ds d)
 
-    pub changed : (lines_on (four_step s ds) ≡ lines_on ds → ⊥)
-        → At (suc n) (four_step s ds) (sent_all ts (steady (lines_on (four_step s ds)))) (suc written) (set out written (change_word (lines_on (four_step s ds)) (from + suc n)))
-    changed d =
-        let x = change_word (lines_on (four_step s ds)) (from + suc n) in
-        let ws = changes s from n cs in
-        let w : changes s from (suc n) cs ≡ ws ++ (x ∷ []) = change_is false (ne_eqb (lines_on (four_step s ds)) (lines_on ds) d) in
-        let l : first + length ws < length old = omega (arith, room_for d, r.count) in
+    pub next : At (suc n) (four_step s ds) (sent_all ts (steady (lines_on (four_step s ds)))) (ws ++ noted)
+    next =
         record {
           classes = next_classes;
           senders = next_senders;
           words =
-              ap₂ (λ (os : List ℕ) (i : ℕ). set os i x) r.words r.count
-              ∙ lent_next first ws old x l
-              ∙ ap (λ (ys : List ℕ). lent first ys old) (sym w);
-          count = let g : length (changes s from (suc n) cs) ≡ length ws + 1 = ap length w ∙ length-append ws (x ∷ []) in omega (arith, r.count);
-          room = omega (arith, r.room, step_changes_fall s k ds d);
-          same = length-set out written x ∙ r.same;
+              ap (λ (ys : List ℕ). ys ++ noted) r.words
+              ∙ append_assoc old (changes s from n cs) noted
+              ∙ ap (λ (ys : List ℕ). old ++ ys) noted_is;
+          room =
+              change_room ws (lines_on ds) (lines_on (four_step s ds)) (from + suc n) (changes_in ds) (changes_in (four_step s ds)) r.room
+              (step_changes_left s k ds) (step_changes_fall s k ds);
         }
 
 -- ── a round is a jump and a plain tick; at most 24 of them, and one more to the last tick ──
@@ -169,33 +158,27 @@ round_less s k ds v n done m h l e = go (dec_lt (four_stands s ds) (n - done - 1
 
 -- ── a round as the code takes it: a jump of m ticks to js and us, and a plain tick to ns and xs ──
 
-module _ (s : ℕ → Signals) (k : (j : ℕ) → (s j).clear ≡ false) (cs : List Class) (ss : Senders) (v : FourFit cs) (from first : ℕ) (old : List ℕ)
-    (n : ℕ) (ds : List Class) (ts : Senders) (written : ℕ) (out : List ℕ) (r : Running s cs ss from first old n ds ts written out)
+module _ (s : ℕ → Signals) (k : (j : ℕ) → (s j).clear ≡ false) (cs : List Class) (ss : Senders) (v : FourFit cs) (from : ℕ) (old : List ℕ)
+    (n : ℕ) (ds : List Class) (ts : Senders) (ws : List ℕ) (r : Running s cs ss from old n ds ts ws)
     (m : ℕ) (h : m ≤ four_stands s ds) (js ns : List Class) (j : js ≡ four_jump s m ds) (e : ns ≡ four_step s js)
     (us xs : Senders) (u : us ≡ senders_for (lines_on js) m ts) (x : xs ≡ sent_all us (steady (lines_on ns))) where
   fit : FourFit ds
-  fit = now_fit s k cs ss v from first old n ds ts written out r
+  fit = now_fit s k cs ss v from old n ds ts ws r
 
   still : lines_on js ≡ lines_on ds
   still = ap lines_on (j ∙ jump_after s k ds m fit h) ∙ jump_lines s k ds m fit h
 
-  jumped_to : Running s cs ss from first old (n + m) js us written out
+  jumped_to : Running s cs ss from old (n + m) js us ws
   jumped_to =
-      subst (λ (z : Senders). Running s cs ss from first old (n + m) js z written out) (ap (λ (l : ℕ). senders_for l m ts) (sym still) ∙ sym u)
-      (subst (λ (ys : List Class). Running s cs ss from first old (n + m) ys (senders_for (lines_on ds) m ts) written out) (sym j)
-      (jump s k cs ss v from first old n ds ts written out r m h))
+      subst (λ (z : Senders). Running s cs ss from old (n + m) js z ws) (ap (λ (l : ℕ). senders_for l m ts) (sym still) ∙ sym u)
+      (subst (λ (ys : List Class). Running s cs ss from old (n + m) ys (senders_for (lines_on ds) m ts) ws) (sym j)
+      (jump s k cs ss v from old n ds ts ws r m h))
 
-  pub round_quiet : lines_on ns ≡ lines_on js → Running s cs ss from first old (n + m + 1) ns xs written out
-  round_quiet l =
-      rw (add-one (n + m), x, e) (quiet s k cs ss v from first old (n + m) js us written out jumped_to (ap lines_on (sym e) ∙ l))
+  pub round_room : (lines_on ns ≡ lines_on js → ⊥) → length ws < entries
+  round_room d = room_for s k cs ss v from old (n + m) js us ws jumped_to (λ l. d (ap lines_on e ∙ l))
 
-  pub round_room : (lines_on ns ≡ lines_on js → ⊥) → written < length old
-  round_room d = room_for s k cs ss v from first old (n + m) js us written out jumped_to (λ l. d (ap lines_on e ∙ l))
-
-  pub round_changed : (lines_on ns ≡ lines_on js → ⊥) → (w : ℕ) → w ≡ change_word (lines_on ns) (from + (n + m + 1))
-      → Running s cs ss from first old (n + m + 1) ns xs (written + 1) (set out written w)
-  round_changed d w y =
-      rw (y, add-one (n + m), add-one written, x, e) (changed s k cs ss v from first old (n + m) js us written out jumped_to (λ l. d (ap lines_on e ∙ l)))
+  pub round_next : Running s cs ss from old (n + m + 1) ns xs (ws ++ change (lines_on js) (lines_on ns) (from + (n + m + 1)))
+  round_next = rw (add-one (n + m), x, e) (next s k cs ss v from old (n + m) js us ws jumped_to)
 
   -- what the round leaves of the measure, of t ticks in all
   pub round_falls : (t : ℕ) → t < 2 ^ 32 → n < t → m ≡ least (t - n - 1) (four_stands s ds)

@@ -7,17 +7,17 @@ use mathlib.Core.List.{List, [], ◌∷◌, ◌++◌, map, map-append, append-ni
 use native.Mathlib.Nat.{add-zero, add-suc}
 use native.Mathlib.Omega.{arith}
 use borrow.Author.Tests.{le-ltb}
-use lib.Dec.{eqb}
+use lib.Dec.{eqb, ltb}
 use lib.IntN.{ℤ, pos, negsuc}
 use lib.ListN.{length, take, drop, length-append}
 use lib.Seq.{take_at}
+use Rattle.std.specs.Prelude.{Result, Ok, Err}
 use Rattle.bits.specs.Fields.{pack}
 use Rattle.calm_rules.specs.Call.{calm_verdict, calmed_by, list_by, calmed, calmed_list}
 use Rattle.calm_rules.specs.Ticks.{calm_input, calm_run, calm_output, change_word, change, calm_changes}
+use Rattle.calm_rules.specs.declared.Bar.{Bar}
 use Rattle.calm_rules.specs.declared.Bar.TheVariants.{BadState, TimerOn, ShortList}
 use Rattle.calm_rules.specs.declared.Calmed.{Calmed}
-use Rattle.calm_rules.specs.declared.Verdict.{Verdict}
-use Rattle.calm_rules.specs.declared.Verdict.TheVariants.{Runs, Barred}
 use Rattle.laws.proofs.Valid.Refusal7.{ticked_good}
 use Rattle.rules.specs.State.{is_on}
 use Rattle.rules.specs.Tick.{interrupts, lines, output_of, tick, ticked}
@@ -87,20 +87,23 @@ module _ (h : Handler) (w : Wires) (v : valid h ≡ true) (m : ℕ) where
 
 -- ── calls that run ──
 
-pub runs_from : (h : Handler) (list : List ℕ) → valid h ≡ true → is_on h ≡ false → 20 ≤ length list → calm_verdict h list ≡ Runs
+-- the verdict from what is found of the state and the list
+pub judged : (h : Handler) (list : List ℕ) (a b c : Bool) → valid h ≡ a → is_on h ≡ b → ltb (length list) 20 ≡ c
+    → calm_verdict h list ≡ cond (not a) (Err BadState) (cond b (Err TimerOn) (cond c (Err ShortList) (Ok tt)))
 unfolding calm_verdict
-runs_from h list v off l =
-    let z = le-ltb (length list) 20 l in
-    λ i. cond (not (v i)) (Barred BadState) (cond (off i) (Barred TimerOn) (cond (z i) (Barred ShortList) Runs))
+judged h list a b c x y z = λ i. cond (not (x i)) (Err BadState) (cond (y i) (Err TimerOn) (cond (z i) (Err ShortList) (Ok tt)))
 
-module _ (h : Handler) (w : Wires) (n : ℕ) (list : List ℕ) (r : calm_verdict h list ≡ Runs) where
+pub runs_from : (h : Handler) (list : List ℕ) → valid h ≡ true → is_on h ≡ false → 20 ≤ length list → calm_verdict h list ≡ Ok tt
+runs_from h list v off l = judged h list true false false v off (le-ltb (length list) 20 l)
+
+module _ (h : Handler) (w : Wires) (n : ℕ) (list : List ℕ) (r : calm_verdict h list ≡ Ok tt) where
   pub gives : calmed h w n list ≡ record { handler = calm_run h w n; answer = pos (length (calm_changes h w n)); output = calm_output h w n }
   unfolding calmed
-  gives = ap (λ (x : Verdict). calmed_by x h w n) r
+  gives = ap (λ (x : Result (Unit {0}) Bar). calmed_by x h w n) r
 
   pub leaves : calmed_list h w n list ≡ calm_changes h w n ++ drop (length (calm_changes h w n)) list
   unfolding calmed_list
-  leaves = ap (λ (x : Verdict). list_by x h w n list) r
+  leaves = ap (λ (x : Result (Unit {0}) Bar). list_by x h w n list) r
 
   -- the words are as many as it answers
   pub count_is : (x : ℕ) → (calmed h w n list).answer ≡ pos x → x ≡ length (calm_changes h w n)
@@ -132,10 +135,10 @@ two_calls h w m n us vs ws v off la lb lc =
       lines = ap (λ (c : Calmed). c.output.lines) then ∙ sym (lines_add h w v m n) ∙ sym (ap (λ (c : Calmed). c.output.lines) one);
     }
   where
-    ra : calm_verdict h us ≡ Runs
+    ra : calm_verdict h us ≡ Ok tt
     ra = runs_from h us v off la
 
-    rc : calm_verdict h ws ≡ Runs
+    rc : calm_verdict h ws ≡ Ok tt
     rc = runs_from h ws v off lc
 
     one : calmed h w (m + n) ws ≡ record { handler = calm_run h w (m + n); answer = pos (length (calm_changes h w (m + n))); output = calm_output h w (m + n) }
@@ -144,10 +147,10 @@ two_calls h w m n us vs ws v off la lb lc =
     first : (calmed h w m us).handler ≡ calm_run h w m
     first = ap (λ (c : Calmed). c.handler) (gives h w m us ra)
 
-    rb : calm_verdict (calm_run h w m) vs ≡ Runs
+    rb : calm_verdict (calm_run h w m) vs ≡ Ok tt
     rb = runs_from (calm_run h w m) vs (calm_valid h w v m) (calm_off h w v off m) lb
 
-    second : calm_verdict (calmed h w m us).handler vs ≡ Runs
+    second : calm_verdict (calmed h w m us).handler vs ≡ Ok tt
     second = ap (λ (x : Handler). calm_verdict x vs) first ∙ rb
 
     then : calmed (calmed h w m us).handler w n vs

@@ -7,11 +7,11 @@ use mathlib.Core.Bool.{true, false}
 use mathlib.Core.List.{List, ◌++◌, map}
 use lib.IntN.{pos}
 use lib.ListN.{get_or, length, take}
+use Rattle.std.specs.Prelude.{Ok}
 use Rattle.bits.specs.Bits.{bits_of, field, place}
 use Rattle.calm_rules.specs.Call.{calm_verdict, calmed, calmed_list}
 use Rattle.calm_rules.specs.Ticks.{calm_output, calm_changes}
 use Rattle.calm_rules.specs.declared.Calmed.{Calmed}
-use Rattle.calm_rules.specs.declared.Verdict.TheVariants.{Runs}
 use Rattle.rules.specs.State.{is_on}
 use Rattle.rules.specs.Tick.{lines}
 use Rattle.rules.specs.Valid.{valid}
@@ -34,7 +34,7 @@ module _ (h : Handler) (w : Wires) (m n : ℕ) (us vs ws : List ℕ) (v : valid 
   abbrev one : Calmed
   one = calmed h w (m + n) ws
 
-  runs : calm_verdict first.handler vs ≡ Runs
+  runs : calm_verdict first.handler vs ≡ Ok tt
   runs = (two_calls h w m n us vs ws v off lu lv lw).runs_on
 
   states : second.handler ≡ one.handler

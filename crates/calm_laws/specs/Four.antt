@@ -1,6 +1,6 @@
 -- Request (xii): the four classes over calm ticks, the ticks at which a line changed, and the senders of the lines with them.
 -- Assumes nothing.
-use Rattle.std.specs.Prelude.{ℕ, zero, suc, ◌+◌, ◌≤◌, ◌<◌, ◌≡◌, false, List, [], ◌++◌, get_or, length, take, drop}
+use Rattle.std.specs.Prelude.{ℕ, zero, suc, ◌+◌, ◌≤◌, ◌<◌, ◌≡◌, false, List, [], ◌++◌, get_or, length}
 use Rattle.bits.specs.Bits.{bit}
 use Rattle.bits.specs.Index.{each}
 use Rattle.class_rules.specs.Class.{no_class}
@@ -10,6 +10,7 @@ use Rattle.class_rules.specs.declared.Signals.{Signals}
 use Rattle.laws.specs.OutputMasks.{lines_on}
 use Rattle.link_rules.specs.Senders.{sent_all}
 use Rattle.link_rules.specs.declared.Senders.{Senders}
+use Rattle.calm_rules.specs.Call.{entries}
 use Rattle.calm_rules.specs.Ticks.{change}
 use Rattle.calm_laws.specs.Stand.{least, stands, jumped, Fits}
 use Rattle.calm_laws.specs.Rank.{changes_left, moves_left}
@@ -72,16 +73,10 @@ pub record FourFit (cs : List Class) : Type 0 where
 
 -- ── the engine on its way ──
 
--- the lent list with words from `first` on; what stands before and after them stays
-unfoldable pub lent : ℕ → List ℕ → List ℕ → List ℕ
-lent first ws old = (take first old ++ ws) ++ drop (first + length ws) old
-
--- n ticks after tick `from` have led from cs and ss to ds and ts; the words of their changes stand in the list, and it has room for those that can
+-- n ticks after tick `from` have led from cs and ss to ds and ts; the words of their changes follow those before them, with room for those that can
 -- still come
-pub record Running (s : ℕ → Signals) (cs : List Class) (ss : Senders) (from first : ℕ) (old : List ℕ) (n : ℕ) (ds : List Class) (ts : Senders) (written : ℕ) (out : List ℕ) : Type 0 where
+pub record Running (s : ℕ → Signals) (cs : List Class) (ss : Senders) (from : ℕ) (old : List ℕ) (n : ℕ) (ds : List Class) (ts : Senders) (left : List ℕ) : Type 0 where
   pub classes : ds ≡ after s n cs
   pub senders : ts ≡ senders_after s n cs ss
-  pub words : out ≡ lent first (changes s from n cs) old
-  pub count : written ≡ first + length (changes s from n cs)
-  pub room : written + changes_in ds ≤ length old
-  pub same : length out ≡ length old
+  pub words : left ≡ old ++ changes s from n cs
+  pub room : length left + changes_in ds ≤ entries

@@ -1,9 +1,8 @@
 -- Request (xii), the claim of two calm calls, of m ticks and then of n: they give what one call of m + n gives. The lent lists are us, vs and ws.
 -- proofs/TwoCalls.antt proves it of every state that a call runs from.
 -- Assumes nothing.
-use Rattle.std.specs.Prelude.{ℕ, ◌+◌, ◌<◌, ◌≡◌, List, ◌++◌, map, pos, take}
+use Rattle.std.specs.Prelude.{ℕ, ◌+◌, ◌<◌, ◌≡◌, List, ◌++◌, map, pos, take, Ok}
 use Rattle.calm_rules.specs.Call.{calm_verdict, calmed, calmed_list}
-use Rattle.calm_rules.specs.declared.Verdict.TheVariants.{Runs}
 use Rattle.rules.specs.declared.Handler.{Handler}
 use Rattle.rules.specs.declared.Wires.{Wires}
 
@@ -13,7 +12,7 @@ later m word = word + m
 
 pub record TwoCalls (h : Handler) (w : Wires) (m n : ℕ) (us vs ws : List ℕ) : Type 0 where
   -- the second call runs too
-  pub runs_on : calm_verdict (calmed h w m us).handler vs ≡ Runs
+  pub runs_on : calm_verdict (calmed h w m us).handler vs ≡ Ok tt
   -- the state is the same
   pub state : (calmed (calmed h w m us).handler w n vs).handler ≡ (calmed h w (m + n) ws).handler
   -- the answers add up

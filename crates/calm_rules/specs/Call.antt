@@ -1,6 +1,6 @@
 -- Request (xii), "Skip the calm": a call of n calm ticks, with its refusals and the lent list of changes.
 -- Assumes nothing.
-use Rattle.std.specs.Prelude.{ℕ, cond, not, List, [], ◌++◌, ltb, pos, neg_ℤ, length, drop}
+use Rattle.std.specs.Prelude.{ℕ, cond, not, List, [], ◌++◌, ltb, pos, neg_ℤ, length, drop, Result, Ok, Err}
 use Rattle.rules.specs.State.{is_on}
 use Rattle.rules.specs.Tick.{no_output}
 use Rattle.rules.specs.Valid.{valid}
@@ -11,8 +11,6 @@ use Rattle.calm_rules.specs.Ticks.{calm_run, calm_inputs, calm_output, calm_chan
 use Rattle.calm_rules.specs.declared.Bar.{Bar}
 use Rattle.calm_rules.specs.declared.Bar.TheVariants.{BadState, TimerOn, ShortList}
 use Rattle.calm_rules.specs.declared.Calmed.{Calmed}
-use Rattle.calm_rules.specs.declared.Verdict.{Verdict}
-use Rattle.calm_rules.specs.declared.Verdict.TheVariants.{Runs, Barred}
 
 -- the refusal number of each case
 abbrev pub bar_number : Bar → ℕ
@@ -25,29 +23,29 @@ abbrev pub entries : ℕ
 entries = 20
 
 -- "It runs with the ping timer off, and otherwise is refused with 15; the list of changes needs 20 entries, .. else 18. The order is 7, 15, 18"
-unfoldable pub calm_verdict : Handler → List ℕ → Verdict
+unfoldable pub calm_verdict : Handler → List ℕ → Result (Unit {0}) Bar
 calm_verdict h list =
-    cond (not (valid h)) (Barred BadState) (cond (is_on h) (Barred TimerOn) (cond (ltb (length list) entries) (Barred ShortList) Runs))
+    cond (not (valid h)) (Err BadState) (cond (is_on h) (Err TimerOn) (cond (ltb (length list) entries) (Err ShortList) (Ok tt)))
 
 -- the inputs of the ticks that it runs: none if it is refused
-abbrev pub inputs_by : Verdict → Handler → Wires → ℕ → List Input
-inputs_by Runs h w n = calm_inputs h w n
-inputs_by (Barred b) h w n = []
+abbrev pub inputs_by : Result (Unit {0}) Bar → Handler → Wires → ℕ → List Input
+inputs_by (Ok _) h w n = calm_inputs h w n
+inputs_by (Err b) h w n = []
 
 -- the words of its changes: none if it is refused
-abbrev pub words_by : Verdict → Handler → Wires → ℕ → List ℕ
-words_by Runs h w n = calm_changes h w n
-words_by (Barred b) h w n = []
+abbrev pub words_by : Result (Unit {0}) Bar → Handler → Wires → ℕ → List ℕ
+words_by (Ok _) h w n = calm_changes h w n
+words_by (Err b) h w n = []
 
 -- state, answer and outputs: "It answers their number"; a refusal "leaves state and list unchanged, outputs as on 7"
-abbrev pub calmed_by : Verdict → Handler → Wires → ℕ → Calmed
-calmed_by Runs h w n = record { handler = calm_run h w n; answer = pos (length (calm_changes h w n)); output = calm_output h w n }
-calmed_by (Barred b) h w n = record { handler = h; answer = neg_ℤ (pos (bar_number b)); output = no_output }
+abbrev pub calmed_by : Result (Unit {0}) Bar → Handler → Wires → ℕ → Calmed
+calmed_by (Ok _) h w n = record { handler = calm_run h w n; answer = pos (length (calm_changes h w n)); output = calm_output h w n }
+calmed_by (Err b) h w n = record { handler = h; answer = neg_ℤ (pos (bar_number b)); output = no_output }
 
 -- the lent list that it leaves: "later entries stay"
-abbrev pub list_by : Verdict → Handler → Wires → ℕ → List ℕ → List ℕ
-list_by Runs h w n list = calm_changes h w n ++ drop (length (calm_changes h w n)) list
-list_by (Barred b) h w n list = list
+abbrev pub list_by : Result (Unit {0}) Bar → Handler → Wires → ℕ → List ℕ → List ℕ
+list_by (Ok _) h w n list = calm_changes h w n ++ drop (length (calm_changes h w n)) list
+list_by (Err b) h w n list = list
 
 -- ── the call ──
 

@@ -3,18 +3,12 @@
 
 use rules::{Handler, Output};
 
-// Why a calm call does not begin. No access gives these, so that they stand apart from an access's refusals.
+// Why a calm call does not begin, each with the number of its refusal. No access gives these, so that they stand apart from an access's refusals.
 #[derive(Clone, Copy)]
 pub enum Bar {
-    BadState,
-    TimerOn,
-    ShortList,
-}
-
-#[derive(Clone, Copy)]
-pub enum Verdict {
-    Runs,
-    Barred(Bar),
+    BadState = 7,
+    TimerOn = 15,
+    ShortList = 18,
 }
 
 // What a calm call gives: the state after its ticks, the answer as one signed number, and the outputs of the last tick.

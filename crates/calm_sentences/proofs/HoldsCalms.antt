@@ -4,23 +4,22 @@
 use Prim.Native.Nat.{ℕ, ◌≤◌}
 use mathlib.Core.Path.{◌≡◌, refl, sym, ap, ◌∙◌, subst}
 use mathlib.Core.Logic.{◌≢◌}
-use mathlib.Core.Bool.{Bool, true, false, false≢true, cond, not}
+use mathlib.Core.Bool.{Bool, true, false, false≢true, not}
 use mathlib.Core.List.{List}
 use native.Mathlib.Omega.{arith}
 use borrow.Author.Tests.{lt-ltb, eq-eqb, ne_eqb}
 use lib.Dec.{ltb}
 use lib.ListN.{length}
+use Rattle.std.specs.Prelude.{Result, Ok, Err}
 use Rattle.bits.specs.Bits.{bits_of}
 use Rattle.bits.proofs.BitLaws.{bit_bits_of}
 use Rattle.calm_laws.proofs.CalmRuns.{output_lines}
-use Rattle.calm_laws.proofs.TwoCalls.{runs_from, gives, leaves}
+use Rattle.calm_laws.proofs.TwoCalls.{judged, runs_from, gives, leaves}
 use Rattle.calm_rules.specs.Call.{bar_number, calm_verdict, calmed_by, list_by, calmed, calmed_list}
 use Rattle.calm_rules.specs.Ticks.{calm_input, calm_run, calm_output, calm_changes}
 use Rattle.calm_rules.specs.declared.Bar.{Bar}
 use Rattle.calm_rules.specs.declared.Bar.TheVariants.{BadState, TimerOn, ShortList}
 use Rattle.calm_rules.specs.declared.Calmed.{Calmed}
-use Rattle.calm_rules.specs.declared.Verdict.{Verdict}
-use Rattle.calm_rules.specs.declared.Verdict.TheVariants.{Runs, Barred}
 use Rattle.rules.specs.Answer.{number}
 use Rattle.rules.specs.State.{is_on, sender}
 use Rattle.rules.specs.Tick.{no_output, lines, output_of, ticked}
@@ -91,14 +90,14 @@ holds_tick0 h w =
 -- ── the call ──
 
 module _ (h : Handler) (w : Wires) (n : ℕ) (list : List ℕ) where
-  refused : (b : Bar) → calm_verdict h list ≡ Barred b → Refuses (bar_number b) h list (calmed h w n list) (calmed_list h w n list)
+  refused : (b : Bar) → calm_verdict h list ≡ Err b → Refuses (bar_number b) h list (calmed h w n list) (calmed_list h w n list)
   unfolding calmed calmed_list
   refused b e =
-      let r : calmed h w n list ≡ calmed_by (Barred b) h w n = ap (λ (v : Verdict). calmed_by v h w n) e in
+      let r : calmed h w n list ≡ calmed_by (Err b) h w n = ap (λ (v : Result (Unit {0}) Bar). calmed_by v h w n) e in
       record {
         answer = ap (λ (c : Calmed). c.answer) r;
         state = ap (λ (c : Calmed). c.handler) r;
-        same_list = ap (λ (v : Verdict). list_by v h w n list) e;
+        same_list = ap (λ (v : Result (Unit {0}) Bar). list_by v h w n list) e;
         output = record {
           interrupts = ap (λ (c : Calmed). c.output.interrupts) r;
           lines = ap (λ (c : Calmed). c.output.lines) r;
@@ -108,13 +107,8 @@ module _ (h : Handler) (w : Wires) (n : ℕ) (list : List ℕ) where
         };
       }
 
-  judged : (a b c : Bool) → valid h ≡ a → is_on h ≡ b → ltb (length list) 20 ≡ c
-      → calm_verdict h list ≡ cond (not a) (Barred BadState) (cond b (Barred TimerOn) (cond c (Barred ShortList) Runs))
-  unfolding calm_verdict
-  judged a b c x y z = λ i. cond (not (x i)) (Barred BadState) (cond (y i) (Barred TimerOn) (cond (z i) (Barred ShortList) Runs))
-
   module _ (v : valid h ≡ true) (o : is_on h ≡ false) (room : 20 ≤ length list) (small : n ≤ 4294967295) where
-    runs : calm_verdict h list ≡ Runs
+    runs : calm_verdict h list ≡ Ok tt
     runs = runs_from h list v o room
 
     line_bits : (t : ℕ) → (calm_output h w t).lines ≤ 15
@@ -148,11 +142,11 @@ module _ (h : Handler) (w : Wires) (n : ℕ) (list : List ℕ) where
   holds_call : n ≤ 4294967295 → CalmIs ticked h w n list (calmed h w n list) (calmed_list h w n list)
   holds_call s =
       record {
-        refused_7 = λ v. refused BadState (judged false (is_on h) (ltb (length list) 20) (off (valid h) (holds_valid h) v) refl refl);
+        refused_7 = λ v. refused BadState (judged h list false (is_on h) (ltb (length list) 20) (off (valid h) (holds_valid h) v) refl refl);
         refused_15 = λ v e.
-            refused TimerOn (judged true true (ltb (length list) 20) ((holds_valid h).1 v) (eq-eqb h.timer.enable 1 e) refl);
+            refused TimerOn (judged h list true true (ltb (length list) 20) ((holds_valid h).1 v) (eq-eqb h.timer.enable 1 e) refl);
         refused_18 = λ v e l.
-            refused ShortList (judged true false true ((holds_valid h).1 v) (ne_eqb h.timer.enable 1 e) (lt-ltb (length list) 20 l));
+            refused ShortList (judged h list true false true ((holds_valid h).1 v) (ne_eqb h.timer.enable 1 e) (lt-ltb (length list) 20 l));
         advances = λ v e l. advances ((holds_valid h).1 v) (ne_eqb h.timer.enable 1 e) l s;
       }
 

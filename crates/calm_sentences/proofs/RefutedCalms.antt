@@ -8,11 +8,11 @@ use native.Mathlib.Omega.{arith}
 use lib.Dec.{ltb}
 use lib.IntN.{pos}
 use lib.ListN.{get_or, length, drop, replicate}
+use Rattle.std.specs.Prelude.{Ok, Err}
 use Rattle.calm_laws.specs.Tells.{lines_in}
 use Rattle.calm_rules.specs.Call.{calmed_by, calmed, calmed_list, call_words}
 use Rattle.calm_rules.specs.declared.Bar.TheVariants.{TimerOn, ShortList}
 use Rattle.calm_rules.specs.declared.Calmed.{Calmed}
-use Rattle.calm_rules.specs.declared.Verdict.TheVariants.{Runs, Barred}
 use Rattle.rules.specs.State.{is_on, class_at}
 use Rattle.rules.specs.Tick.{lines, no_output, output_of, ticked}
 use Rattle.rules.specs.declared.Access.{Access}
@@ -119,7 +119,7 @@ number_in c left = refusal_of_law c.answer
 
 -- 15 before 7
 abbrev hasty_15 : Handler → Wires → ℕ → List ℕ → Calmed
-hasty_15 h w n list = cond (is_on h) (calmed_by (Barred TimerOn) h w n) (calmed h w n list)
+hasty_15 h w n list = cond (is_on h) (calmed_by (Err TimerOn) h w n) (calmed h w n list)
 
 pub no_fifteen_before_seven : ¬ Calms hasty_15 calmed_list
 unfolding calms
@@ -127,7 +127,7 @@ no_fifteen_before_seven = differs_in hasty_15 calmed_list 1 16 0 low 1 20 number
 
 -- 18 before 15
 abbrev hasty_18 : Handler → Wires → ℕ → List ℕ → Calmed
-hasty_18 h w n list = cond (ltb (length list) 20) (calmed_by (Barred ShortList) h w n) (calmed h w n list)
+hasty_18 h w n list = cond (ltb (length list) 20) (calmed_by (Err ShortList) h w n) (calmed h w n list)
 
 pub no_eighteen_before_fifteen : ¬ Calms hasty_18 calmed_list
 unfolding calms
@@ -143,7 +143,7 @@ no_nineteen_entries = differs_in lenient calmed_list 0 0 0 low 1 19 number_in 0 
 
 -- it runs with the timer on
 abbrev unstopped : Handler → Wires → ℕ → List ℕ → Calmed
-unstopped h w n list = cond (is_on h) (calmed_by Runs h w n) (calmed h w n list)
+unstopped h w n list = cond (is_on h) (calmed_by (Ok tt) h w n) (calmed h w n list)
 
 pub no_run_with_timer_on : ¬ Calms unstopped calmed_list
 unfolding calms

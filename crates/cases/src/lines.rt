@@ -1,7 +1,7 @@
 // Request (i), a class with no lines: all four line enables off does the same as EN off.
 use crate::play::{
-    CTRL, INTR_ENABLE, PHASE0_CYC, RAISE, REST, TIMEOUT_CYC, configure, print, show, show_rest,
-    stage, station,
+    CTRL, INTR_ENABLE, PHASE0_CYC, RAISE, REST, TIMEOUT_CYC, configure, show, show_rest, stage,
+    station,
 };
 use rules::Access;
 
@@ -13,7 +13,7 @@ const NO_LINES: u32 = 0x3903;
 
 // No event and no interrupt from an alert; an interrupt by INTR_TEST is not due.
 pub fn no_event(rt: &impl Print) {
-    print(rt, b"no lines: no event\n");
+    say!(rt; "no lines: no event\n");
     let h = configure(station(0), TIMEOUT_CYC, 1);
     let h = configure(h, INTR_ENABLE, 1);
     let h = configure(h, CTRL, NO_LINES);
@@ -24,7 +24,7 @@ pub fn no_event(rt: &impl Print) {
 
 // A Timeout falls back to Idle, though the interrupt bit is 1.
 pub fn timeout(rt: &impl Print) {
-    print(rt, b"no lines: a timeout falls back\n");
+    say!(rt; "no lines: a timeout falls back\n");
     let h = configure(station(100), TIMEOUT_CYC, 4);
     let h = configure(h, INTR_ENABLE, 1);
     let h = stage(h, CTRL, NO_LINES);
@@ -36,7 +36,7 @@ pub fn timeout(rt: &impl Print) {
 
 // A running phase goes on to Terminal, driving no line; an event is no longer counted.
 pub fn phase(rt: &impl Print) {
-    print(rt, b"no lines: a phase goes on\n");
+    say!(rt; "no lines: a phase goes on\n");
     let h = configure(station(0), PHASE0_CYC, 5);
     let h = stage(h, CTRL, NO_LINES);
     let h = show(rt, h, Access::Nothing, RAISE);

@@ -2,6 +2,13 @@
 // wires and a class with no lines, through the code's own tick, the trace writer and shadow writes. What each prints is held to the file `stdout`.
 #![tactic(auto)]
 
+// Prints. What the output doesn't take is dropped: the cases that follow are printed all the same.
+macro_rules! say {
+    ($rt:expr; $($what:tt)+) => {
+        let _ = print!($rt; $($what)+);
+    };
+}
+
 mod play; // play.rt: one tick, played and shown
 mod refusals; // refusals.rt: answers of single accesses
 mod slips; // slips.rt: "Slips that look right"

@@ -1,10 +1,7 @@
 // Request (ix), the ping timer: its turns through the code's own tick, as an older record gives them, with a bit for a line's answer. Registers by the
 // map's numbers.
 use crate::pairs::{NEXT_CLASS, watched};
-use crate::play::{
-    ACCUM_CNT, ALERT0_REGWEN, RAISE, REST, configure, print, print_answer, print_number,
-    show_value, stage, timing,
-};
+use crate::play::{ACCUM_CNT, ALERT0_REGWEN, RAISE, REST, configure, stage, timing, value};
 use rules::{Access, Handler, Receive};
 
 // The timer's timeout and enable, REGWEN of alert 0.
@@ -33,14 +30,12 @@ pub fn begin(h: Handler, word: u32) -> Handler {
 
 // Whether the ping of alert 0 is open.
 fn is_open(h: Handler) -> u64 {
-    let r = h.links.receivers;
-    r.pending[0] / RAISE
+    h.links.receivers.pending[0] / RAISE
 }
 
 // The level of its ping pair, which changes where its ping opens.
 pub fn level(h: Handler) -> u64 {
-    let r = h.links.receivers;
-    r.level[0] / RAISE
+    h.links.receivers.level[0] / RAISE
 }
 
 // The timer's timeout is given, by two equal writes.
@@ -62,37 +57,15 @@ fn locked(timeout: u32) -> Handler {
     stage(timed(timeout), ALERT0_REGWEN, 0)
 }
 
-// The turn's number and count, whether alert 0's ping is open, and the lines whose ping is.
-fn show_turn(rt: &impl Print, h: Handler) {
-    print_number(rt, h.links.turn.number as u64);
-    print(rt, b" ");
-    print_number(rt, h.links.turn.count as u64);
-    print(rt, b" ");
-    print_number(rt, is_open(h));
-    print(rt, b" ");
-    print_number(rt, h.links.lines as u64);
-    print(rt, b" ");
-}
-
-// A tick, shown as: alert 0's positive wire and the lines that answer; the access's answer; the turn; ACCUM_CNT of classes 0 and 1, CAUSE of local
-// alerts 0 and 1, and the level of alert 0's ping pair.
+// A tick, shown as: alert 0's positive wire and the lines that answer; the access's answer; the turn's number and count, whether alert 0's ping is open,
+// and the lines whose ping is; ACCUM_CNT of classes 0 and 1, CAUSE of local alerts 0 and 1, and the level of alert 0's ping pair.
 fn show_tick(rt: &impl Print, h: Handler, x: Access, pos: u64, word: u32, answers: u32) -> Handler {
     let t = handler::tick::tick(h, timing(x, pos, !pos, word, Receive::Answers(answers)));
     let g = t.handler;
-    print(rt, b"  ");
-    print_number(rt, pos / RAISE);
-    print(rt, b" ");
-    print_number(rt, answers as u64);
-    print(rt, b" ");
-    print_answer(rt, t.answer);
-    print(rt, b" ");
-    show_turn(rt, g);
-    show_value(rt, g, ACCUM_CNT);
-    show_value(rt, g, ACCUM_CNT + NEXT_CLASS);
-    show_value(rt, g, LOCAL0_CAUSE);
-    show_value(rt, g, LOCAL0_CAUSE + 1);
-    print_number(rt, level(g));
-    print(rt, b"\n");
+    say!(rt; "  {} {} {} ", pos / RAISE, answers, t.answer);
+    say!(rt; "{} {} {} {} ", g.links.turn.number, g.links.turn.count, is_open(g), g.links.lines);
+    say!(rt; "{} {} ", value(g, ACCUM_CNT), value(g, ACCUM_CNT + NEXT_CLASS));
+    say!(rt; "{} {} {}\n", value(g, LOCAL0_CAUSE), value(g, LOCAL0_CAUSE + 1), level(g));
     g
 }
 
@@ -114,7 +87,7 @@ fn line_due(rt: &impl Print, timeout: u32) -> Handler {
 
 // "its low 16 bits plus 1 are the ticks to the ping": 3; a rise answers it and is no event, and that tick's word sets the next turn.
 pub fn answered(rt: &impl Print) {
-    print(rt, b"timer: a ping answered by a rise\n");
+    say!(rt; "timer: a ping answered by a rise\n");
     let h = show_begin(rt, locked(9), 2);
     let h = show_rest(rt, h);
     let h = show_rest(rt, h);
@@ -126,7 +99,7 @@ pub fn answered(rt: &impl Print) {
 
 // "unanswered up to and in the first tick at least the timeout after it": local 0 occurs, the ping closes, and a rise is an event again.
 pub fn failing(rt: &impl Print) {
-    print(rt, b"timer: a ping that fails after 2 ticks\n");
+    say!(rt; "timer: a ping that fails after 2 ticks\n");
     let h = show_begin(rt, locked(2), 0);
     let h = show_rest(rt, h);
     let h = show_rest(rt, h);
@@ -136,7 +109,7 @@ pub fn failing(rt: &impl Print) {
 
 // A line's ping is answered by its own bit; another line's counts for nothing.
 pub fn line_answered(rt: &impl Print) {
-    print(rt, b"timer: a line's ping answered by its bit\n");
+    say!(rt; "timer: a line's ping answered by its bit\n");
     let h = line_due(rt, 9);
     let h = show_tick(rt, h, Access::Nothing, REST, 0, 14);
     let h = show_tick(rt, h, Access::Nothing, REST, 5, 1);
@@ -145,7 +118,7 @@ pub fn line_answered(rt: &impl Print) {
 
 // Unanswered it makes local 1 occur.
 pub fn line_failing(rt: &impl Print) {
-    print(rt, b"timer: a line's ping that fails after 1 tick\n");
+    say!(rt; "timer: a line's ping that fails after 1 tick\n");
     let h = line_due(rt, 1);
     let h = show_rest(rt, h);
     let h = show_tick(rt, h, Access::Nothing, REST, 5, 0);
@@ -154,7 +127,7 @@ pub fn line_failing(rt: &impl Print) {
 
 // "at timeout 0 it waits for its answer"; a timeout that is given later counts from the ping's opening, and fails it at once.
 pub fn waiting(rt: &impl Print) {
-    print(rt, b"timer: at timeout 0 a ping waits\n");
+    say!(rt; "timer: at timeout 0 a ping waits\n");
     let h = show_begin(rt, locked(0), 0);
     let h = show_rest(rt, h);
     let h = show_rest(rt, h);
@@ -165,11 +138,11 @@ pub fn waiting(rt: &impl Print) {
 
 // "If the drawn alert isn't locked and enabled when the ping is due, none opens and the turn ends"; a lock in the due tick is in time.
 pub fn not_locked(rt: &impl Print) {
-    print(rt, b"timer: the drawn alert is not locked\n");
+    say!(rt; "timer: the drawn alert is not locked\n");
     let h = show_begin(rt, timed(9), 0);
     let h = show_tick(rt, h, Access::Nothing, REST, 3, 0);
     show_rest(rt, h);
-    print(rt, b"timer: it is locked in the due tick\n");
+    say!(rt; "timer: it is locked in the due tick\n");
     let h = show_begin(rt, timed(9), 0);
     show_tick(rt, h, Access::Write(REGWEN, 0), REST, 0, 0);
 }

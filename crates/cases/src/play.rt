@@ -1,5 +1,5 @@
 // One tick, played and shown.
-use rules::{Access, Handler, Input, Output, Receive, Sample, Wires};
+use rules::{Access, Handler, Input, Receive, Sample, Wires};
 use trace::edition::carry;
 use trace_rules::Edition;
 
@@ -43,43 +43,12 @@ pub const RAISE_NEXT: u64 = 0x4000_0000_0000_0000;
 
 pub const RAISE_TWO: u64 = 0xC000_0000_0000_0000;
 
-// What the output doesn't take is dropped: the cases that follow are printed all the same.
-pub fn print(rt: &impl Print, text: &[u8]) {
-    let _ = rt.write_all(text);
-}
-
-pub fn print_number(rt: &impl Print, n: u64) {
-    let _ = rt.print(n);
-}
-
-// An answer: of those that the cases get, and a question mark for any other.
-pub fn print_answer(rt: &impl Print, a: i64) {
-    match a {
-        -12 => print(rt, b"-12"),
-        -11 => print(rt, b"-11"),
-        -10 => print(rt, b"-10"),
-        -6 => print(rt, b"-6"),
-        -5 => print(rt, b"-5"),
-        -4 => print(rt, b"-4"),
-        -3 => print(rt, b"-3"),
-        -2 => print(rt, b"-2"),
-        -1 => print(rt, b"-1"),
-        0 => print(rt, b"0"),
-        1 => print(rt, b"1"),
-        150 => print(rt, b"150"),
-        14652 => print(rt, b"14652"),
-        65535 => print(rt, b"65535"),
-        _ => print(rt, b"?"),
-    }
-}
-
 // An access by document 01's numbers, as a record of 24 bytes gives it.
 fn old(x: Access) -> Access {
     match x {
-        Access::Nothing => Access::Nothing,
         Access::Read(r) => Access::Read(carry(Edition::Alerts64, r)),
         Access::Write(r, v) => Access::Write(carry(Edition::Alerts64, r), v),
-        Access::Malformed => Access::Malformed,
+        other => other,
     }
 }
 
@@ -92,8 +61,8 @@ pub fn timing(x: Access, pos: u64, neg: u64, word: u32, receive: Receive) -> Inp
                 pos: [pos, 0, 0, 0],
                 neg: [neg, 0, 0, 0],
             },
-            word: word,
-            receive: receive,
+            word,
+            receive,
         },
     }
 }
@@ -118,37 +87,20 @@ pub fn configure(h: Handler, r: u16, v: u32) -> Handler {
     stage(stage(h, r, v), r, v)
 }
 
-// What register r holds, and a space.
-pub fn show_value(rt: &impl Print, h: Handler, r: u16) {
-    print_number(
-        rt,
-        register_file::read::value_of(
-            h,
-            map::number::register_at(h.n, carry(Edition::Alerts64, r)),
-        ) as u64,
-    );
-    print(rt, b" ");
-}
-
-// Interrupts, lines, and the end of the row.
-pub fn show_output(rt: &impl Print, o: Output) {
-    print_number(rt, o.interrupts as u64);
-    print(rt, b" ");
-    print_number(rt, o.lines as u64);
-    print(rt, b"\n");
+// What register r holds.
+pub fn value(h: Handler, r: u16) -> u32 {
+    register_file::read::value_of(
+        h,
+        map::number::register_at(h.n, carry(Edition::Alerts64, r)),
+    )
 }
 
 // A tick, shown as: answer, STATE, ESC_CNT and ACCUM_CNT of class 0, interrupts, lines.
 pub fn show(rt: &impl Print, h: Handler, x: Access, pos: u64) -> Handler {
     let t = handler::tick::tick(h, input(x, pos, !pos));
     let g = t.handler;
-    print(rt, b"  ");
-    print_answer(rt, t.answer);
-    print(rt, b" ");
-    show_value(rt, g, STATE);
-    show_value(rt, g, ESC_CNT);
-    show_value(rt, g, ACCUM_CNT);
-    show_output(rt, t.output);
+    say!(rt; "  {} {} {} {} ", t.answer, value(g, STATE), value(g, ESC_CNT), value(g, ACCUM_CNT));
+    say!(rt; "{} {}\n", t.output.interrupts, t.output.lines);
     g
 }
 

@@ -1,15 +1,13 @@
 // Request (ii), write our own traces: what the writer answers, and the buffer that it leaves.
-use crate::play::{print, print_answer, print_number};
 use rules::WORDS;
 use writer::write;
 
 // The buffer's bytes.
 fn show_bytes(rt: &impl Print, bytes: &[u8]) {
-    for i in 0..bytes.len() {
-        print(rt, b" ");
-        print_number(rt, bytes[i] as u64);
+    for byte in bytes {
+        say!(rt; " {byte}");
     }
-    print(rt, b"\n");
+    say!(rt; "\n");
 }
 
 // A read of 1281 and a write of 0 to this register, with negative wire 0 at 1, into the first bytes of a buffer. The second has a word, lines
@@ -32,14 +30,13 @@ fn show_two(rt: &impl Print, register: u16, out: &mut [u8]) {
         &[15, 0x2A],
         out,
     );
-    print(rt, b"  ");
-    print_answer(rt, answer);
+    say!(rt; "  {answer}");
     show_bytes(rt, out);
 }
 
 // The two records of document 01 in the newest form; a register that no record holds; a buffer one byte too short; both.
 pub fn two_records(rt: &impl Print) {
-    print(rt, b"writing\n");
+    say!(rt; "writing\n");
     let mut long: [u8; 152] = [7; 152];
     show_two(rt, 2047, &mut long);
     show_two(rt, 2048, &mut long);

@@ -9,11 +9,7 @@ use masks::is_set;
 pub fn enabled(c: Class) -> bool
     ensures { result ≡ enabled c }
 {
-    let a = line_enable(c, 0);
-    let b = line_enable(c, 1);
-    let d = line_enable(c, 2);
-    let e = line_enable(c, 3);
-    is_set(c.ctrl, 0) & (((a | b) | d) | e)
+    is_set(c.ctrl, 0) & (0..4).fold(false, |some, e| some | line_enable(c, e))
 }
 
 // LOCK.

@@ -6,24 +6,22 @@ ghost use Rattle.class_rules.specs.Class.{drives, is_phase};
 use crate::ctrl::{line_enable, line_map};
 use crate::state::state_of;
 use class_rules::{Class, ClassState};
-use masks::num;
 
 // Whether the state is phase p.
 fn is_phase(m: ClassState, p: u16) -> bool
     ensures { result ≡ is_phase m p }
 {
     match m {
-        ClassState::Idle => false,
-        ClassState::Timeout => false,
         ClassState::Phase0 => p == 0,
         ClassState::Phase1 => p == 1,
         ClassState::Phase2 => p == 2,
         ClassState::Phase3 => p == 3,
-        ClassState::Terminal => false,
+        _ => false,
     }
 }
 
 // Enable e is set, and the class is in the phase that map e names.
+#[tactic(auto, unfolding(class_rules::specs::Class::drives))]
 fn drives(c: Class, e: u32) -> bool
     requires { e < 4 }
     ensures { result ≡ drives c e }
@@ -35,5 +33,5 @@ fn drives(c: Class, e: u32) -> bool
 pub fn lines(c: Class) -> u8
     ensures { result ≡ bits_of 4 (drives c) }
 {
-    num(drives(c, 0)) + 2 * (num(drives(c, 1)) + 2 * (num(drives(c, 2)) + 2 * num(drives(c, 3))))
+    (0..4).fold(0, |on, e| on | u8::from(drives(c, e)) << e)
 }

@@ -20,62 +20,49 @@ pub fn due(s: Signals, c: Class) -> bool
 }
 
 // Whether the tick takes this state to Phase 0.
+#[tactic(auto, unfolding(class_rules::specs::Step::starts_from))]
 pub fn starts_from(m: ClassState, s: Signals, c: Class) -> bool
     ensures { result ≡ starts_from m s c }
 {
     match m {
         ClassState::Idle => trigger(s, c),
         ClassState::Timeout => trigger(s, c) | (due(s, c) & (c.timeout <= c.count)),
-        ClassState::Phase0 => false,
-        ClassState::Phase1 => false,
-        ClassState::Phase2 => false,
-        ClassState::Phase3 => false,
-        ClassState::Terminal => false,
+        _ => false,
     }
 }
 
+// This state with this count.
+fn at(state: ClassState, count: u32) -> Place
+    ensures { result ≡ at state count }
+{
+    Place { state, count }
+}
+
 // Idle: a start to Phase 0, count 1; else if due to Timeout, count 1.
+#[tactic(auto, unfolding(class_rules::specs::Step::moved_from))]
 fn from_idle(s: Signals, c: Class) -> Place
     ensures { result ≡ moved_from ClassState.Idle s c }
 {
     if starts_from(ClassState::Idle, s, c) {
-        Place {
-            state: ClassState::Phase0,
-            count: 1,
-        }
+        at(ClassState::Phase0, 1)
     } else if due(s, c) {
-        Place {
-            state: ClassState::Timeout,
-            count: 1,
-        }
+        at(ClassState::Timeout, 1)
     } else {
-        Place {
-            state: ClassState::Idle,
-            count: c.count,
-        }
+        at(ClassState::Idle, c.count)
     }
 }
 
 // Timeout: a start to Phase 0, count 1; else due adds 1; else Idle, count 0. A clear is not read: it does not stop a timeout.
+#[tactic(auto, using(crate::proofs::TimeoutRoom::waiting), unfolding(class_rules::specs::Step::moved_from))]
 fn from_timeout(s: Signals, c: Class) -> Place
     ensures { result ≡ moved_from ClassState.Timeout s c }
 {
     if starts_from(ClassState::Timeout, s, c) {
-        Place {
-            state: ClassState::Phase0,
-            count: 1,
-        }
+        at(ClassState::Phase0, 1)
     } else if due(s, c) {
-        let more = c.count + 1;
-        Place {
-            state: ClassState::Timeout,
-            count: more,
-        }
+        at(ClassState::Timeout, c.count + 1)
     } else {
-        Place {
-            state: ClassState::Idle,
-            count: 0,
-        }
+        at(ClassState::Idle, 0)
     }
 }
 
@@ -91,53 +78,45 @@ fn from_phase(
     ensures { result ≡ cond clear (at ClassState.Idle 0) (cond (leb length count) (at next first) (at this (count + 1))) }
 {
     if clear {
-        Place {
-            state: ClassState::Idle,
-            count: 0,
-        }
+        at(ClassState::Idle, 0)
     } else if length <= count {
-        Place {
-            state: next,
-            count: first,
-        }
+        at(next, first)
     } else {
-        let more = count + 1;
-        Place {
-            state: this,
-            count: more,
-        }
+        at(this, count + 1)
     }
 }
 
 // Terminal: a clear to Idle.
+#[tactic(auto, unfolding(class_rules::specs::Step::moved_from))]
 fn from_terminal(s: Signals, c: Class) -> Place
     ensures { result ≡ moved_from ClassState.Terminal s c }
 {
     if s.clear {
-        Place {
-            state: ClassState::Idle,
-            count: c.count,
-        }
+        at(ClassState::Idle, c.count)
     } else {
-        Place {
-            state: ClassState::Terminal,
-            count: c.count,
-        }
+        at(ClassState::Terminal, c.count)
     }
 }
 
 // The state and count after the tick, from this state.
+#[tactic(auto, unfolding(class_rules::specs::Step::moved_from))]
 pub fn moved_from(m: ClassState, s: Signals, c: Class) -> Place
     ensures { result ≡ moved_from m s c }
 {
-    let lengths = c.lengths;
     match m {
         ClassState::Idle => from_idle(s, c),
         ClassState::Timeout => from_timeout(s, c),
-        ClassState::Phase0 => from_phase(m, lengths[0], ClassState::Phase1, 1, s.clear, c.count),
-        ClassState::Phase1 => from_phase(m, lengths[1], ClassState::Phase2, 1, s.clear, c.count),
-        ClassState::Phase2 => from_phase(m, lengths[2], ClassState::Phase3, 1, s.clear, c.count),
-        ClassState::Phase3 => from_phase(m, lengths[3], ClassState::Terminal, 0, s.clear, c.count),
+        ClassState::Phase0 => from_phase(m, c.lengths[0], ClassState::Phase1, 1, s.clear, c.count),
+        ClassState::Phase1 => from_phase(m, c.lengths[1], ClassState::Phase2, 1, s.clear, c.count),
+        ClassState::Phase2 => from_phase(m, c.lengths[2], ClassState::Phase3, 1, s.clear, c.count),
+        ClassState::Phase3 => from_phase(
+            m,
+            c.lengths[3],
+            ClassState::Terminal,
+            0,
+            s.clear,
+            c.count,
+        ),
         ClassState::Terminal => from_terminal(s, c),
     }
 }

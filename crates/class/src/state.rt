@@ -5,6 +5,7 @@ ghost use Rattle.class_rules.specs.Class.{state_of, state_number};
 use class_rules::ClassState;
 
 // The state of a number; 2 and numbers over 7 are no state's and give Idle.
+#[tactic(auto, unfolding(class_rules::specs::Class::state_of))]
 pub fn state_of(s: u32) -> ClassState
     ensures { result ≡ state_of s }
 {
@@ -23,13 +24,5 @@ pub fn state_of(s: u32) -> ClassState
 pub fn number(m: ClassState) -> u32
     ensures { result ≡ state_number m }
 {
-    match m {
-        ClassState::Idle => 0,
-        ClassState::Timeout => 1,
-        ClassState::Terminal => 3,
-        ClassState::Phase0 => 4,
-        ClassState::Phase1 => 5,
-        ClassState::Phase2 => 6,
-        ClassState::Phase3 => 7,
-    }
+    m as u32
 }

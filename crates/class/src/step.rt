@@ -16,13 +16,14 @@ pub fn event(assigned: bool, c: Class) -> bool
 }
 
 // ACCUM_CNT after the tick: 0 by a clear; else an event adds 1, staying at 65,535.
+#[tactic(auto, unfolding(class_rules::specs::Step::counted))]
 fn counted(s: Signals, c: Class) -> u16
     ensures { result ≡ counted s c }
 {
     if s.clear {
         0
     } else if s.event {
-        if c.accum < 65535 { c.accum + 1 } else { 65535 }
+        c.accum.saturating_add(1)
     } else {
         c.accum
     }
@@ -36,22 +37,17 @@ fn clrwen_after(starts: bool, c: Class) -> u8
 }
 
 // Steps 3 and 4 of one class.
+#[tactic(auto, unfolding(class_rules::specs::Step::class_step))]
 pub fn step(s: Signals, c: Class) -> Class
     ensures { result ≡ class_step s c }
 {
     let m = state_of(c.state);
-    let lengths = c.lengths;
     let to = moved_from(m, s, c);
-    let to_state = to.state;
     Class {
-        lengths,
-        timeout: c.timeout,
         count: to.count,
-        ctrl: c.ctrl,
         accum: counted(s, c),
-        thresh: c.thresh,
-        regwen: c.regwen,
         clrwen: clrwen_after(starts_from(m, s, c), c),
-        state: number(to_state),
+        state: number(to.state),
+        ..c
     }
 }

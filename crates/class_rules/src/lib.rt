@@ -1,16 +1,16 @@
 // The types of one class. Its rules are the definitions in specs/.
 #![tactic(auto)]
 
-// The states of a class ("The class is in one of seven states").
-#[derive(Clone, Copy)]
+// The states of a class ("The class is in one of seven states"), with the numbers that STATE reads.
+#[derive(Clone, Copy, PartialEq, Eq)]
 pub enum ClassState {
-    Idle,
-    Timeout,
-    Phase0,
-    Phase1,
-    Phase2,
-    Phase3,
-    Terminal,
+    Idle = 0,
+    Timeout = 1,
+    Terminal = 3,
+    Phase0 = 4,
+    Phase1 = 5,
+    Phase2 = 6,
+    Phase3 = 7,
 }
 
 // The registers of a class's block. STATE is held as its number, since any number may come in, and in 32 bits, so that a class has no

@@ -1,6 +1,6 @@
 -- Arrays that loops fill by register number.
 -- Assumes nothing.
-use Prim.Native.Nat.{ℕ, zero, suc, ◌+◌, ◌-◌, ◌^◌, ◌≤◌, ◌<◌}
+use Prim.Native.Nat.{ℕ, suc, ◌+◌, ◌-◌, ◌≤◌, ◌<◌}
 use mathlib.Core.Path.{◌≡◌, sym, ap, ◌∙◌}
 use mathlib.Core.Bool.{Bool, cond}
 use mathlib.Core.List.{List, ◌∷◌}
@@ -49,6 +49,17 @@ module _ (m : ℕ) (f : ℕ → ℕ) where
               ∙ sym (ap (λ (t : Bool). cond t (f j) 0) (lt-ltb j (r + 1) (omega arith)))
           go (no d) =
               ap (λ (t : Bool). cond t v (get_or out j 0)) (ne_eqb j r d) ∙ old ∙ ap (λ (t : Bool). cond t (f j) 0) (same d)
+
+  -- where nothing is stored at r
+  pub fill_skip : (out : List ℕ) (r : ℕ) → out ≡ each m (up_to f r) → f r ≡ 0 → out ≡ each m (up_to f (r + 1))
+  fill_skip out r e g = e ∙ each_ext m (up_to f r) (up_to f (r + 1)) 0 (λ j h. go j (ℕ_discrete j r) (dec_lt j r))
+    where
+      go : (j : ℕ) → Dec (j ≡ r) → Dec (j < r) → up_to f r j ≡ up_to f (r + 1) j
+      go j (yes d) y =
+          ap (λ (t : Bool). cond t (f j) 0) (le-ltb j r (omega arith)) ∙ sym (ap f d ∙ g)
+          ∙ sym (ap (λ (t : Bool). cond t (f j) 0) (lt-ltb j (r + 1) (omega arith)))
+      go j (no d) (yes y) = ap (λ (t : Bool). cond t (f j) 0) (lt-ltb j r y ∙ sym (lt-ltb j (r + 1) (omega arith)))
+      go j (no d) (no y) = ap (λ (t : Bool). cond t (f j) 0) (le-ltb j r (omega arith) ∙ sym (le-ltb j (r + 1) (omega arith)))
 
   pub fill_all : (out : List ℕ) (r : ℕ) → m ≤ r → out ≡ each m (up_to f r) → out ≡ each m f
   fill_all out r l e = e ∙ each_ext m (up_to f r) f 0 (λ j h. ap (λ (t : Bool). cond t (f j) 0) (lt-ltb j r (omega arith)))
@@ -110,10 +121,3 @@ module _ (g : ℕ → ShownStage) (k : ℕ) where
 
   pub store_all : (out : List ℕ) (i : ℕ) → i ≡ 0 → out ≡ stored i → out ≡ codes_by (each k g)
   store_all out i z e = e ∙ ap stored z ∙ ap (λ (n : ℕ). codes_by (each_from 0 n g)) (let y : k - 0 ≡ k = omega arith in y)
-
--- ── a bit ──
-
-pub bit_small : (w v : ℕ) → w ≤ 1 → v < 2 ^ w → v < 2
-bit_small zero v l h = omega arith
-bit_small (suc zero) v l h = h
-bit_small (suc (suc w)) v l h = absurd (omega arith)

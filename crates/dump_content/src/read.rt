@@ -4,7 +4,6 @@ ghost use Rattle.dump_rules.specs.Content.{unread_number, nothing_of, content_by
 ghost use Rattle.dump_rules.specs.Reader.{read_dump};
 
 use crate::shown::content_of;
-use dump_reader::Judged;
 use dump_reader::judge::judge;
 use dump_rules::{Content, ContentClass, REGISTERS, Unread};
 
@@ -12,25 +11,17 @@ use dump_rules::{Content, ContentClass, REGISTERS, Unread};
 fn refused(u: Unread) -> i64
     ensures { result ≡ neg_ℤ (pos (unread_number u)) }
 {
-    match u {
-        Unread::CutDump => -17,
-        Unread::NoDump => -16,
-    }
+    -(u as i64)
 }
 
 // Nothing is shown.
 fn nothing(u: Unread) -> Content
     ensures { result ≡ nothing_of u }
 {
-    let none = ContentClass {
-        state: 0,
-        count: 0,
-        accum: 0,
-    };
     Content {
         answer: refused(u),
         n: 0,
-        classes: [none; 4],
+        classes: [ContentClass::default(); 4],
         stages: [0; REGISTERS],
         causes: [0; REGISTERS],
         locked: [0; REGISTERS],
@@ -42,8 +33,7 @@ pub fn read_dump(bytes: &[u8]) -> Content
     ensures { result ≡ content_by (read_dump bytes.now) }
 {
     match judge(bytes) {
-        Judged::Dump => content_of(bytes),
-        Judged::CutDump => nothing(Unread::CutDump),
-        Judged::NoDump => nothing(Unread::NoDump),
+        Ok(()) => content_of(bytes),
+        Err(u) => nothing(u),
     }
 }

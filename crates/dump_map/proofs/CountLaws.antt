@@ -1,24 +1,22 @@
 -- Counting and finding registers, one more in each turn.
 -- Assumes nothing.
-use Prim.Native.Nat.{ℕ, suc, ◌+◌, ◌-◌, ◌*◌, ◌/◌, ◌%◌, ◌≤◌, ◌<◌}
+use Prim.Native.Nat.{ℕ, suc, ◌+◌, ◌-◌, ◌≤◌, ◌<◌}
 use mathlib.Core.Path.{◌≡◌, refl, sym, ap, ap₂, ◌∙◌, subst}
 use mathlib.Core.Bool.{Bool, true, false, false≢true, ◌&&◌}
 use native.Mathlib.Omega.{arith}
-use native.Mathlib.Nat.{mod-lt, mul-add-mod_self_left}
-use lib.Pow.{pow_pos}
+use Rattle.std.specs.Prelude.{Option, Some, None}
 use native.Mathlib.Decide.{ℕ_discrete, dec_lt}
 use borrow.Author.Tests.{leb-true, le-leb, ltb-true, lt-ltb}
 use lib.Dec.{leb, ltb}
 use Rattle.bits.specs.Bits.{num}
 use Rattle.bits.specs.Index.{any_to}
-use Rattle.bits.proofs.IndexLaws.{and-true, true_and, any_at, any_some}
+use Rattle.bits.proofs.IndexLaws.{and-true, true_and, any_at, any_none, any_some}
 use Rattle.rules.specs.Map.{decode, is_shadowed}
-use Rattle.dump_rules.specs.Dump.{to_full, head_bits}
 use Rattle.dump_rules.specs.Shown.{picks, limit}
 use Rattle.dump_rules.specs.Reader.{shadowed_from, stage_at}
 use Rattle.dump_rules.proofs.PickLaws.{many, many_next, many_up, many_in, many_le, many_split}
 use Rattle.dump_rules.proofs.LawfulDump.{shadow_lt, fewer_above, stage_facts}
-use Rattle.dump_map.specs.Kinds.{First, Counted}
+use Rattle.dump_map.specs.Kinds.{First, Counted, left_by}
 
 -- the turn of a loop that counts up to r
 pub count_turn : (p : ℕ → Bool) (a r m b : ℕ) → a ≤ r → m ≡ many p a (r - a) → b ≡ num (p r) → m + b ≡ many p a (r + 1 - a)
@@ -48,32 +46,41 @@ module _ (n : ℕ) where
   bool_eq false true f g = g refl
   bool_eq false false f g = refl
 
-  pub first_decides : (from k lo span a r : ℕ) → from ≤ a → lo ≤ a → ((x : ℕ) → from ≤ x → lo ≤ x → a ≤ x) → First n a r
-      → (ltb r limit && (ltb r (lo + span) && leb k (shadowed_from n (suc r)))) ≡ any_to (λ x. stage_at n from k (lo + x)) span
-  first_decides from k lo span a r f l least first = bool_eq _ _ to back
+  -- a register that is left is one of the numbers below lo + span and has k above it
+  pub first_decides : (from k lo span a : ℕ) (o : Option ℕ) → from ≤ a → lo ≤ a → ((x : ℕ) → from ≤ x → lo ≤ x → a ≤ x) → First n a o
+      → left_by n k (lo + span) o ≡ any_to (λ x. stage_at n from k (lo + x)) span
+  first_decides from k lo span a None f l least none = sym (any_none (λ x. stage_at n from k (lo + x)) span never)
     where
-      to : (ltb r limit && (ltb r (lo + span) && leb k (shadowed_from n (suc r)))) ≡ true → any_to (λ x. stage_at n from k (lo + x)) span ≡ true
+      never : (x : ℕ) → x < span → stage_at n from k (lo + x) ≡ false
+      never x h = go (stage_at n from k (lo + x)) refl
+        where
+          go : (t : Bool) → stage_at n from k (lo + x) ≡ t → t ≡ false
+          go false e = refl
+          go true e =
+              let t = stage_facts n from k (lo + x) e in
+              absurd (false≢true (sym (none (lo + x) (least (lo + x) t.0 (omega arith)) (shadow_lt n (lo + x) t.1)) ∙ t.1))
+  first_decides from k lo span a (Some r) f l least first = bool_eq _ _ to back
+    where
+      to : (ltb r (lo + span) && leb k (shadowed_from n (suc r))) ≡ true → any_to (λ x. stage_at n from k (lo + x)) span ≡ true
       to e =
-          let x = and-true (ltb r limit) (ltb r (lo + span) && leb k (shadowed_from n (suc r))) e in
-          let y = and-true (ltb r (lo + span)) (leb k (shadowed_from n (suc r))) x.1 in
+          let y = and-true (ltb r (lo + span)) (leb k (shadowed_from n (suc r))) e in
           let u : r < lo + span = ltb-true r (lo + span) y.0 in
           let v : a ≤ r = first.from in
           let z : lo + (r - lo) ≡ r = omega arith in
           any_at (λ i. stage_at n from k (lo + i)) span (r - lo) (omega arith)
-          (ap (stage_at n from k) z ∙ true_and (le-leb from r (omega arith)) (true_and (first.shadowed (ltb-true r limit x.0)) y.1))
+          (ap (stage_at n from k) z ∙ true_and (le-leb from r (omega arith)) (true_and first.shadowed y.1))
 
-      back : any_to (λ x. stage_at n from k (lo + x)) span ≡ true → (ltb r limit && (ltb r (lo + span) && leb k (shadowed_from n (suc r)))) ≡ true
+      back : any_to (λ x. stage_at n from k (lo + x)) span ≡ true → (ltb r (lo + span) && leb k (shadowed_from n (suc r))) ≡ true
       back e =
           let s = any_some (λ x. stage_at n from k (lo + x)) span e in
           let b : ℕ = lo + s.0 in
           let t = stage_facts n from k b s.2 in
           let u : a ≤ b = least b t.0 (omega arith) in
-          let w : b < limit = shadow_lt n b t.1 in
           let z : r ≤ b = before b (dec_lt b r) u t.1 in
           let y : s.0 < span = s.1 in
           let c : shadowed_from n (suc b) ≤ shadowed_from n (suc r) = fewer r b z t.1 in
           let d : k ≤ shadowed_from n (suc b) = t.2 in
-          true_and (lt-ltb r limit (omega arith)) (true_and (lt-ltb r (lo + span) (omega arith)) (le-leb k (shadowed_from n (suc r)) (omega arith)))
+          true_and (lt-ltb r (lo + span) (omega arith)) (le-leb k (shadowed_from n (suc r)) (omega arith))
         where
           before : (b : ℕ) → Dec (b < r) → a ≤ b → shadow b ≡ true → r ≤ b
           before b (yes q) u t = absurd (false≢true (sym (first.none_before b u q) ∙ t))
@@ -151,14 +158,6 @@ module _ (n : ℕ) where
       let a : many shadowed 0 from ≤ from = many_le shadowed 0 from in
       omega (arith, c.is_below, c.few)
 
--- the turn of a loop that finds none
-pub none_more : (f : ℕ → Bool) (a r : ℕ) → ((x : ℕ) → a ≤ x → x < r → f x ≡ false) → f r ≡ false → (x : ℕ) → a ≤ x → x < r + 1 → f x ≡ false
-none_more f a r below at x l h = go (ℕ_discrete x r)
-  where
-    go : Dec (x ≡ r) → f x ≡ false
-    go (yes d) = ap f d ∙ at
-    go (no d) = below x l (omega arith)
-
 pub count_none : (p : ℕ → Bool) (a : ℕ) → 0 ≡ many p a (a - a)
 unfolding picks
 count_none p a = ap (many p a) (let e : 0 ≡ a - a = omega arith in e)
@@ -166,16 +165,3 @@ count_none p a = ap (many p a) (let e : 0 ≡ a - a = omega arith in e)
 pub num_le : (b : Bool) → num b ≤ 1
 num_le true = omega arith
 num_le false = omega arith
-
-same_rest : (c l : ℕ) → head_bits c l % 8 ≡ (4 + c % 8 + l % 8) % 8
-same_rest c l =
-    let e : head_bits c l ≡ 8 * (26 + c / 8 + l / 8) + (4 + c % 8 + l % 8) = omega arith in
-    ap (λ (x : ℕ). x % 8) e ∙ mul-add-mod_self_left 8 (26 + c / 8 + l / 8) (4 + c % 8 + l % 8)
-
-pub zeros : (c l : ℕ) → ((8 - (4 + c % 8 + l % 8) % 8) % 8 ≡ to_full (head_bits c l)) × ((8 - (4 + c % 8 + l % 8) % 8) % 8 ≤ 64)
-zeros c l =
-    let m : (8 - (4 + c % 8 + l % 8) % 8) % 8 < 8 = mod-lt (8 - (4 + c % 8 + l % 8) % 8) (pow_pos 3) in
-    (ap (λ (x : ℕ). (8 - x) % 8) (sym (same_rest c l)), small m)
-  where
-    small : {x : ℕ} → x < 8 → x ≤ 64
-    small h = omega arith

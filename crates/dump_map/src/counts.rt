@@ -1,94 +1,70 @@
 // Registers of a kind, by their numbers.
-ghost use Rattle.std.specs.Prelude.{◌≡◌, ◌-◌, ◌≤◌, ◌<◌, eqb, length};
-ghost use Rattle.bits.specs.Bits.{num};
+ghost use Rattle.std.specs.Prelude.{◌≡◌, ◌-◌, ◌≤◌, ◌<◌, length};
 ghost use Rattle.rules.specs.Map.{decode};
-ghost use Rattle.rules.specs.State.{field_index};
 ghost use Rattle.dump_rules.specs.Dump.{to_full, head_bits};
-ghost use Rattle.dump_rules.specs.Shown.{picks, limit, is_cause};
+ghost use Rattle.dump_rules.specs.Shown.{picks, limit};
 ghost use Rattle.dump_map.specs.Kinds.{has_kind, First};
 
 use crate::Kind;
+use dump_rules::REGISTERS;
 use map::column::{is_lock, is_shadowed};
 use map::number::register_at;
 use rules::{Field, Register};
 
-// No register has this number or one above it.
-pub const LIMIT: usize = 1344;
+impl Kind {
+    pub fn has(self, q: Register) -> bool
+        ensures { result ≡ has_kind self q }
+    {
+        match self {
+            Kind::Cause => {
+                matches!(
+                    q,
+                    Register::Local(Field::Cause, _) | Register::Alert(Field::Cause, _)
+                )
+            }
+            Kind::Lock => is_lock(q),
+            Kind::Shadowed => is_shadowed(q),
+        }
+    }
 
-fn is_cause_field(f: Field) -> bool
-    ensures { result ≡ eqb (field_index f) 3 }
-{
-    match f {
-        Field::Regwen => false,
-        Field::En => false,
-        Field::Class => false,
-        Field::Cause => true,
+    // Whether a handler of n alerts has one at number r.
+    fn has_at(self, n: usize, r: usize) -> bool
+        requires { r < 65536 }
+        ensures { result ≡ has_kind self (decode n r) }
+    {
+        self.has(register_at(n, r as u16))
+    }
+
+    // How many registers of the kind a handler of n alerts has from number a on and below b.
+    pub fn count(self, n: usize, a: usize, b: usize) -> usize
+        requires { b ≤ 65536 }
+        ensures { (result ≡ length (picks (λ r. has_kind self (decode n r)) a (b - a))) × (result ≤ b) }
+    {
+        let mut m = 0;
+        for r in a..b {
+            m += usize::from(self.has_at(n, r));
+        }
+        m
+    }
+
+    // How many it has in all.
+    pub fn how_many(self, n: usize) -> usize
+        ensures { (result ≡ length (picks (λ r. has_kind self (decode n r)) 0 limit)) × (result ≤ limit) }
+    {
+        self.count(n, 0, REGISTERS)
     }
 }
 
-fn is_cause(q: Register) -> bool
-    ensures { result ≡ is_cause q }
-{
-    match q {
-        Register::Only(_) => false,
-        Register::Local(f, _) => is_cause_field(f),
-        Register::Alert(f, _) => is_cause_field(f),
-        Register::Block(_, _) => false,
-        Register::Unassigned => false,
-    }
-}
-
-pub fn has_kind(kind: Kind, q: Register) -> bool
-    ensures { result ≡ has_kind kind q }
-{
-    match kind {
-        Kind::Cause => is_cause(q),
-        Kind::Lock => is_lock(q),
-        Kind::Shadowed => is_shadowed(q),
-    }
-}
-
-pub fn bit(b: bool) -> usize
-    ensures { result ≡ num b }
-{
-    if b { 1 } else { 0 }
-}
-
-// How many registers of a kind a handler of n alerts has from number a on and below b.
-pub fn count(kind: Kind, n: usize, a: usize, b: usize) -> usize
-    requires { b ≤ 65536 }
-    ensures { (result ≡ length (picks (λ r. has_kind kind (decode n r)) a (b - a))) × (result ≤ b) }
-{
-    let mut m: usize = 0;
-    let mut r = a;
-    while r < b {
-        let q = register_at(n, r as u16);
-        m = m + bit(has_kind(kind, q));
-        r += 1;
-    }
-    m
-}
-
-// How many it has in all.
-pub fn how_many(kind: Kind, n: usize) -> usize
-    ensures { (result ≡ length (picks (λ r. has_kind kind (decode n r)) 0 limit)) × (result ≤ limit) }
-{
-    count(kind, n, 0, LIMIT)
-}
-
-// The first number from a on of a shadowed register; one that is no register's where there is none.
-pub fn first_shadowed(n: usize, a: usize) -> usize
+// The first number from a on of a shadowed register.
+pub fn first_shadowed(n: usize, a: usize) -> Option<usize>
     ensures { First n a result }
 {
-    let mut r = a;
-    while r < LIMIT {
-        let q = register_at(n, r as u16);
-        if is_shadowed(q) {
-            return r;
+    for r in a..REGISTERS {
+        if Kind::Shadowed.has_at(n, r) {
+            return Some(r);
         }
-        r += 1;
     }
-    r
+    None
 }
 
 // From the bits before them, zeros to a full byte.

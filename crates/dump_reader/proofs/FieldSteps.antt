@@ -5,10 +5,11 @@ use mathlib.Core.Path.{◌≡◌, refl, sym, ap, ap₂, ◌∙◌, subst}
 use mathlib.Core.Bool.{Bool, true, false, cond, not, ◌&&◌, ◌||◌}
 use mathlib.Core.List.{List, []}
 use native.Mathlib.Omega.{arith}
-use borrow.Author.Tests.{leb-true, leb-false, le-leb, lt-ltb, le-ltb, eq-eqb, ne_eqb, eqb-true, ltb-true}
+use borrow.Author.Tests.{leb-true, leb-false, le-leb, lt-ltb, le-ltb, eq-eqb, ne_eqb, eqb-true}
 use lib.Dec.{eqb, leb, ltb}
 use lib.ListN.{length, drop, length-drop}
 use lib.Pow.{pow_pos, pow_mono}
+use Rattle.std.specs.Prelude.{Result, Ok, Err}
 use Rattle.bits.proofs.IndexLaws.{any_at}
 use Rattle.class_rules.specs.Class.{state_of, state_fits, count_fits}
 use Rattle.class_rules.specs.declared.ClassState.{ClassState}
@@ -19,8 +20,8 @@ use Rattle.formats.proofs.BitListLaws.{length_bits_of_bytes, number_lt}
 use Rattle.formats.proofs.BitAtLaws.{filled_lt}
 use Rattle.dump_rules.specs.Reader.{any_number}
 use Rattle.dump_reader.specs.Steps.{step_at, step_by}
-use Rattle.dump_reader.specs.declared.Step.{Step}
-use Rattle.dump_reader.proofs.StepLaws.{fine_of, field_step, field_on, step_on, down_fine, pair_on, pair_cut, pair_wrong, as_step, nothing_step}
+use Rattle.dump_rules.specs.declared.Unread.{Unread}
+use Rattle.dump_reader.proofs.StepLaws.{fine_of, field_step, field_on, step_on, down_fine, pair_on, pair_err, as_step, nothing_step}
 
 module _ (bytes : List ℕ) (at : ℕ) where
   abbrev left : List Bool
@@ -33,17 +34,11 @@ module _ (bytes : List ℕ) (at : ℕ) where
   within h = let e : length (bits_of_bytes bytes) ≡ bits = length_bits_of_bytes bytes in omega arith
 
   -- a field by the test of what is there of it
-  pub field_code : (w : ℕ) (ok : ℕ → Bool) (fine : Bool) (r : Step) → at ≤ bits → fine ≡ fine_of bytes at w ok → r ≡ step_by bits at w fine → r ≡ step_at (field w ok) bytes at
+  pub field_code : (w : ℕ) (ok : ℕ → Bool) (fine : Bool) (r : Result ℕ Unread) → at ≤ bits → fine ≡ fine_of bytes at w ok → r ≡ step_by bits at w fine → r ≡ step_at (field w ok) bytes at
   field_code w ok fine r h f e =
       e ∙ ap₂ (λ (n : ℕ) (t : Bool). step_by n at w t) (sym (length_bits_of_bytes bytes)) f ∙ sym (field_step bytes at w ok (within h))
 
-  pub on_within : (w : ℕ) (ok : ℕ → Bool) (b : ℕ) → at ≤ bits → step_at (field w ok) bytes at ≡ Step.On b → b ≤ bits
-  on_within w ok b h e =
-      let x : b ≤ length (bits_of_bytes bytes) = (field_on w ok bytes at b (within h) e).1 in
-      let l : length (bits_of_bytes bytes) ≡ bits = length_bits_of_bytes bytes in
-      omega arith
-
-  pub on_then : {B : Type 0} (w : ℕ) (ok : ℕ → Bool) (g : ℕ → Format B) (b : ℕ) → at ≤ bits → step_at (field w ok) bytes at ≡ Step.On b
+  pub on_then : {B : Type 0} (w : ℕ) (ok : ℕ → Bool) (g : ℕ → Format B) (b : ℕ) → at ≤ bits → step_at (field w ok) bytes at ≡ Ok b
       → step_at (pair (field w ok) g) bytes at ≡ step_at (g (filled w left)) bytes b
   on_then w ok g b h e = pair_on (field w ok) g bytes at (filled w left) b (field_on w ok bytes at b (within h) e).0
 
@@ -151,97 +146,48 @@ module _ (bytes : List ℕ) (at : ℕ) where
   count_fine_law h Phase3 = lively h
   count_fine_law h Terminal = calm h
 
-  pub count_first : (s c : ℕ) (f g : Bool) (r : Step) → at ≤ bits → c ≡ filled 32 left → f ≡ count_fits (state_of s) c → g ≡ count_fits (state_of s) 1
-      → r ≡ step_by bits at 32 (f || (ltb (bits - at) 32 && g)) → r ≡ step_at (field 32 (count_fits (state_of s))) bytes at
-  count_first s c f g r h e p q =
-      field_code 32 (count_fits (state_of s)) (f || (ltb (bits - at) 32 && g)) r h
-      (ap₂ (λ (x y : Bool). x || (ltb (bits - at) 32 && y)) (p ∙ ap (count_fits (state_of s)) e) q ∙ count_fine_law h (state_of s))
-
-  pub state_first : (s : ℕ) (r : Step) → at ≤ bits → s ≡ filled 3 left → r ≡ step_by bits at 3 (not (eqb s 2) || ltb (bits - at) 3) → r ≡ step_at (field 3 state_fits) bytes at
-  state_first s r h e =
-      field_code 3 state_fits (not (eqb s 2) || ltb (bits - at) 3) r h (ap (λ (x : ℕ). not (eqb x 2) || ltb (bits - at) 3) e ∙ state_fine h)
-
-  pub any_first : (w : ℕ) (r : Step) → at ≤ bits → r ≡ step_by bits at w true → r ≡ step_at (field w any_number) bytes at
-  any_first w r h = field_code w any_number true r h (any_fine w h)
-
   -- a number up to m
-  pub most_first : (w m v : ℕ) (r : Step) → at ≤ bits → v ≡ filled w left → r ≡ step_by bits at w (leb v m) → r ≡ step_at (field w (λ x. leb x m)) bytes at
-  most_first w m v r h e =
-      field_code w (λ x. leb x m) (leb v m) r h
-      (ap (λ (x : ℕ). leb x m) e ∙ down_fine bytes at w (λ x. leb x m) (within h) (λ a b l t. let k : b ≤ m = leb-true b m t in le-leb a m (omega arith)))
+  pub most_fine : (w m v : ℕ) (ok : ℕ → Bool) → ((x : ℕ) → ok x ≡ leb x m) → v ≡ filled w left → at ≤ bits → leb v m ≡ fine_of bytes at w ok
+  most_fine w m v ok e i h =
+      ap (λ (x : ℕ). leb x m) i ∙ sym (e (filled w left))
+      ∙ down_fine bytes at w ok (within h) (λ a b l t. let k : b ≤ m = leb-true b m (sym (e b) ∙ t) in e a ∙ le-leb a m (omega arith))
 
-  -- a number below m
-  pub below_first : (w m v : ℕ) (r : Step) → at ≤ bits → v ≡ filled w left → r ≡ step_by bits at w (ltb v m) → r ≡ step_at (field w (λ x. ltb x m)) bytes at
-  below_first w m v r h e =
-      field_code w (λ x. ltb x m) (ltb v m) r h
-      (ap (λ (x : ℕ). ltb x m) e ∙ down_fine bytes at w (λ x. ltb x m) (within h) (λ a b l t. let k : b < m = ltb-true b m t in lt-ltb a m (omega arith)))
+  pub state_at : (s l : ℕ) → s ≡ filled 3 left → l ≡ bits - at → at ≤ bits → (not (eqb s 2) || ltb l 3) ≡ fine_of bytes at 3 state_fits
+  state_at s l e f h = ap₂ (λ (x y : ℕ). not (eqb x 2) || ltb y 3) e f ∙ state_fine h
 
-  eqb_sym : (x : ℕ) → eqb x 0 ≡ eqb 0 x
-  eqb_sym zero = refl
-  eqb_sym (suc x) = ne_eqb (suc x) 0 (omega arith) ∙ sym (ne_eqb 0 (suc x) (omega arith))
-
-  pub zero_first : (w v : ℕ) (r : Step) → at ≤ bits → v ≡ filled w left → r ≡ step_by bits at w (eqb v 0) → r ≡ step_at (field w (eqb 0)) bytes at
-  zero_first w v r h e =
-      field_code w (eqb 0) (eqb v 0) r h
-      (eqb_sym v ∙ ap (eqb 0) e ∙ down_fine bytes at w (eqb 0) (within h) (λ a b l t. let k : 0 ≡ b = eqb-true 0 b t in eq-eqb 0 a (omega arith)))
-
-  -- ── as the code goes on: behind a field, and behind any format ──
-
-  pub go_on : {B : Type 0} (w : ℕ) (ok : ℕ → Bool) (g : ℕ → Format B) (q r : Step) (b v : ℕ) → at ≤ bits → q ≡ step_at (field w ok) bytes at → q ≡ Step.On b
-      → v ≡ filled w left → r ≡ step_at (g v) bytes b → r ≡ step_at (pair (field w ok) g) bytes at
-  go_on w ok g q r b v h e o i p = p ∙ ap (λ (x : ℕ). step_at (g x) bytes b) i ∙ sym (on_then w ok g b h (sym e ∙ o))
-
-  pub go_within : (w : ℕ) (ok : ℕ → Bool) (q : Step) (b : ℕ) → at ≤ bits → q ≡ step_at (field w ok) bytes at → q ≡ Step.On b → b ≤ bits
-  go_within w ok q b h e o = on_within w ok b h (sym e ∙ o)
-
-  pub go_cut : {A B : Type 0} (f : Format A) (g : A → Format B) (q : Step) → q ≡ step_at f bytes at → q ≡ Step.Cut → Step.Cut ≡ step_at (pair f g) bytes at
-  go_cut f g q e o = sym (pair_cut f g bytes at (sym e ∙ o))
-
-  pub go_wrong : {A B : Type 0} (f : Format A) (g : A → Format B) (q : Step) → q ≡ step_at f bytes at → q ≡ Step.Wrong → Step.Wrong ≡ step_at (pair f g) bytes at
-  go_wrong f g q e o = sym (pair_wrong f g bytes at (sym e ∙ o))
-
-  pub next_on : {A B : Type 0} (f : Format A) (g : A → Format B) → Lawful f → (q : Step) (b : ℕ) → at ≤ bits → q ≡ step_at f bytes at → q ≡ Step.On b
-      → (a : A) × (step_at (pair f g) bytes at ≡ step_at (g a) bytes b) × (b ≤ bits)
-  next_on f g lf q b h e o =
-      let x = step_on bytes at f lf (within h) b (sym e ∙ o) in
-      (x.0, pair_on f g bytes at x.0 b x.1, omega (arith, x.2, bits_length))
+  pub count_at : (s c l : ℕ) (f g : Bool) → c ≡ filled 32 left → l ≡ bits - at → f ≡ count_fits (state_of s) c → g ≡ count_fits (state_of s) 1 → at ≤ bits
+      → (f || (ltb l 32 && g)) ≡ fine_of bytes at 32 (count_fits (state_of s))
+  count_at s c l f g e i p q h =
+      ap₂ (λ (x y : Bool). x || (ltb l 32 && y)) (p ∙ ap (count_fits (state_of s)) e) q
+      ∙ ap (λ (y : ℕ). count_fits (state_of s) (filled 32 left) || (ltb y 32 && count_fits (state_of s) 1)) i
+      ∙ count_fine_law h (state_of s)
 
   -- ── a list: its first, and what follows ──
 
-  pub chain_on : {S A : Type 0} (c : Chain S A) (j : ℕ) (s : S) → Lawful (c.one s j) → (q : Step) (b : ℕ) → at ≤ bits → q ≡ step_at (c.one s j) bytes at → q ≡ Step.On b
+  pub chain_on : {S A : Type 0} (c : Chain S A) (j : ℕ) (s : S) → Lawful (c.one s j) → (b : ℕ) → at ≤ bits → Ok b ≡ step_at (c.one s j) bytes at
       → (a : A) × (step_at (chain c (suc j) s) bytes at ≡ step_at (chain c j (c.next s a)) bytes b) × (b ≤ bits)
-  chain_on c j s lf q b h e o =
-      let x = next_on (c.one s j) (λ y. chain c j (c.next s y)) lf q b h e o in
-      (x.0, as_step joined (parted c.default) (pair (c.one s j) (λ y. chain c j (c.next s y))) bytes at ∙ x.1, x.2)
+  chain_on c j s lf b h e =
+      let x = step_on bytes at (c.one s j) lf (within h) b (sym e) in
+      let g = λ (y : _). chain c j (c.next s y) in
+      (x.0, as_step joined (parted c.default) (pair (c.one s j) g) bytes at ∙ pair_on (c.one s j) g bytes at x.0 b x.1, omega (arith, x.2, bits_length))
 
-  pub chain_cut : {S A : Type 0} (c : Chain S A) (j : ℕ) (s : S) (q : Step) → q ≡ step_at (c.one s j) bytes at → q ≡ Step.Cut → Step.Cut ≡ step_at (chain c (suc j) s) bytes at
-  chain_cut c j s q e o =
-      go_cut (c.one s j) (λ y. chain c j (c.next s y)) q e o ∙ sym (as_step joined (parted c.default) (pair (c.one s j) (λ y. chain c j (c.next s y))) bytes at)
+  pub chain_err : {S A : Type 0} (c : Chain S A) (j : ℕ) (s : S) (e : Unread) → Err e ≡ step_at (c.one s j) bytes at → Err e ≡ step_at (chain c (suc j) s) bytes at
+  chain_err c j s e h =
+      let g = λ (y : _). chain c j (c.next s y) in
+      sym (as_step joined (parted c.default) (pair (c.one s j) g) bytes at ∙ pair_err (c.one s j) g bytes at e (sym h))
 
-  pub chain_wrong : {S A : Type 0} (c : Chain S A) (j : ℕ) (s : S) (q : Step) → q ≡ step_at (c.one s j) bytes at → q ≡ Step.Wrong → Step.Wrong ≡ step_at (chain c (suc j) s) bytes at
-  chain_wrong c j s q e o =
-      go_wrong (c.one s j) (λ y. chain c j (c.next s y)) q e o ∙ sym (as_step joined (parted c.default) (pair (c.one s j) (λ y. chain c j (c.next s y))) bytes at)
+  -- the same in a loop: k of m are read, and x is what reading all gives
+  module _ {S A : Type 0} (c : Chain S A) (m k : ℕ) (s : S) (x : Result ℕ Unread) (inv : x ≡ step_at (chain c (m - k) s) bytes at) where
+    pub on_step : k < m → step_at (chain c (suc (m - (k + 1))) s) bytes at ≡ x
+    on_step l = ap (λ (j : ℕ). step_at (chain c j s) bytes at) (let e : suc (m - (k + 1)) ≡ m - k = omega arith in e) ∙ sym inv
 
-  pub chain_end : {S A : Type 0} (c : Chain S A) (s : S) → at ≤ bits → Step.On at ≡ step_at (chain c 0 s) bytes at
-  chain_end c s h = sym (nothing_step [] bytes at (within h))
+    pub loop_err : k < m → (e : Unread) → Err e ≡ step_at (c.one s (m - (k + 1))) bytes at → Err e ≡ x
+    loop_err l e h = chain_err c (m - (k + 1)) s e h ∙ on_step l
 
-  -- ── the same in a loop: k of m are read, and x is what reading all gives ──
-
-  module _ {S A : Type 0} (c : Chain S A) (m k : ℕ) (s : S) (x : Step) (inv : x ≡ step_at (chain c (m - k) s) bytes at) where
-    pub on_step : k < m → step_at (chain c (suc (m - suc k)) s) bytes at ≡ x
-    on_step l = ap (λ (j : ℕ). step_at (chain c j s) bytes at) (let e : suc (m - suc k) ≡ m - k = omega arith in e) ∙ sym inv
-
-    pub loop_cut : k < m → (q : Step) → q ≡ step_at (c.one s (m - suc k)) bytes at → q ≡ Step.Cut → Step.Cut ≡ x
-    loop_cut l q e o = chain_cut c (m - suc k) s q e o ∙ on_step l
-
-    pub loop_wrong : k < m → (q : Step) → q ≡ step_at (c.one s (m - suc k)) bytes at → q ≡ Step.Wrong → Step.Wrong ≡ x
-    loop_wrong l q e o = chain_wrong c (m - suc k) s q e o ∙ on_step l
-
-    pub loop_on : Lawful (c.one s (m - suc k)) → k < m → at ≤ bits → (q : Step) (b : ℕ) → q ≡ step_at (c.one s (m - suc k)) bytes at → q ≡ Step.On b
+    pub loop_on : Lawful (c.one s (m - (k + 1))) → k < m → at ≤ bits → (b : ℕ) → Ok b ≡ step_at (c.one s (m - (k + 1))) bytes at
         → (a : A) × (x ≡ step_at (chain c (m - (k + 1)) (c.next s a)) bytes b) × (b ≤ bits)
-    loop_on lf l h q b e o =
-        let y = chain_on c (m - suc k) s lf q b h e o in
-        (y.0, sym (on_step l) ∙ y.1 ∙ ap (λ (j : ℕ). step_at (chain c j (c.next s y.0)) bytes b) (let d : m - suc k ≡ m - (k + 1) = omega arith in d), y.2)
+    loop_on lf l h b e = let y = chain_on c (m - (k + 1)) s lf b h e in (y.0, sym (on_step l) ∙ y.1, y.2)
 
-    pub loop_end : m ≤ k → at ≤ bits → Step.On at ≡ x
-    loop_end l h = chain_end c s h ∙ ap (λ (j : ℕ). step_at (chain c j s) bytes at) (let e : 0 ≡ m - k = omega arith in e) ∙ sym inv
+    pub loop_end : m ≤ k → at ≤ bits → Ok at ≡ x
+    loop_end l h =
+        sym (nothing_step [] bytes at (within h)) ∙ ap (λ (j : ℕ). step_at (chain c j s) bytes at) (let e : 0 ≡ m - k = omega arith in e) ∙ sym inv

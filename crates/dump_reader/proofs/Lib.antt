@@ -1,4 +1,6 @@
+pub mod BodyLaws
 pub mod FieldSteps
-pub mod JudgeLaws
+pub mod ReadLaws
+pub mod StageLaws
 pub mod StepLaws
 pub mod WholeLaws

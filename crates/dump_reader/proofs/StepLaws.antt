@@ -11,6 +11,7 @@ use lib.Dec.{leb}
 use lib.ListN.{length, take, drop, length-append, length-drop}
 use lib.Pow.{pow_pos}
 use lib.Seq.{take_at, drop_at, drop-drop}
+use Rattle.std.specs.Prelude.{Result, Ok, Err}
 use Rattle.bits.specs.Index.{any_to}
 use Rattle.bits.proofs.IndexLaws.{any_at, any_none}
 use Rattle.formats.specs.BitList.{bit_list, number_of, bits_of_bytes, filled}
@@ -19,22 +20,12 @@ use Rattle.formats.proofs.BitListLaws.{length_bits, list_back}
 use Rattle.formats.proofs.FormatLaws.{field_lawful}
 use Rattle.formats.proofs.BitAtLaws.{filled_whole, filled_short}
 use Rattle.dump_reader.specs.Steps.{step_of, step_at, step_by}
-use Rattle.dump_reader.specs.declared.Step.{Step}
+use Rattle.dump_rules.specs.declared.Unread.{Unread}
+use Rattle.dump_rules.specs.declared.Unread.TheVariants.{CutDump, NoDump}
 
-abbrev is_on : Step → Bool
-is_on (Step.On b) = true
-is_on Step.Cut = false
-is_on Step.Wrong = false
-
-abbrev place_of : Step → ℕ
-place_of (Step.On b) = b
-place_of Step.Cut = 0
-place_of Step.Wrong = 0
-
-abbrev is_cut_step : Step → Bool
-is_cut_step (Step.On b) = false
-is_cut_step Step.Cut = true
-is_cut_step Step.Wrong = false
+-- where a step has come to
+abbrev pub on : ℕ → Result ℕ Unread
+on b = Ok b
 
 module _ (bytes : List ℕ) (at : ℕ) where
   abbrev all_bits : List Bool
@@ -66,15 +57,15 @@ module _ (bytes : List ℕ) (at : ℕ) where
           rw (e, m, v) (fit (ok (number_of (take w left))) p)
         where
           fit : (b : Bool) → total - length (drop w left) ≡ at + w
-              → step_of total (cond b (got (number_of (take w left)) (drop w left)) wrong) ≡ cond b (Step.On (at + w)) Step.Wrong
-          fit true p = ap Step.On p
+              → step_of total (cond b (got (number_of (take w left)) (drop w left)) wrong) ≡ cond b (Ok (at + w)) (Err NoDump)
+          fit true p = ap on p
           fit false p = refl
       go false e =
           let l : length left < w = leb-false w (length left) e in
           let m : leb w (total - at) ≡ false = lt-leb w (total - at) (omega (arith, n)) in
           rw (e, m) (fit (some_from ok w left))
         where
-          fit : (b : Bool) → step_of {A = ℕ} total (cond b cut wrong) ≡ cond b Step.Cut Step.Wrong
+          fit : (b : Bool) → step_of {A = ℕ} total (cond b cut wrong) ≡ cond b (Err CutDump) (Err NoDump)
           fit true = refl
           fit false = refl
 
@@ -102,23 +93,23 @@ module _ (bytes : List ℕ) (at : ℕ) where
   -- ── one behind the other ──
 
   -- where a lawful format ends, what it reads and what is left
-  pub step_on : {A : Type 0} (f : Format A) → Lawful f → at ≤ total → (b : ℕ) → step_at f bytes at ≡ Step.On b
+  pub step_on : {A : Type 0} (f : Format A) → Lawful f → at ≤ total → (b : ℕ) → step_at f bytes at ≡ Ok b
       → (a : A) × (f.read left ≡ got a (drop b all_bits)) × (b ≤ total)
   unfolding step_at
   step_on {A} f lf h b = go (f.read left) refl
     where
-      go : (o : Outcome A) → f.read left ≡ o → step_of total o ≡ Step.On b → (a : A) × (f.read left ≡ got a (drop b all_bits)) × (b ≤ total)
+      go : (o : Outcome A) → f.read left ≡ o → step_of total o ≡ Ok b → (a : A) × (f.read left ≡ got a (drop b all_bits)) × (b ≤ total)
       go (got a rest) e i =
           let x : left ≡ f.bits a ++ rest = (lf.only left a rest e).1 in
           let k : ℕ = length (f.bits a) in
           let n : length left ≡ k + length rest = ap length x ∙ length-append (f.bits a) rest in
           let m : length left ≡ total - at = length-drop at all_bits in
-          let p : total - length rest ≡ b = ap place_of i in
+          let p : total - length rest ≡ b = cc in
           let q : at + k ≡ b = omega arith in
           let r : rest ≡ drop b all_bits = sym (drop_at (f.bits a) rest k refl) ∙ ap (drop k) (sym x) ∙ drop-drop k at all_bits ∙ ap (λ (j : ℕ). drop j all_bits) q in
           (a, e ∙ ap (got a) r, omega arith)
-      go cut e i = absurd (false≢true (ap is_on i))
-      go wrong e i = absurd (false≢true (ap is_on i))
+      go cut e i = cc
+      go wrong e i = cc
 
 module _ {A B : Type 0} (f : Format A) (g : A → Format B) (bytes : List ℕ) (at : ℕ) where
   first_kept : (t : ℕ) (a : A) (o : Outcome B) → step_of t (with_first a o) ≡ step_of t o
@@ -132,23 +123,14 @@ module _ {A B : Type 0} (f : Format A) (g : A → Format B) (bytes : List ℕ) (
       ap (λ (o : Outcome A). step_of (length (bits_of_bytes bytes)) (and_then g o)) e
       ∙ first_kept (length (bits_of_bytes bytes)) a ((g a).read (drop b (bits_of_bytes bytes)))
 
-  pub pair_cut : step_at f bytes at ≡ Step.Cut → step_at (pair f g) bytes at ≡ Step.Cut
+  pub pair_err : (e : Unread) → step_at f bytes at ≡ Err e → step_at (pair f g) bytes at ≡ Err e
   unfolding step_at
-  pair_cut = go (f.read (drop at (bits_of_bytes bytes)))
+  pair_err e = go (f.read (drop at (bits_of_bytes bytes)))
     where
-      go : (o : Outcome A) → step_of (length (bits_of_bytes bytes)) o ≡ Step.Cut → step_of (length (bits_of_bytes bytes)) (and_then g o) ≡ Step.Cut
-      go (got a rest) e = absurd (false≢true (ap is_cut_step e))
-      go cut e = refl
-      go wrong e = absurd (false≢true (ap is_cut_step e))
-
-  pub pair_wrong : step_at f bytes at ≡ Step.Wrong → step_at (pair f g) bytes at ≡ Step.Wrong
-  unfolding step_at
-  pair_wrong = go (f.read (drop at (bits_of_bytes bytes)))
-    where
-      go : (o : Outcome A) → step_of (length (bits_of_bytes bytes)) o ≡ Step.Wrong → step_of (length (bits_of_bytes bytes)) (and_then g o) ≡ Step.Wrong
-      go (got a rest) e = absurd (false≢true (sym (ap is_on e)))
-      go cut e = absurd (false≢true (sym (ap is_cut_step e)))
-      go wrong e = refl
+      go : (o : Outcome A) → step_of (length (bits_of_bytes bytes)) o ≡ Err e → step_of (length (bits_of_bytes bytes)) (and_then g o) ≡ Err e
+      go (got a rest) h = cc
+      go cut h = h
+      go wrong h = h
 
 pub as_step : {A B : Type 0} (to : A → B) (from : B → A) (f : Format A) (bytes : List ℕ) (at : ℕ) → step_at (as_type to from f) bytes at ≡ step_at f bytes at
 unfolding step_at
@@ -160,12 +142,12 @@ as_step {A} to from f bytes at = go (f.read (drop at (bits_of_bytes bytes)))
     go wrong = refl
 
 -- no more: it ends where it begins
-pub nothing_step : {A : Type 0} (a : A) (bytes : List ℕ) (at : ℕ) → at ≤ length (bits_of_bytes bytes) → step_at (nothing a) bytes at ≡ Step.On at
+pub nothing_step : {A : Type 0} (a : A) (bytes : List ℕ) (at : ℕ) → at ≤ length (bits_of_bytes bytes) → step_at (nothing a) bytes at ≡ Ok at
 unfolding step_at
-nothing_step a bytes at h = ap Step.On (let n : length (drop at (bits_of_bytes bytes)) ≡ length (bits_of_bytes bytes) - at = length-drop at (bits_of_bytes bytes) in omega arith)
+nothing_step a bytes at h = ap on (let n : length (drop at (bits_of_bytes bytes)) ≡ length (bits_of_bytes bytes) - at = length-drop at (bits_of_bytes bytes) in omega arith)
 
 -- a field that is whole and fine
-pub field_on : (w : ℕ) (ok : ℕ → Bool) (bytes : List ℕ) (at b : ℕ) → at ≤ length (bits_of_bytes bytes) → step_at (field w ok) bytes at ≡ Step.On b
+pub field_on : (w : ℕ) (ok : ℕ → Bool) (bytes : List ℕ) (at b : ℕ) → at ≤ length (bits_of_bytes bytes) → step_at (field w ok) bytes at ≡ Ok b
     → ((field w ok).read (drop at (bits_of_bytes bytes)) ≡ got (filled w (drop at (bits_of_bytes bytes))) (drop b (bits_of_bytes bytes)))
     × (b ≤ length (bits_of_bytes bytes)) × (b ≡ at + w) × (ok (filled w (drop at (bits_of_bytes bytes))) ≡ true)
 field_on w ok bytes at b h e =

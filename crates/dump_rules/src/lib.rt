@@ -4,24 +4,24 @@
 // No register has this number or one above it.
 pub const REGISTERS: usize = 1344;
 
-// Why no dump is written.
+// Why no dump is written, by the refusal's number.
 #[derive(Clone, Copy)]
 pub enum Unwritten {
-    BadState,
-    ShortBuffer,
+    BadState = 7,
+    ShortBuffer = 11,
 }
 
-// Why no content is read: the bytes are the start of a dump, cut, or no bytes; they are neither a dump nor that.
+// Why no content is read: the bytes are the start of a dump, cut, or no bytes; they are neither a dump nor that. The refusal's number.
 #[derive(Clone, Copy)]
 pub enum Unread {
-    CutDump,
-    NoDump,
+    CutDump = 17,
+    NoDump = 16,
 }
 
 // ---- The content for callers. Wide enough that no struct has padding. ----
 
 #[repr(C)]
-#[derive(Clone, Copy)]
+#[derive(Clone, Copy, Default)]
 pub struct ContentClass {
     // STATE, ESC_CNT and ACCUM_CNT
     pub state: u32,

@@ -1,4 +1,3 @@
 pub mod EntryLaws
-pub mod FillLaws
 pub mod PutLaws
 pub mod WriteLaws

@@ -3,13 +3,13 @@
 use Prim.Native.Nat.{ℕ, ◌+◌, ◌-◌, ◌*◌, ◌/◌, ◌%◌, ◌≤◌, ◌<◌}
 use mathlib.Core.Path.{◌≡◌, refl, sym, ap, ap₂, ◌∙◌, subst}
 use mathlib.Core.Bool.{Bool, true, false}
-use mathlib.Core.List.{List, [], ◌∷◌, ◌++◌, map, append_assoc}
+use mathlib.Core.List.{List, [], ◌∷◌, ◌++◌, map}
 use native.Mathlib.Omega.{arith}
 use borrow.Author.Tests.{lt-ltb, le-ltb}
 use native.Mathlib.Nat.{mod-lt}
 use lib.IntN.{ℤ, pos, neg_ℤ}
 use lib.Pow.{pow_pos}
-use lib.ListN.{length, drop, set, length-append, length-map}
+use lib.ListN.{length, drop, length-append, length-map}
 use Rattle.bits.specs.Bits.{bit}
 use Rattle.bits.specs.Index.{each_from}
 use Rattle.formats.specs.BitList.{bit_list, number_of, bits_of_bytes, bytes_of_bits}
@@ -31,17 +31,35 @@ use Rattle.dump_rules.proofs.ShownLaws.{shown_well}
 use Rattle.dump_map.specs.Kinds.{has_kind}
 use Rattle.dump_writer.specs.Fields.{flag_of, shown_classes}
 use Rattle.dump_writer.specs.Puts.{Wrote, Puts}
-use Rattle.dump_writer.specs.Written.{head_of, Sized}
+use Rattle.dump_writer.specs.Written.{Sized}
+use Rattle.dump_writer.specs.declared.put.Pen.{Pen}
+use Rattle.dump_writer.proofs.PutLaws.{puts_then}
+use Rattle.class_rules.specs.declared.Class.{Class}
+use Rattle.dump_rules.specs.Reader.{cause_count, lock_count}
 use Rattle.dump_map.specs.declared.Kind.{Kind}
 
-pub mark_stored : (o : List ℕ) → 4 ≤ length o → Wrote o (bits_of_bytes mark) (set (set (set (set o 0 84) 1 68) 2 77) 3 80) 0
-unfolding bits_of_bytes bit_list bytes_of_bits number_of bit
-mark_stored [] h = absurd (omega arith)
-mark_stored (a ∷ []) h = absurd (omega arith)
-mark_stored (a ∷ b ∷ []) h = absurd (omega arith)
-mark_stored (a ∷ b ∷ c ∷ []) h = absurd (omega arith)
-mark_stored (a ∷ b ∷ c ∷ d ∷ o) h =
-    record { count = 4; full = bits_of_bytes mark; pending = []; all = refl; whole = refl; less = omega arith; stored = refl; waits = refl }
+-- ── the pen ──
+
+pub mark_bits : bit_list 32 1413762384 ≡ bits_of_bytes mark
+unfolding bits_of_bytes bit_list bit
+mark_bits = refl
+
+start : (out : List ℕ) → Wrote out [] out 0
+unfolding bytes_of_bits number_of
+start out = record { count = 0; full = []; pending = []; all = refl; whole = refl; less = omega arith; stored = refl; waits = refl }
+
+all_written : (bits : List Bool) (p q : Pen) → p.at ≡ 0 → p.wait ≡ 0 → Puts bits p q → Wrote p.out.now bits q.out.now q.wait
+all_written bits p q a b f = f.written p.out.now [] (subst (λ (x : ℕ). Wrote p.out.now [] p.out.now x) (sym b) (start p.out.now)) (sym a)
+
+pub classes_place : (cs : List Class) (p q : Pen) → Puts (flat class_bits (shown_classes cs)) p q → (q.at ≡ p.at + 204) × (length q.out.now ≡ length p.out.now)
+unfolding each_from
+classes_place cs p q f = (f.place ∙ ap (λ (x : ℕ). p.at + x) (flat_length class_bits 51 class_length (shown_classes cs)), f.room)
+
+pub flags_place : (f : ℕ → ℕ) (xs : List ℕ) (p q : Pen) → Puts (flat (bit_list 1) (map f xs)) p q → (q.at ≡ p.at + length xs) × (length q.out.now ≡ length p.out.now)
+flags_place f xs p q g =
+    let n : length (flat (bit_list 1) (map f xs)) ≡ 1 * length (map f xs) = flat_length (bit_list 1) 1 (length_bits 1) (map f xs) in
+    let m : length (map f xs) ≡ length xs = length-map xs f in
+    (omega (arith, g.place), g.room)
 
 -- what is written of whole bytes
 no_bits : (xs : List Bool) → length xs ≡ 0 → xs ≡ []
@@ -71,7 +89,7 @@ module _ (h : Handler) (v : valid h ≡ true) where
       wrote_whole o (dump_bits (shown h)) out wait (length (dump_bits (shown h)) / 8) w n
       ∙ ap (λ (k : ℕ). bytes_of_bits (length (dump_bits (shown h)) / 8) (dump_bits (shown h)) ++ drop k o) (sym (length_bytes_of_bits (length (dump_bits (shown h)) / 8) (dump_bits (shown h))))
 
-module _ (h : Handler) (room c l z k : ℕ) (sz : Sized h room c l z k) where
+module _ (h : Handler) where
   abbrev causes : List ℕ
   causes = map (λ r. flag_of Kind.Cause h (decode h.n r)) (picks (λ r. has_kind Kind.Cause (decode h.n r)) 0 limit)
 
@@ -81,110 +99,73 @@ module _ (h : Handler) (room c l z k : ℕ) (sz : Sized h room c l z k) where
   abbrev stages : List ShownStage
   stages = map (λ r. record { register = r; value = stage h (decode h.n r) - 1 }) (picks (λ r. is_open h.stages (decode h.n r)) 0 limit)
 
-  many_causes : length causes ≡ c
-  many_causes = length-map (picks (λ r. has_kind Kind.Cause (decode h.n r)) 0 limit) (λ r. flag_of Kind.Cause h (decode h.n r)) ∙ sym sz.causes
+  many_causes : length causes ≡ cause_count h.n
+  many_causes = length-map (picks (λ r. has_kind Kind.Cause (decode h.n r)) 0 limit) (λ r. flag_of Kind.Cause h (decode h.n r))
 
-  many_locks : length locks ≡ l
-  many_locks = length-map (picks (λ r. has_kind Kind.Lock (decode h.n r)) 0 limit) (λ r. flag_of Kind.Lock h (decode h.n r)) ∙ sym sz.locks
+  many_locks : length locks ≡ lock_count h.n
+  many_locks = length-map (picks (λ r. has_kind Kind.Lock (decode h.n r)) 0 limit) (λ r. flag_of Kind.Lock h (decode h.n r))
 
-  many_stages : length stages ≡ k
-  many_stages = length-map (picks (λ r. is_open h.stages (decode h.n r)) 0 limit) (λ r. record { register = r; value = stage h (decode h.n r) - 1 }) ∙ sym sz.stages
+  many_stages : length stages ≡ length (picks (λ r. is_open h.stages (decode h.n r)) 0 limit)
+  many_stages = length-map (picks (λ r. is_open h.stages (decode h.n r)) 0 limit) (λ r. record { register = r; value = stage h (decode h.n r) - 1 })
 
-  pub head_put : (o x0 x1 x2 x3 x4 x5 x6 : List ℕ) (a1 a2 a3 a4 a5 a6 : ℕ) → Wrote o (bits_of_bytes mark) x0 0
-      → Puts (bit_list 8 h.n) 32 x0 0 x1 a1 → Puts (flat class_bits (shown_classes h.classes)) 40 x1 a1 x2 a2 → Puts (flat (bit_list 1) causes) 244 x2 a2 x3 a3
-      → Puts (flat (bit_list 1) locks) (244 + c) x3 a3 x4 a4 → Puts (bit_list z 0) (244 + c + l) x4 a4 x5 a5 → Puts (bit_list 16 k) (244 + c + l + z) x5 a5 x6 a6
-      → Wrote o (head_of h z k) x6 a6
-  unfolding each_from bits_of_bytes bit_list
-  head_put o x0 x1 x2 x3 x4 x5 x6 a1 a2 a3 a4 a5 a6 w p1 p2 p3 p4 p5 p6 =
-      let b0 : List Bool = bits_of_bytes mark in
-      let b1 : List Bool = bit_list 8 h.n in
-      let b2 : List Bool = flat class_bits (shown_classes h.classes) in
-      let b3 : List Bool = flat (bit_list 1) causes in
-      let b4 : List Bool = flat (bit_list 1) locks in
-      let b5 : List Bool = bit_list z 0 in
-      let b6 : List Bool = bit_list 16 k in
-      let e1 : length (b0 ++ b1) ≡ 40 = length-append b0 b1 ∙ ap (λ (n : ℕ). 32 + n) (length_bits 8 h.n) in
-      let f2 : length b2 ≡ 204 = flat_length class_bits 51 class_length (shown_classes h.classes) in
-      let e2 : length ((b0 ++ b1) ++ b2) ≡ 244 = let t : length ((b0 ++ b1) ++ b2) ≡ length (b0 ++ b1) + length b2 = length-append (b0 ++ b1) b2 in omega arith in
-      let f3 : length b3 ≡ c = let t : length b3 ≡ 1 * length causes = flat_length (bit_list 1) 1 (length_bits 1) causes in omega (arith, many_causes) in
-      let e3 : length (((b0 ++ b1) ++ b2) ++ b3) ≡ 244 + c = let t : length (((b0 ++ b1) ++ b2) ++ b3) ≡ length ((b0 ++ b1) ++ b2) + length b3 = length-append ((b0 ++ b1) ++ b2) b3 in omega arith in
-      let f4 : length b4 ≡ l = let t : length b4 ≡ 1 * length locks = flat_length (bit_list 1) 1 (length_bits 1) locks in omega (arith, many_locks) in
-      let e4 : length ((((b0 ++ b1) ++ b2) ++ b3) ++ b4) ≡ 244 + c + l = let t : length ((((b0 ++ b1) ++ b2) ++ b3) ++ b4) ≡ length (((b0 ++ b1) ++ b2) ++ b3) + length b4 = length-append (((b0 ++ b1) ++ b2) ++ b3) b4 in omega arith in
-      let f5 : length b5 ≡ z = length_bits z 0 in
-      let e5 : length (((((b0 ++ b1) ++ b2) ++ b3) ++ b4) ++ b5) ≡ 244 + c + l + z = let t : length (((((b0 ++ b1) ++ b2) ++ b3) ++ b4) ++ b5) ≡ length ((((b0 ++ b1) ++ b2) ++ b3) ++ b4) + length b5 = length-append ((((b0 ++ b1) ++ b2) ++ b3) ++ b4) b5 in omega arith in
-      let w1 = p1 o b0 w refl in
-      let w2 = p2 o (b0 ++ b1) w1 e1 in
-      let w3 = p3 o ((b0 ++ b1) ++ b2) w2 e2 in
-      let w4 = p4 o (((b0 ++ b1) ++ b2) ++ b3) w3 e3 in
-      let w5 = p5 o ((((b0 ++ b1) ++ b2) ++ b3) ++ b4) w4 e4 in
-      p6 o (((((b0 ++ b1) ++ b2) ++ b3) ++ b4) ++ b5) w5 e5
-
-  head_length : length (head_of h z k) ≡ 260 + c + l + z
-  unfolding each_from bits_of_bytes bit_list
-  head_length =
-      let b0 : List Bool = bits_of_bytes mark in
-      let b1 : List Bool = bit_list 8 h.n in
-      let b2 : List Bool = flat class_bits (shown_classes h.classes) in
-      let b3 : List Bool = flat (bit_list 1) causes in
-      let b4 : List Bool = flat (bit_list 1) locks in
-      let b5 : List Bool = bit_list z 0 in
-      let b6 : List Bool = bit_list 16 k in
-      let e1 : length (b0 ++ b1) ≡ 40 = length-append b0 b1 ∙ ap (λ (n : ℕ). 32 + n) (length_bits 8 h.n) in
-      let f2 : length b2 ≡ 204 = flat_length class_bits 51 class_length (shown_classes h.classes) in
-      let e2 : length ((b0 ++ b1) ++ b2) ≡ 244 = let t : length ((b0 ++ b1) ++ b2) ≡ length (b0 ++ b1) + length b2 = length-append (b0 ++ b1) b2 in omega arith in
-      let f3 : length b3 ≡ c = let t : length b3 ≡ 1 * length causes = flat_length (bit_list 1) 1 (length_bits 1) causes in omega (arith, many_causes) in
-      let e3 : length (((b0 ++ b1) ++ b2) ++ b3) ≡ 244 + c = let t : length (((b0 ++ b1) ++ b2) ++ b3) ≡ length ((b0 ++ b1) ++ b2) + length b3 = length-append ((b0 ++ b1) ++ b2) b3 in omega arith in
-      let f4 : length b4 ≡ l = let t : length b4 ≡ 1 * length locks = flat_length (bit_list 1) 1 (length_bits 1) locks in omega (arith, many_locks) in
-      let e4 : length ((((b0 ++ b1) ++ b2) ++ b3) ++ b4) ≡ 244 + c + l = let t : length ((((b0 ++ b1) ++ b2) ++ b3) ++ b4) ≡ length (((b0 ++ b1) ++ b2) ++ b3) + length b4 = length-append (((b0 ++ b1) ++ b2) ++ b3) b4 in omega arith in
-      let f5 : length b5 ≡ z = length_bits z 0 in
-      let e5 : length (((((b0 ++ b1) ++ b2) ++ b3) ++ b4) ++ b5) ≡ 244 + c + l + z = let t : length (((((b0 ++ b1) ++ b2) ++ b3) ++ b4) ++ b5) ≡ length ((((b0 ++ b1) ++ b2) ++ b3) ++ b4) + length b5 = length-append ((((b0 ++ b1) ++ b2) ++ b3) ++ b4) b5 in omega arith in
-      let f6 : length b6 ≡ 16 = length_bits 16 k in
-      let e6 : length ((((((b0 ++ b1) ++ b2) ++ b3) ++ b4) ++ b5) ++ b6) ≡ 260 + c + l + z = let t : length ((((((b0 ++ b1) ++ b2) ++ b3) ++ b4) ++ b5) ++ b6) ≡ length (((((b0 ++ b1) ++ b2) ++ b3) ++ b4) ++ b5) + length b6 = length-append (((((b0 ++ b1) ++ b2) ++ b3) ++ b4) ++ b5) b6 in omega arith in
-      e6
-
-module _ (h : Handler) (v : valid h ≡ true) (room c l z k : ℕ) (sz : Sized h room c l z k) where
-  pub dump_put : (o x6 x7 : List ℕ) (a6 a7 : ℕ) → Wrote o (head_of h z k) x6 a6 → Puts (flat stage_bits (stages h room c l z k sz)) (260 + c + l + z) x6 a6 x7 a7 → x7 ≡ dump_of (shown h) ++ drop (length (dump_of (shown h))) o
+  pub dump_put : valid h ≡ true → (room z k : ℕ) → Sized h room z k → (p0 p1 p2 p3 p4 p5 p6 p7 p8 : Pen) → p0.at ≡ 0 → p0.wait ≡ 0
+      → Puts (bit_list 32 1413762384) p0 p1 → Puts (bit_list 8 h.n) p1 p2 → Puts (flat class_bits (shown_classes h.classes)) p2 p3
+      → Puts (flat (bit_list 1) causes) p3 p4 → Puts (flat (bit_list 1) locks) p4 p5 → Puts (bit_list z 0) p5 p6 → Puts (bit_list 16 k) p6 p7
+      → Puts (flat stage_bits stages) p7 p8 → (p8.out.ghost_name ≡ p0.out.ghost_name) × (p8.out.now ≡ dump_of (shown h) ++ drop (length (dump_of (shown h))) p0.out.now)
   unfolding dump_bits shown
-  dump_put o x6 x7 a6 a7 w p =
-      dump_is h v o x7 a7 (subst (λ (bits : List Bool). Wrote o bits x7 a7) (regroup (bits_of_bytes mark) (bit_list 8 h.n) (flat class_bits (shown_classes h.classes)) (flat (bit_list 1) (causes h room c l z k sz)) (flat (bit_list 1) (locks h room c l z k sz)) (bit_list z 0) (bit_list 16 k) (flat stage_bits (stages h room c l z k sz)) ∙ same) (p o (head_of h z k) w (head_length h room c l z k sz)))
+  dump_put v room z k sz p0 p1 p2 p3 p4 p5 p6 p7 p8 a w f1 f2 f3 f4 f5 f6 f7 f8 =
+      let b0 : List Bool = bit_list 32 1413762384 in
+      let b1 : List Bool = bit_list 8 h.n in
+      let b2 : List Bool = flat class_bits (shown_classes h.classes) in
+      let b3 : List Bool = flat (bit_list 1) causes in
+      let b4 : List Bool = flat (bit_list 1) locks in
+      let b5 : List Bool = bit_list z 0 in
+      let b6 : List Bool = bit_list 16 k in
+      let b7 : List Bool = flat stage_bits stages in
+      let g6 = puts_then b6 b7 p6 p7 p8 f7 f8 in
+      let g5 = puts_then b5 (b6 ++ b7) p5 p6 p8 f6 g6 in
+      let g4 = puts_then b4 (b5 ++ (b6 ++ b7)) p4 p5 p8 f5 g5 in
+      let g3 = puts_then b3 (b4 ++ (b5 ++ (b6 ++ b7))) p3 p4 p8 f4 g4 in
+      let g2 = puts_then b2 (b3 ++ (b4 ++ (b5 ++ (b6 ++ b7)))) p2 p3 p8 f3 g3 in
+      let g1 = puts_then b1 (b2 ++ (b3 ++ (b4 ++ (b5 ++ (b6 ++ b7))))) p1 p2 p8 f2 g2 in
+      let g0 = puts_then b0 (b1 ++ (b2 ++ (b3 ++ (b4 ++ (b5 ++ (b6 ++ b7)))))) p0 p1 p8 f1 g1 in (
+        g0.lent,
+        dump_is h v p0.out.now p8.out.now p8.wait
+            (subst (λ (bits : List Bool). Wrote p0.out.now bits p8.out.now p8.wait) same
+            (all_written (b0 ++ (b1 ++ (b2 ++ (b3 ++ (b4 ++ (b5 ++ (b6 ++ b7))))))) p0 p8 a w g0)),
+      )
     where
-      regroup : (b0 b1 b2 b3 b4 b5 b6 b7 : List Bool) → (((((((b0 ++ b1) ++ b2) ++ b3) ++ b4) ++ b5) ++ b6) ++ b7) ≡ b0 ++ (b1 ++ (b2 ++ (b3 ++ (b4 ++ (b5 ++ (b6 ++ b7))))))
-      regroup b0 b1 b2 b3 b4 b5 b6 b7 =
-          append_assoc (((((b0 ++ b1) ++ b2) ++ b3) ++ b4) ++ b5) b6 b7 ∙ append_assoc ((((b0 ++ b1) ++ b2) ++ b3) ++ b4) b5 (b6 ++ b7)
-          ∙ append_assoc (((b0 ++ b1) ++ b2) ++ b3) b4 (b5 ++ (b6 ++ b7)) ∙ append_assoc ((b0 ++ b1) ++ b2) b3 (b4 ++ (b5 ++ (b6 ++ b7)))
-          ∙ append_assoc (b0 ++ b1) b2 (b3 ++ (b4 ++ (b5 ++ (b6 ++ b7)))) ∙ append_assoc b0 b1 (b2 ++ (b3 ++ (b4 ++ (b5 ++ (b6 ++ b7)))))
-
-      same : bits_of_bytes mark ++ (bit_list 8 h.n ++ (flat class_bits (shown_classes h.classes) ++ (flat (bit_list 1) (causes h room c l z k sz) ++ (flat (bit_list 1) (locks h room c l z k sz) ++ (bit_list z 0 ++ (bit_list 16 k ++ flat stage_bits (stages h room c l z k sz))))))) ≡ dump_bits (shown h)
+      same : bit_list 32 1413762384 ++ (bit_list 8 h.n ++ (flat class_bits (shown_classes h.classes) ++ (flat (bit_list 1) causes ++ (flat (bit_list 1) locks ++ (bit_list z 0 ++ (bit_list 16 k ++ flat stage_bits stages)))))) ≡ dump_bits (shown h)
       same =
-          ap₂ (λ (a b : ℕ). bits_of_bytes mark ++ (bit_list 8 h.n ++ (flat class_bits (shown_classes h.classes) ++ (flat (bit_list 1) (causes h room c l z k sz) ++ (flat (bit_list 1) (locks h room c l z k sz) ++ (bit_list a 0 ++ (bit_list 16 b ++ flat stage_bits (stages h room c l z k sz))))))))
-          (sz.zeros ∙ ap₂ (λ (x y : ℕ). to_full (head_bits x y)) (sym (many_causes h room c l z k sz)) (sym (many_locks h room c l z k sz))) (sym (many_stages h room c l z k sz))
+          ap (λ (x : List Bool). x ++ (bit_list 8 h.n ++ (flat class_bits (shown_classes h.classes) ++ (flat (bit_list 1) causes ++ (flat (bit_list 1) locks ++ (bit_list z 0 ++ (bit_list 16 k ++ flat stage_bits stages))))))) mark_bits
+          ∙ ap₂ (λ (x y : ℕ). bits_of_bytes mark ++ (bit_list 8 h.n ++ (flat class_bits (shown_classes h.classes) ++ (flat (bit_list 1) causes ++ (flat (bit_list 1) locks ++ (bit_list x 0 ++ (bit_list 16 y ++ flat stage_bits stages)))))))
+          (sz.zeros ∙ ap₂ (λ (x y : ℕ). to_full (head_bits x y)) (sym many_causes) (sym many_locks)) (sz.stages ∙ sym many_stages)
 
 -- ── sizes ──
 
 full_byte : (x : ℕ) → 8 * ((x + 7) / 8) ≡ x + to_full x
 full_byte x = omega arith
 
-pub sized : (h : Handler) → valid h ≡ true → (room c l z k size : ℕ) → c ≡ length (picks (λ r. is_cause (decode h.n r)) 0 limit) → l ≡ length (picks (λ r. is_lock (decode h.n r)) 0 limit)
-    → z ≡ to_full (head_bits c l) → k ≡ length (picks (λ r. is_open h.stages (decode h.n r)) 0 limit) → size ≡ 6 + (219 + c + l) / 8 + 6 * k → size ≤ room → Sized h room c l z k
-sized h v room c l z k size e f g i n r =
-    let p : c ≤ 1344 = subst (λ (x : ℕ). x ≤ 1344) (sym e) (many_le (λ r. is_cause (decode h.n r)) 0 limit) in
-    let q : l ≤ 1344 = subst (λ (x : ℕ). x ≤ 1344) (sym f) (many_le (λ r. is_lock (decode h.n r)) 0 limit) in
-    let t : k ≤ 1344 = subst (λ (x : ℕ). x ≤ 1344) (sym i) (many_le (λ r. is_open h.stages (decode h.n r)) 0 limit) in
-    let w : z ≤ 64 = subst (λ (x : ℕ). x ≤ 64) (sym g) (small (head_bits c l)) in
-    let b : 8 * ((head_bits c l + 7) / 8) ≡ head_bits c l + z = full_byte (head_bits c l) ∙ ap (λ (x : ℕ). head_bits c l + x) (sym g) in
-    let y : 8 * size ≡ 48 + 8 * ((219 + c + l) / 8) + 48 * k = omega arith in
-    let u : (219 + c + l) / 8 ≡ (head_bits c l + 7) / 8 = ap (λ (x : ℕ). x / 8) (let j : 219 + c + l ≡ head_bits c l + 7 = omega arith in j) in
-    record { causes = e; locks = f; zeros = g; stages = i; few_causes = p; few_locks = q; few_zeros = w; few_stages = t; fits = omega arith }
+pub few : (h : Handler) → (cause_count h.n ≤ 1344) × (lock_count h.n ≤ 1344) × (to_full (head_bits (cause_count h.n) (lock_count h.n)) ≤ 64) × (length (picks (λ r. is_open h.stages (decode h.n r)) 0 limit) ≤ 1344)
+few h = (many_le (λ r. is_cause (decode h.n r)) 0 limit, many_le (λ r. is_lock (decode h.n r)) 0 limit, small (head_bits (cause_count h.n) (lock_count h.n)), many_le (λ r. is_open h.stages (decode h.n r)) 0 limit)
   where
     small : (x : ℕ) → to_full x ≤ 64
     small x = let m : to_full x < 8 = mod-lt (8 - x % 8) (pow_pos 3) in omega arith
 
-pub size_is : (h : Handler) → valid h ≡ true → (room c l z k : ℕ) → Sized h room c l z k → 6 + (219 + c + l) / 8 + 6 * k ≡ length (dump_of (shown h))
+pub sized : (h : Handler) (room c l z k : ℕ) → c ≡ cause_count h.n → l ≡ lock_count h.n → z ≡ to_full (head_bits c l)
+    → k ≡ length (picks (λ r. is_open h.stages (decode h.n r)) 0 limit) → 6 + (219 + c + l) / 8 + 6 * k ≤ room → Sized h room z k
+sized h room c l z k e f g i r =
+    let b : 8 * ((head_bits c l + 7) / 8) ≡ head_bits c l + z = full_byte (head_bits c l) ∙ ap (λ (x : ℕ). head_bits c l + x) (sym g) in
+    let u : (219 + c + l) / 8 ≡ (head_bits c l + 7) / 8 = ap (λ (x : ℕ). x / 8) (let j : 219 + c + l ≡ head_bits c l + 7 = omega arith in j) in
+    record { zeros = g ∙ ap₂ (λ (x y : ℕ). to_full (head_bits x y)) e f; stages = i; fits = omega arith }
+
+pub size_is : (h : Handler) → valid h ≡ true → (c l k : ℕ) → c ≡ cause_count h.n → l ≡ lock_count h.n → k ≡ length (picks (λ r. is_open h.stages (decode h.n r)) 0 limit)
+    → 6 + (219 + c + l) / 8 + 6 * k ≡ length (dump_of (shown h))
 unfolding shown
-size_is h v room c l z k sz =
-    let a : length (shown h).causes ≡ c = many_causes h room c l z k sz in
-    let b : length (shown h).locks ≡ l = many_locks h room c l z k sz in
-    let d : length (shown h).stages ≡ k = many_stages h room c l z k sz in
+size_is h v c l k e f g =
+    let a : length (shown h).causes ≡ c = many_causes h ∙ sym e in
+    let b : length (shown h).locks ≡ l = many_locks h ∙ sym f in
+    let d : length (shown h).stages ≡ k = many_stages h ∙ sym g in
     sym (dump_length_law (shown h) (shown_well h v)
     ∙ ap₂ (λ (x y : ℕ). 4 + (head_bits x y + 7) / 8 + 2 + 6 * length (shown h).stages) a b ∙ ap (λ (x : ℕ). 4 + (head_bits c l + 7) / 8 + 2 + 6 * x) d
     ∙ (let u : (219 + c + l) / 8 ≡ (head_bits c l + 7) / 8 = ap (λ (x : ℕ). x / 8) (let j : 219 + c + l ≡ head_bits c l + 7 = omega arith in j) in

@@ -17,5 +17,8 @@ flag_of Kind.Lock h q = 1 - value h q
 flag_of Kind.Shadowed h q = value h q
 
 -- what a dump shows of the classes
+abbrev pub shown_class : Class → ShownClass
+shown_class c = record { state = c.state; count = c.count; accum = c.accum }
+
 abbrev pub shown_classes : List Class → List ShownClass
-shown_classes cs = each 4 (λ k. record { state = (get_or cs k no_class).state; count = (get_or cs k no_class).count; accum = (get_or cs k no_class).accum })
+shown_classes cs = each 4 (λ k. shown_class (get_or cs k no_class))

@@ -1,6 +1,6 @@
 // Request (xiv): the writer of dumps.
 #![tactic(auto)]
 
-pub mod fill;
-pub mod put;
+mod fill;
+mod put;
 pub mod write;

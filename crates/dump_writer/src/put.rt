@@ -1,32 +1,39 @@
 // Bits into a lent buffer, one after the other: a byte is stored when its eighth bit comes, and till then its bits wait in a number.
-ghost use Rattle.std.specs.Prelude.{[], ◌∷◌, ◌+◌, ◌*◌, ◌≤◌, ◌<◌, eqb, length};
-ghost use Rattle.formats.specs.BitList.{bit_list};
-ghost use Rattle.dump_writer.specs.Puts.{Puts};
+ghost use Rattle.std.specs.Prelude.{[], ◌∷◌, ◌+◌, ◌*◌, ◌≤◌, ◌<◌, length};
 
-// Bit `at` of what is written.
-fn push(out: &mut [u8], at: usize, wait: u64, b: u64) -> u64
-    requires { at < 8 * length out.old }
-    ensures { b < 2 → Puts (eqb b 1 ∷ []) at out.old wait out.new result }
-{
-    let a = 2 * (wait % 128) + b % 2;
-    if at % 8 == 7 {
-        out[at / 8] = a as u8;
-        0
-    } else {
-        a
-    }
+// The buffer, the place of the next bit in it, and the bits that wait. No fact of the place is a ghost field, as none stands beside a `&mut` field yet.
+#[derive(Drop)]
+pub(crate) struct Pen<'a> {
+    pub(crate) out: &'a mut [u8],
+    pub(crate) at: usize,
+    pub(crate) wait: u64,
 }
 
-// A number of w bits, most significant first.
-pub fn put_number(out: &mut [u8], at: usize, wait: u64, w: usize, x: u64) -> u64
-    requires { (at + w ≤ 8 * length out.old) × (w ≤ 64) × (at ≤ 1000000) }
-    ensures { Puts (bit_list w x) at out.old wait out.new result }
-{
-    let mut a = wait;
-    let mut i: usize = 0;
-    while i < w {
-        a = push(out, at + i, a, (x >> (w - 1 - i)) % 2);
-        i += 1;
+impl<'a> Pen<'a> {
+    ghost use Rattle.formats.specs.BitList.{bit_list};
+    ghost use Rattle.dump_writer.specs.Puts.{Puts};
+
+    fn push(&mut self, b: bool)
+        requires { (self.old.at < 8 * length self.old.out.now) × (self.old.at ≤ 1000000) }
+        ensures { Puts (b ∷ []) self.old self.new }
+    {
+        let wait = 2 * (self.wait % 128) + u64::from(b);
+        if self.at % 8 == 7 {
+            self.out[self.at / 8] = wait as u8;
+            self.wait = 0;
+        } else {
+            self.wait = wait;
+        }
+        self.at += 1;
     }
-    a
+
+    // A number of w bits, most significant first.
+    pub(crate) fn number(&mut self, w: usize, x: u64)
+        requires { (self.old.at + w ≤ 8 * length self.old.out.now) × (w ≤ 64) × (self.old.at + w ≤ 1000000) }
+        ensures { Puts (bit_list w x) self.old self.new }
+    {
+        for i in 0..w {
+            self.push((x >> (w - 1 - i)) % 2 == 1);
+        }
+    }
 }

@@ -33,13 +33,10 @@ pub fn gather(
             let b = first(left);
             let i = v * 64 + b;
             let on = en[i] == 1;
-            hits = hits | note::class_bit(class[i], on);
+            hits |= note::class_bit(class[i], on);
             note::mark(&mut cause, i, on);
             left = after(left, b);
         }
     }
-    Gathered {
-        cause: cause,
-        hits: hits,
-    }
+    Gathered { cause, hits }
 }

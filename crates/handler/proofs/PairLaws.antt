@@ -3,13 +3,13 @@
 use Prim.Native.Nat.{ℕ, ◌+◌, ◌*◌, ◌-◌, ◌^◌, ◌<◌}
 use mathlib.Core.Path.{◌≡◌, ap, ◌∙◌}
 use mathlib.Core.Bool.{Bool, not, xor, and_comm, ◌&&◌}
-use mathlib.Core.List.{List, [], ◌∷◌}
+use mathlib.Core.List.{List}
 use native.Mathlib.Omega.{arith}
 use lib.Bits.{bit_and, bit_xor, and_le_r}
 use lib.Dec.{ltb}
 use lib.ListN.{get_or}
 use Rattle.bits.specs.Bits.{place, word_of}
-use Rattle.bits.specs.Index.{each_from, words_by}
+use Rattle.bits.specs.Index.{words_by}
 use Rattle.bits.proofs.BitLaws.{bit_and_law, bit_xor_law, not64, word_of_lt, is_word64, place_word64}
 use Rattle.bits.proofs.IndexLaws.{at_each, each_ext}
 use Rattle.bits.proofs.TruthTables.{by4}
@@ -19,7 +19,6 @@ use Rattle.link_rules.specs.Receiver.{acknowledges}
 use Rattle.rules.specs.State.{words}
 use Rattle.rules.specs.Tick.{pairs}
 use Rattle.rules.specs.declared.Receivers.{Receivers}
-use Rattle.rules.specs.declared.Wires.{Wires}
 use Rattle.handler.specs.PairWords.{is_acknowledged, is_high, word_by, spread}
 
 -- ── word v of n alerts, of which live says who counts ──
@@ -57,13 +56,8 @@ opposite f =
     is_word64 (18446744073709551615 - word_of 64 f) (λ b. not (f b)) (omega arith)
     (λ b l. let m : 63 - b < 64 = omega arith in not64 (word_of 64 f) (63 - b) (word_of_lt 64 f) m ∙ ap not (place_word64 f b l))
 
-spread_by : (f : ℕ → Bool) → spread (words_by words f) ≡ pairs f
+pub spread_by : (f : ℕ → Bool) → spread (words_by words f) ≡ pairs f
 spread_by f =
     ap (λ (xs : List ℕ). record { pos = words_by words f; neg = xs })
     (each_ext words _ _ 0
     (λ v l. ap (λ (x : ℕ). 18446744073709551615 - x) (at_each words (word_by f) v 0 l) ∙ opposite (λ b. f (v * 64 + b))))
-
-pub pairs_by : (f : ℕ → Bool) (a b c d : ℕ) (w : Wires) → a ≡ word_by f 0 → b ≡ word_by f 1 → c ≡ word_by f 2 → d ≡ word_by f 3
-    → w ≡ spread (a ∷ b ∷ c ∷ d ∷ []) → w ≡ pairs f
-unfolding each_from
-pairs_by f a b c d w ea eb ec ed e = e ∙ (λ t. spread (ea t ∷ eb t ∷ ec t ∷ ed t ∷ [])) ∙ spread_by f

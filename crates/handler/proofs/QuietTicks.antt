@@ -13,7 +13,7 @@ use Rattle.rules.specs.declared.Effects.{Effects}
 use Rattle.rules.specs.declared.Handler.{Handler}
 use Rattle.rules.specs.declared.Sample.{Sample}
 use Rattle.samples.specs.Quiet.{QuietBy}
-use Rattle.samples.specs.declared.links.Quiet.{Quiet}
+use Rattle.samples.specs.declared.pace.Met.{Met}
 use Rattle.samples.proofs.QuietSamples.{quiet_sampled, quiet_links}
 use Rattle.handler.specs.Finished.{finished, no_effects}
 use Rattle.handler.specs.QuietTick.{moved_by, ended}
@@ -30,13 +30,12 @@ none_are e t =
     unset true t = absurd (true≢false (sym t))
     unset false t = refl
 
--- r is what step 2 leaves for the links
-pub quiet_tick : (h : Handler) (e : Effects) (s : Sample) (r : Quiet) (v : Bool) → h.n ≤ most
+-- m is what step 2 leaves for the links
+pub quiet_tick : (h : Handler) (e : Effects) (s : Sample) (m : Met) → h.n ≤ most
     → length h.alerts.cause ≡ most → length h.locals.cause ≡ local_count
-    → QuietBy h.n h.links h.timer (pingable h) s r → (v ≡ true → e ≡ no_effects) → (r.quiet && v) ≡ true
-    → ended h r.met (moved_by h.classes h.interrupts) ≡ finished h e s
-quiet_tick h e s r v small m k q f t =
-    let b = and-true r.quiet v t in
+    → QuietBy h.n h.links h.timer (pingable h) s m → e ≡ no_effects
+    → ended h m (moved_by h.classes h.interrupts) ≡ finished h e s
+quiet_tick h e s m small alerts locals q f =
     finish_by h no_effects s (heard h s no_effects) (record { handler = h; assigned = 0 }) _ _ _ _ _ refl
-    (quiet_sampled h s r small q b.0 m k) refl refl refl refl (quiet_links h s r small q b.0 _)
-    ∙ ap (λ (d : Effects). finished h d s) (sym (f b.1))
+    (quiet_sampled h s m small q alerts locals) refl refl refl refl (quiet_links h s m small q _)
+    ∙ ap (λ (d : Effects). finished h d s) (sym f)

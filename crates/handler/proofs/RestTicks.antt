@@ -25,6 +25,7 @@ use Rattle.samples.specs.Rest.{waited, driven}
 use Rattle.handler.specs.Classes.{interrupt_by, met_by, classes_by, interrupts_by}
 use Rattle.laws.specs.OutputMasks.{interrupts_on, lines_on}
 use Rattle.handler.specs.MovingTick.{moving_by}
+use Rattle.handler.specs.declared.moving.Moving.TheVariants.{Moves}
 use Rattle.handler.specs.RestTick.{all_still}
 
 -- ── the classes: nothing is assigned, and none is cleared ──
@@ -66,19 +67,11 @@ module _ (cs : List Class) (state : ℕ) (all : all_still cs state ≡ true) (fo
 -- senders and classes that stay, and no line on
 pub staying : (c : Timer) (count : ℕ) (senders : Senders) (cs : List Class) (x : Interrupts) (t i : ℕ) → length cs ≡ class_count
     → all_still cs x.state ≡ true → x.state < 16 → sent_all senders (driven 0) ≡ senders → t ≡ waited c count → i ≡ interrupts_on x.state x.enable
-    → record { holds = true; rests = true; count = t; senders = senders; classes = cs; state = x.state; interrupts = i; lines = 0 } ≡ moving_by c count senders cs x true
+    → moving_by c count senders cs x ≡ Moves t senders (record { classes = cs; state = x.state; interrupts = i; lines = 0 })
 staying c count senders cs x t i four all z s et ei =
-    (λ u. record { holds = true; rests = true; count = et u; senders = senders; classes = cs; state = x.state; interrupts = ei u; lines = 0 })
-    ∙ sym (λ u. record {
-      holds = true;
-      rests = true;
-      count = waited c count;
-      senders = (ap (λ (o : ℕ). sent_all senders (driven o)) lines ∙ s) u;
-      classes = classes_stay cs x.state all four u;
-      state = state u;
-      interrupts = interrupts_on (state u) x.enable;
-      lines = lines u;
-    })
+    (λ u. Moves (waited c count) ((ap (λ (o : ℕ). sent_all senders (driven o)) lines ∙ s) u)
+    (record { classes = classes_stay cs x.state all four u; state = state u; interrupts = interrupts_on (state u) x.enable; lines = lines u }))
+    ∙ sym (λ u. Moves (et u) senders (record { classes = cs; state = x.state; interrupts = ei u; lines = 0 }))
   where
     lines : lines_on (classes_by cs x.state 0 0) ≡ 0
     lines = ap lines_on (classes_stay cs x.state all four) ∙ no_lines cs x.state all four

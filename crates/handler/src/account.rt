@@ -25,19 +25,16 @@ pub fn account_of(h: Handler, x: Input) -> Account
     ensures { result ≡ account h x }
 {
     if is_valid(h) {
-        let sent = x.access;
-        let accessed = access(h, sent);
-        let g = accessed.handler;
-        let answer = accessed.answer;
-        let heard = hear(g, x.sample, accessed.effects);
+        let accessed = access(h, x.access);
+        let heard = hear(accessed.handler, x.sample, accessed.effects);
+        // an array of one struct goes into another by a variable: the checker covers no other way yet
         let events = heard.events;
         let answers = heard.answers;
-        let en = g.locals.en;
         Account {
             events,
             answers,
-            locals: occurring(heard.raises, en) as u64,
-            answer: signed(answer),
+            locals: occurring(heard.raises, accessed.handler.locals.en) as u64,
+            answer: signed(accessed.answer),
         }
     } else {
         Account {

@@ -6,7 +6,8 @@ ghost use Rattle.handler.specs.Classes.{interrupt_by, met_by, classes_by, interr
 
 use class::step::{event, step};
 use class_rules::{Class, Signals};
-use masks::{is_set, num};
+use masks::is_set;
+use std::array::from_fn;
 
 // The interrupt bit of class k now: an event sets it, after any clearing in step 1.
 fn interrupt(c: Class, k: u32, state: u16, assigned: u8) -> bool
@@ -33,19 +34,15 @@ fn class_after(c: Class, k: u32, state: u16, assigned: u8, clears: u8) -> Class
     requires { k < 4 }
     ensures { result ≡ class_step (met_by c k state assigned clears) c }
 {
-    let s = meet(c, k, state, assigned, clears);
-    step(s, c)
+    step(meet(c, k, state, assigned, clears), c)
 }
 
 // The four classes after steps 3 and 4.
+#[tactic(auto, unfolding(bits::specs::Index::each_from, crate::specs::Classes::classes_by))]
 pub fn classes_after(classes: [Class; 4], state: u16, assigned: u8, clears: u8) -> [Class; 4]
     ensures { result ≡ classes_by classes state assigned clears }
 {
-    let a = class_after(classes[0], 0, state, assigned, clears);
-    let b = class_after(classes[1], 1, state, assigned, clears);
-    let c = class_after(classes[2], 2, state, assigned, clears);
-    let d = class_after(classes[3], 3, state, assigned, clears);
-    [a, b, c, d]
+    from_fn(|k| class_after(classes[k], k as u32, state, assigned, clears))
 }
 
 // The interrupt bit of class k now, as a number.
@@ -53,10 +50,10 @@ fn interrupt_bit(c: Class, k: u32, state: u16, assigned: u8) -> u16
     requires { k < 4 }
     ensures { (result ≡ num (interrupt_by c k state assigned)) × (result ≤ 1) }
 {
-    num(interrupt(c, k, state, assigned)) as u16
+    u16::from(interrupt(c, k, state, assigned))
 }
 
-// INTR_STATE after step 3.
+// INTR_STATE after step 3. Class by class: tried as a fold over 0..4, whose closure's k has no bound in the proof, so not which class it reads.
 pub fn interrupts_after(classes: [Class; 4], state: u16, assigned: u8) -> u16
     ensures { result ≡ interrupts_by classes state assigned }
 {

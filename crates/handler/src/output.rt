@@ -16,9 +16,5 @@ pub fn interrupts_on(state: u16, enable: u16) -> u8
 pub fn lines_on(classes: [Class; 4]) -> u8
     ensures { result ≡ lines_on classes }
 {
-    let a = lines(classes[0]);
-    let b = lines(classes[1]);
-    let c = lines(classes[2]);
-    let d = lines(classes[3]);
-    a | b | c | d
+    classes.iter().fold(0, |on, class| on | lines(*class))
 }

@@ -10,6 +10,7 @@ ghost use Rattle.handler.specs.PairWords.{spread, is_acknowledged, is_high, word
 use link_rules::Senders;
 use masks::places::live;
 use rules::{LinePairs, Receivers, WORDS, Wires};
+use std::array::from_fn;
 
 // The pair (1,0) where a bit is set, else (0,1).
 fn spread(on: [u64; WORDS]) -> Wires
@@ -17,7 +18,7 @@ fn spread(on: [u64; WORDS]) -> Wires
 {
     Wires {
         pos: on,
-        neg: [!on[0], !on[1], !on[2], !on[3]],
+        neg: on.map(|word| !word),
     }
 }
 
@@ -33,11 +34,7 @@ fn acknowledged(n: usize, r: Receivers, v: usize) -> u64
 pub fn acknowledge_pairs(n: usize, r: Receivers) -> Wires
     ensures { result ≡ pairs (is_acknowledged n r) }
 {
-    let a = acknowledged(n, r, 0);
-    let b = acknowledged(n, r, 1);
-    let c = acknowledged(n, r, 2);
-    let d = acknowledged(n, r, 3);
-    spread([a, b, c, d])
+    spread(from_fn(|v| acknowledged(n, r, v)))
 }
 
 // Word v of whose ping pair of n alerts is (1,0).
@@ -52,11 +49,7 @@ fn high(n: usize, r: Receivers, v: usize) -> u64
 pub fn ping_pairs(n: usize, r: Receivers) -> Wires
     ensures { result ≡ pairs (is_high n r) }
 {
-    let a = high(n, r, 0);
-    let b = high(n, r, 1);
-    let c = high(n, r, 2);
-    let d = high(n, r, 3);
-    spread([a, b, c, d])
+    spread(from_fn(|v| high(n, r, v)))
 }
 
 // The escalation pairs: what the senders sent in the tick that left them so.

@@ -1,6 +1,6 @@
 // A tick in which, after step 1 and without effects of it, no alert has an event or equal wires, no ping fails and no receive pair is wrong. The links, the classes and INTR_STATE
 // alone can move then, so that the state need not be handed from step to step.
-ghost use Rattle.std.specs.Prelude.{◌≡◌, true, ◌≤◌};
+ghost use Rattle.std.specs.Prelude.{◌≡◌, ◌≤◌, IfSome};
 ghost use Rattle.rules.specs.State.{most};
 ghost use Rattle.handler.specs.Finished.{finished};
 ghost use Rattle.handler.specs.QuietTick.{moved_by, ended};
@@ -14,13 +14,6 @@ use samples::hear::is_pingable;
 use samples::links::hear_quiet;
 use samples::pace::Met;
 
-// Whether a tick is known to be such a one, and then what step 2 leaves for the links.
-#[derive(Clone, Copy)]
-pub struct Quiet {
-    pub holds: bool,
-    pub met: Met,
-}
-
 // What it moves beside the links, the classes and INTR_STATE, and the interrupts and lines that it puts out.
 #[derive(Clone, Copy)]
 pub struct Moved {
@@ -30,22 +23,17 @@ pub struct Moved {
     pub lines: u8,
 }
 
-// Step 2, of a valid state after step 1.
-pub fn quiet_of(h: Handler, e: Effects, s: Sample) -> Quiet
+// N has no type that bounds it: a state is a C struct that any bytes may fill.
+// What step 2 leaves for the links, if the tick is known to be such a one, of a valid state after step 1.
+pub fn quiet_of(h: Handler, e: Effects, s: Sample) -> Option<Met>
     requires { h.n ≤ most }
-    ensures { result.holds ≡ true → ended h result.met (moved_by h.classes h.interrupts) ≡ finished h e s }
+    ensures { IfSome result (λ met. ended h met (moved_by h.classes h.interrupts) ≡ finished h e s) }
 {
-    let before = h.links;
-    let regwen = h.alerts.regwen;
-    let en = h.alerts.en;
-    let pingable = is_pingable(h.n, before.turn.alert, &regwen, &en);
-    let heard = hear_quiet(h.n, before, h.timer, pingable, s);
-    let none = are_none(e);
-    let met = heard.met;
-    Quiet {
-        holds: heard.quiet & none,
-        met,
+    if !are_none(e) {
+        return None;
     }
+    let pingable = is_pingable(h.n, h.links.turn.alert, &h.alerts.regwen, &h.alerts.en);
+    hear_quiet(h.n, h.links, h.timer, pingable, s)
 }
 
 // Steps 3 to 5, with nothing assigned to a class and no clear.

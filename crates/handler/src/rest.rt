@@ -7,7 +7,7 @@ use class::still::is_still;
 use class_rules::Class;
 use masks::is_set;
 
-// Each of the four classes stays as it is.
+// Each of the four classes stays as it is. Class by class: tried as a fold over 0..4, whose closure's k has no bound in the proof, so not which class it reads.
 pub fn are_still(classes: [Class; 4], state: u16) -> bool
     ensures { (result ≡ all_still classes state) × (length classes ≡ class_count) }
 {

@@ -16,7 +16,7 @@ use rules::{
 use samples::hear::hear;
 use samples::link::link;
 use samples::pace::Met;
-use samples::sample;
+use samples::{Sampled, sample};
 use state::valid::is_valid;
 
 // What a tick gives: the state, the answer as one signed number, and the outputs.
@@ -42,34 +42,26 @@ pub fn finish(g: Handler, effects: Effects, s: Sample) -> Finished
     ensures { result ≡ finished g effects s }
 {
     let heard = hear(g, s, effects);
-    let sampled = sample(g, heard);
-    let mut next = sampled.handler;
-    let before = next.classes;
-    let state = interrupts_after(before, next.interrupts.state, sampled.assigned);
-    let classes = classes_after(
-        before,
-        next.interrupts.state,
-        sampled.assigned,
-        effects.clears,
-    );
-    let enable = next.interrupts.enable;
+    let Sampled {
+        handler: mut next,
+        assigned,
+    } = sample(g, heard);
+    let Interrupts { state, enable } = next.interrupts;
+    let interrupts = interrupts_after(next.classes, state, assigned);
+    let classes = classes_after(next.classes, state, assigned, effects.clears);
     next.classes = classes;
-    let interrupts = Interrupts { state, enable };
-    next.interrupts = interrupts;
+    next.interrupts.state = interrupts;
     let lines = lines_on(classes);
-    let receivers = heard.receivers;
-    let meets = heard.meets;
     let met = Met {
-        receivers,
-        meets,
+        receivers: heard.receivers,
+        meets: heard.meets,
         checked: heard.checked,
         right: heard.right,
     };
-    let links = link(g.links, met, lines as u32);
-    next.links = links;
+    next.links = link(g.links, met, lines as u32);
     Finished {
         handler: next,
-        interrupts: interrupts_on(state, enable),
+        interrupts: interrupts_on(interrupts, enable),
         lines,
     }
 }
@@ -96,25 +88,18 @@ pub fn tick(h: Handler, x: Input) -> Answered
     ensures { result ≡ answered (ticked h x) }
 {
     if is_valid(h) {
-        let sent = x.access;
-        let accessed = access(h, sent);
-        let answer = accessed.answer;
+        let accessed = access(h, x.access);
         let t = finish(accessed.handler, accessed.effects, x.sample);
         let handler = t.handler;
-        let before = h.links.receivers;
-        let after = handler.links.receivers;
-        let acknowledge = acknowledge_pairs(h.n, before);
-        let ping = ping_pairs(handler.n, after);
-        let escalation = escalation_pairs(handler.links.senders);
         Answered {
             handler,
-            answer: signed(answer),
+            answer: signed(accessed.answer),
             output: Output {
                 interrupts: t.interrupts as u32,
                 lines: t.lines as u32,
-                acknowledge,
-                ping,
-                escalation,
+                acknowledge: acknowledge_pairs(h.n, h.links.receivers),
+                ping: ping_pairs(handler.n, handler.links.receivers),
+                escalation: escalation_pairs(handler.links.senders),
             },
         }
     } else {

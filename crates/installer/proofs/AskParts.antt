@@ -1,52 +1,104 @@
--- Lists of accesses and registers, part by part.
+-- Lists of accesses and registers, part by part, from what a `Result` holds.
 -- Assumes nothing.
-use Prim.Native.Nat.{ℕ, suc}
-use mathlib.Core.Path.{◌≡◌, refl, sym, ap, ap₂, ◌∙◌}
-use mathlib.Core.Bool.{Bool, true, false, cond, ◌&&◌}
+use Prim.Native.Nat.{ℕ, zero, suc, ◌+◌, ◌-◌, ◌<◌, ◌≤◌}
+use mathlib.Core.Path.{◌≡◌, refl, sym, ap, ap₂, subst, ◌∙◌}
+use mathlib.Core.Bool.{Bool, true, false, cond}
 use mathlib.Core.List.{List, [], ◌∷◌, ◌++◌}
-use lib.Dec.{eqb, ltb}
-use lib.IntN.{ℤ, pos, neg_ℤ}
-use lib.ListN.{replicate}
+use native.Mathlib.Omega.{arith}
+use lib.Dec.{ltb}
+use lib.IntN.{ℤ}
+use lib.ListN.{length, get_or, drop, replicate}
+use mir.Facts.{to_z-of_z}
 use mir.Syntax.{w64}
-use mir.Val.{to_z, of_z}
+use mir.Val.{SFits, to_z, of_z}
+use Rattle.std.proofs.Math.Seq.{drop-cons}
+use Rattle.std.proofs.lemmas.List.{drop_all}
+use Rattle.std.specs.Prelude.{Result, Ok, Err, IsErrAnd}
 use Rattle.policy.proofs.Asks.{install_append, asks_append}
-use Rattle.policy.specs.Install.{Ask, Entry, under, install, ask, once, twice, asks_of, asks}
-use Rattle.policy.specs.Plan.{enables, locks, ctrl_of, alert_entries, class_entries, lock_entries, class_lock, parts_to, plan_of, bar_number, barred, boot}
-use Rattle.policy.specs.declared.Bar.{Bar}
+use Rattle.policy.specs.Install.{Ask, Entry, under, install, asked, ask, once, twice, asks_of, asks}
+use Rattle.policy.specs.Plan.{parts_to, plan_of, barred, boot}
+use Rattle.policy.specs.Progress.{Progress}
 use Rattle.policy.specs.declared.Bar.TheVariants.{BadState, FewAlerts}
 use Rattle.policy.specs.declared.Installed.{Installed}
 use Rattle.policy.specs.declared.Lifecycle.{Lifecycle}
-use Rattle.policy.specs.declared.Progress.{Progress}
 use Rattle.rules.specs.Map.{number_of, is_shadowed}
 use Rattle.rules.specs.Valid.{valid}
 use Rattle.rules.specs.declared.Handler.{Handler}
+use Rattle.installer.specs.declared.ask.Stop.{Stop}
+use Rattle.installer.specs.Results.{progress_of, twice_each}
+
+-- what has stopped does no more
+stays : (h : Handler) (s : Stop) (xs : List Ask) → install (progress_of h (Err s)) xs ≡ progress_of h (Err s)
+unfolding install ask
+stays h s [] = refl
+stays h s (a ∷ xs) = stays h s xs
+
+-- `?` hands on where it stopped
+pub handed_on : (h : Handler) (r : Result (Unit {0}) Stop) (s : Stop) → IsErrAnd r (λ t. t ≡ s) → progress_of h r ≡ progress_of h (Err s)
+handed_on h (Ok u) s a = absurd a
+handed_on h (Err t) s a = ap (λ (x : Stop). progress_of h (Err x)) a
+
+-- it has stopped at p, so that what was still to come changes nothing
+halts : (p : Progress) (xs : List Ask) (h : Handler) (r : Result (Unit {0}) Stop) (s : Stop) → progress_of h (Err s) ≡ p → IsErrAnd r (λ t. t ≡ s)
+    → progress_of h r ≡ install p xs
+halts p xs h r s d e = handed_on h r s e ∙ sym (stays h s xs) ∙ ap (λ (q : Progress). install q xs) d
 
 -- ── accesses ──
 
--- one more, at the front
-pub next_ask : (a : Ask) (xs : List Ask) (s p q : Progress) → p ≡ ask s a → q ≡ install p xs → q ≡ install s (a ∷ xs)
-unfolding install
-next_ask a xs s p q e f = f ∙ ap (λ (x : Progress). install x xs) e
+module _ (h : Handler) (a : Ask) where
+  pub last : (p : Progress) → p ≡ asked h a → p ≡ install (under h) (a ∷ [])
+  unfolding install ask
+  last p e = e
 
-pub last_ask : (a : Ask) (s p : Progress) → p ≡ ask s a → p ≡ install s (a ∷ [])
-unfolding install
-last_ask a s p e = e
+  module _ (xs : List Ask) (g : Handler) where
+    -- after the first it goes on
+    pub goes : (p : Progress) → under g ≡ asked h a → p ≡ install (under g) xs → p ≡ install (under h) (a ∷ xs)
+    unfolding install ask
+    goes p d e = e ∙ ap (λ (q : Progress). install q xs) d
+
+    -- it stops there
+    pub stops : (r : Result (Unit {0}) Stop) (s : Stop) → progress_of g (Err s) ≡ asked h a → IsErrAnd r (λ t. t ≡ s)
+        → progress_of g r ≡ install (under h) (a ∷ xs)
+    unfolding install ask
+    stops r s d e = halts (asked h a) xs g r s d e
+
+-- the settings that are left from place i on, and those from the next, where p is what setting i gives
+module _ (xs : List (ℕ × ℕ)) (i : ℕ) (h g : Handler) where
+  pub turn : (p : Progress) → i < length xs → p ≡ install (under g) (twice (get_or xs i (0, 0)).0 (get_or xs i (0, 0)).1)
+      → install (under g) (twice_each (drop i xs)) ≡ install (under h) (twice_each xs) → install p (twice_each (drop (suc i) xs)) ≡ install (under h) (twice_each xs)
+  unfolding twice_each
+  turn p l e a =
+      ap (λ (q : Progress). install q (twice_each (drop (suc i) xs))) e
+      ∙ sym (install_append (under g) (twice (get_or xs i (0, 0)).0 (get_or xs i (0, 0)).1) (twice_each (drop (suc i) xs)))
+      ∙ ap (λ (ys : List (ℕ × ℕ)). install (under g) (twice_each ys)) (sym (drop-cons xs i (0, 0) l)) ∙ a
+
+  -- none is left
+  pub turns_done : length xs ≤ i → install (under g) (twice_each (drop i xs)) ≡ install (under h) (twice_each xs) → under g ≡ install (under h) (twice_each xs)
+  unfolding twice_each install
+  turns_done l a = ap (λ (ys : List (ℕ × ℕ)). install (under g) (twice_each ys)) (sym (drop_all i xs l)) ∙ a
+
+  -- it stops at setting i
+  pub turn_stops : (k : Handler) (r : Result (Unit {0}) Stop) (s : Stop) → i < length xs
+      → progress_of k (Err s) ≡ install (under g) (twice (get_or xs i (0, 0)).0 (get_or xs i (0, 0)).1) → IsErrAnd r (λ t. t ≡ s)
+      → install (under g) (twice_each (drop i xs)) ≡ install (under h) (twice_each xs) → progress_of k r ≡ install (under h) (twice_each xs)
+  turn_stops k r s l e d a = handed_on k r s d ∙ sym (stays k s (twice_each (drop (suc i) xs))) ∙ turn (progress_of k (Err s)) l e a
 
 -- ── registers ──
 
 -- one more, at the front, of those that take two writes
-pub next : (e : Entry) (es : List Entry) (s p q : Progress) (v : ℕ) → is_shadowed e.register ≡ true
-    → p ≡ install s (twice (number_of e.register) v) → v ≡ e.value → q ≡ install p (asks es) → q ≡ install s (asks (e ∷ es))
-unfolding asks asks_of
-next e es s p q v t a b c =
-    c ∙ ap (λ (x : Progress). install x (asks es)) (a ∙ ap (λ (y : ℕ). install s (twice (number_of e.register) y)) b
-    ∙ ap (λ (y : Bool). install s (cond y (twice (number_of e.register) e.value) (once (number_of e.register) e.value))) (sym t))
-    ∙ sym (install_append s (asks_of e) (asks es))
+pub next : (e : Entry) (es : List Entry) (x : ℕ × ℕ) (xs : List (ℕ × ℕ)) → is_shadowed e.register ≡ true → x.0 ≡ number_of e.register → x.1 ≡ e.value
+    → twice_each xs ≡ asks es → twice_each (x ∷ xs) ≡ asks (e ∷ es)
+unfolding asks asks_of twice_each
+next e es x xs t n v r =
+    ap (λ (y : List Ask). twice x.0 x.1 ++ y) r
+    ∙ ap (λ (y : ℕ). twice y x.1 ++ asks es) n
+    ∙ ap (λ (y : ℕ). twice (number_of e.register) y ++ asks es) v
+    ∙ ap (λ (y : Bool). cond y (twice (number_of e.register) e.value) (once (number_of e.register) e.value) ++ asks es) (sym t)
 
 -- no more
-pub end : (s : Progress) → s ≡ install s (asks [])
-unfolding install asks
-end s = refl
+pub end : twice_each [] ≡ asks []
+unfolding asks twice_each
+end = refl
 
 -- where there may be one, of those that take one write
 pub maybe : (e : Entry) (s p : Progress) (t : Bool) → is_shadowed e.register ≡ false → t ≡ true
@@ -66,48 +118,49 @@ maybe_not e s t x = ap (λ (y : Bool). install s (asks (cond y (e ∷ []) []))) 
 joined : (s : Progress) (es fs : List Entry) → install (install s (asks es)) (asks fs) ≡ install s (asks (es ++ fs))
 joined s es fs = sym (install_append s (asks es) (asks fs)) ∙ ap (install s) (sym (asks_append es fs))
 
-module _ (s : Progress) (f : ℕ → List Entry) where
-  pub none : s ≡ install s (asks (parts_to f 0))
+module _ (p : Progress) (f : ℕ → List Entry) where
+  pub none : p ≡ install p (asks (parts_to f 0))
   unfolding install asks parts_to
   none = refl
 
   -- one part more
-  pub more : (i : ℕ) (p q : Progress) → p ≡ install s (asks (parts_to f i)) → q ≡ install p (asks (f i)) → q ≡ install s (asks (parts_to f (suc i)))
+  pub more : (i : ℕ) (q r : Progress) → q ≡ install p (asks (parts_to f i)) → r ≡ install q (asks (f i)) → r ≡ install p (asks (parts_to f (suc i)))
   unfolding parts_to
-  more i p q a b = b ∙ ap (λ (x : Progress). install x (asks (f i))) a ∙ joined s (parts_to f i) (f i)
+  more i q r a b = b ∙ ap (λ (x : Progress). install x (asks (f i))) a ∙ joined p (parts_to f i) (f i)
 
--- the whole plan, part by part
-pub plan_done : (l : Lifecycle) (s a b c d : Progress) → a ≡ install s (asks (parts_to (alert_entries l) 58))
-    → b ≡ install a (asks (parts_to (class_entries l) 4)) → c ≡ install b (asks (parts_to (lock_entries l) 58)) → d ≡ install c (asks (class_lock l))
-    → d ≡ install s (asks (plan_of l))
-unfolding plan_of
-plan_done l s a b c d ea eb ec ed =
-    let i : List Entry = parts_to (alert_entries l) 58 in
-    let j : List Entry = parts_to (class_entries l) 4 in
-    let k : List Entry = parts_to (lock_entries l) 58 in
-    ed ∙ ap (λ (x : Progress). install x (asks (class_lock l))) ec ∙ joined b k (class_lock l)
-    ∙ ap (λ (x : Progress). install x (asks (k ++ class_lock l))) eb ∙ joined a j (k ++ class_lock l)
-    ∙ ap (λ (x : Progress). install x (asks (j ++ (k ++ class_lock l)))) ea ∙ joined s i (j ++ (k ++ class_lock l))
+  -- n parts are done
+  pub parts_done : (n i : ℕ) (q : Progress) → i ≤ n → n ≤ i → q ≡ install p (asks (parts_to f i)) → q ≡ install p (asks (parts_to f n))
+  parts_done n i q a b e = let d : i ≡ n = omega (arith, a, b) in subst (λ (m : ℕ). q ≡ install p (asks (parts_to f m))) d e
 
--- ── CTRL ──
+  -- parts that are left to what has stopped
+  left : (h : Handler) (s : Stop) (k i n : ℕ) → i + k ≡ n → progress_of h (Err s) ≡ install p (asks (parts_to f i))
+      → progress_of h (Err s) ≡ install p (asks (parts_to f n))
+  left h s zero i n e a = let d : i ≡ n = omega arith in subst (λ (m : ℕ). progress_of h (Err s) ≡ install p (asks (parts_to f m))) d a
+  left h s (suc k) i zero e a = absurd (omega arith)
+  left h s (suc k) i (suc m) e a = more m (progress_of h (Err s)) (progress_of h (Err s)) (left h s k i m (omega arith) a) (sym (stays h s (asks (f m))))
 
-module _ (l : Lifecycle) (k : ℕ) (a b : Bool) (ea : a ≡ locks l) (eb : b ≡ enables l) where
-  pub ctrl_is : (x y : Bool) → (eqb k 0 && a) ≡ x → (ltb k 2 && b) ≡ y → cond x 0x393F (cond y 0x393D 0x393C) ≡ ctrl_of l k
-  ctrl_is x y p q =
-      ap₂ (λ (s t : Bool). cond s 0x393F (cond t 0x393D 0x393C))
-      (sym p ∙ ap (λ (t : Bool). eqb k 0 && t) ea) (sym q ∙ ap (λ (t : Bool). ltb k 2 && t) eb)
+  -- it stops in part i of n
+  pub part_stops : (n i : ℕ) (g h : Handler) (s : Stop) → i < n → under g ≡ install p (asks (parts_to f i)) → progress_of h (Err s) ≡ install (under g) (asks (f i))
+      → progress_of h (Err s) ≡ install p (asks (parts_to f n))
+  part_stops n i g h s l a b = left h s (n - suc i) (suc i) n (omega (arith, l)) (more i (under g) (progress_of h (Err s)) a b)
+
+module _ (p : Progress) (es fs : List Entry) (g : Handler) where
+  -- after the first list of registers it goes on
+  pub goes_over : (q : Progress) → under g ≡ install p (asks es) → q ≡ install (under g) (asks fs) → q ≡ install p (asks (es ++ fs))
+  goes_over q d e = e ∙ ap (λ (x : Progress). install x (asks fs)) d ∙ joined p es fs
+
+  -- it stops in it
+  pub stops_over : (r : Result (Unit {0}) Stop) (s : Stop) → progress_of g (Err s) ≡ install p (asks es) → IsErrAnd r (λ t. t ≡ s)
+      → progress_of g r ≡ install p (asks (es ++ fs))
+  stops_over r s d e = halts (install p (asks es)) (asks fs) g r s d e ∙ joined p es fs
 
 -- ── the boot ──
 
--- its number is one of 64 bits, and so reads back as it is
-bar_word : (b : Bar) → to_z w64 (of_z w64 (neg_ℤ (pos (bar_number b)))) ≡ neg_ℤ (pos (bar_number b))
-bar_word BadState = refl
-bar_word FewAlerts = refl
-
-pub bar_is : (h : Handler) (b : Bar) (z : ℤ) → z ≡ neg_ℤ (pos (bar_number b))
-    → ◌≡◌ {A = Installed} (record { handler = h; answer = to_z w64 (of_z w64 z); register = 0; spare = replicate 6 0 }) (barred h b)
-bar_is h b z e =
-    ap (λ (y : ℤ). record { handler = h; answer = y; register = 0; spare = replicate 6 0 }) (ap (λ (y : ℤ). to_z w64 (of_z w64 y)) e ∙ bar_word b)
+-- an answer is one of 64 bits, and so reads back as it is
+pub reads_back : (h : Handler) (z : ℤ) (r : ℕ) → SFits w64 z → ◌≡◌ {A = Installed}
+    (record { handler = h; answer = to_z w64 (of_z w64 z); register = r; spare = replicate 6 0 })
+    (record { handler = h; answer = z; register = r; spare = replicate 6 0 })
+reads_back h z r f = ap (λ (y : ℤ). record { handler = h; answer = y; register = r; spare = replicate 6 0 }) (to_z-of_z f)
 
 module _ (l : Lifecycle) (h : Handler) where
   pub boot_is : (a b : Bool) → valid h ≡ a → ltb h.n 58 ≡ b

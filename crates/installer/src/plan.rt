@@ -1,14 +1,13 @@
 // What is written, in order: alerts, classes, locks.
 ghost use Rattle.std.specs.Prelude.{◌≡◌, cond, ◌<◌, ltb};
-ghost use Rattle.policy.specs.Install.{install, asks};
-ghost use Rattle.policy.specs.Plan.{enables, locks, ctrl_of, alert_entries, class_entries, lock_entries, class_lock, parts_to};
+ghost use Rattle.policy.specs.Install.{under, install, asks};
+ghost use Rattle.policy.specs.Plan.{enables, locks, ctrl_of, alert_entries, class_entries, lock_entries, class_lock, plan_of};
+ghost use Rattle.installer.specs.Results.{progress_of};
 
-use crate::ask::{put, put_twice};
-use crate::table::{class_value, en_value, is_a};
-use policy::{Lifecycle, Progress};
-
-// The alerts that the policy classifies, and the classes.
-const ALERTS: usize = 58;
+use crate::ask::{Stop, put, put_all};
+use crate::table::{ALERTS, class_value, en_value, is_a, mark};
+use policy::Lifecycle;
+use rules::Handler;
 
 const CLASSES: usize = 4;
 
@@ -16,38 +15,22 @@ const CLASSES: usize = 4;
 fn enables(l: Lifecycle) -> bool
     ensures { result ≡ enables l }
 {
-    match l {
-        Lifecycle::Raw => false,
-        Lifecycle::Prod => true,
-        Lifecycle::ProdEnd => true,
-        Lifecycle::Dev => true,
-        Lifecycle::Rma => false,
-        Lifecycle::Scrap => false,
-    }
+    matches!(l, Lifecycle::Prod | Lifecycle::ProdEnd | Lifecycle::Dev)
 }
 
 // Class A gets LOCK, and is locked with the alerts marked A, in PROD and PROD_END.
 fn locks(l: Lifecycle) -> bool
     ensures { result ≡ locks l }
 {
-    match l {
-        Lifecycle::Raw => false,
-        Lifecycle::Prod => true,
-        Lifecycle::ProdEnd => true,
-        Lifecycle::Dev => false,
-        Lifecycle::Rma => false,
-        Lifecycle::Scrap => false,
-    }
+    matches!(l, Lifecycle::Prod | Lifecycle::ProdEnd)
 }
 
 fn ctrl_value(l: Lifecycle, k: usize) -> u32
     ensures { result ≡ ctrl_of l k }
 {
-    let locked = (k == 0) & locks(l);
-    let enabled = (k < 2) & enables(l);
-    if locked {
+    if k == 0 && locks(l) {
         0x393F
-    } else if enabled {
+    } else if k < 2 && enables(l) {
         0x393D
     } else {
         0x393C
@@ -62,81 +45,71 @@ fn length_value(k: usize, v: u32) -> u32
 }
 
 // Each alert's CLASS then EN.
-fn put_alert(s: Progress, l: Lifecycle, i: usize) -> Progress
+fn put_alert(h: &mut Handler, l: Lifecycle, i: usize) -> Result<(), Stop>
     requires { i < 58 }
-    ensures { result ≡ install s (asks (alert_entries l i)) }
+    ensures { progress_of h.new result ≡ install (under h.old) (asks (alert_entries l i)) }
 {
-    let p = put_twice(s, (768 + i) as u16, class_value(l, i));
-    put_twice(p, (512 + i) as u16, en_value(l, i))
+    let m = mark(l, i);
+    put_all(
+        h,
+        &[
+            ((768 + i) as u16, class_value(m)),
+            ((512 + i) as u16, en_value(m)),
+        ],
+    )
 }
 
 // Each class's threshold, timeout, lengths and CTRL.
-fn put_class(s: Progress, l: Lifecycle, k: usize) -> Progress
+fn put_class(h: &mut Handler, l: Lifecycle, k: usize) -> Result<(), Stop>
     requires { k < 4 }
-    ensures { result ≡ install s (asks (class_entries l k)) }
+    ensures { progress_of h.new result ≡ install (under h.old) (asks (class_entries l k)) }
 {
-    let base = 1280 + 16 * k;
-    let s1 = put_twice(s, (base + 5) as u16, 0);
-    let s2 = put_twice(s1, (base + 6) as u16, 0);
-    let s3 = put_twice(s2, (base + 7) as u16, length_value(k, 0));
-    let s4 = put_twice(s3, (base + 8) as u16, length_value(k, 10));
-    let s5 = put_twice(s4, (base + 9) as u16, length_value(k, 10));
-    let s6 = put_twice(s5, (base + 10) as u16, length_value(k, 0xFFFF_FFFF));
-    put_twice(s6, (base + 1) as u16, ctrl_value(l, k))
+    let base = 1280 + 16 * k as u16;
+    put_all(
+        h,
+        &[
+            (base + 5, 0),
+            (base + 6, 0),
+            (base + 7, length_value(k, 0)),
+            (base + 8, length_value(k, 10)),
+            (base + 9, length_value(k, 10)),
+            (base + 10, length_value(k, 0xFFFF_FFFF)),
+            (base + 1, ctrl_value(l, k)),
+        ],
+    )
 }
 
 // REGWEN of alert i, if it is marked A.
-fn lock_alert(s: Progress, l: Lifecycle, i: usize) -> Progress
+fn lock_alert(h: &mut Handler, l: Lifecycle, i: usize) -> Result<(), Stop>
     requires { i < 58 }
-    ensures { result ≡ install s (asks (lock_entries l i)) }
+    ensures { progress_of h.new result ≡ install (under h.old) (asks (lock_entries l i)) }
 {
-    let locked = locks(l) & is_a(l, i);
-    if locked {
-        put(s, (256 + i) as u16, 0)
+    if locks(l) && is_a(mark(l, i)) {
+        put(h, (256 + i) as u16, 0)
     } else {
-        s
+        Ok(())
     }
 }
 
 // And that of class A.
-pub fn lock_class(s: Progress, l: Lifecycle) -> Progress
-    ensures { result ≡ install s (asks (class_lock l)) }
+fn lock_class(h: &mut Handler, l: Lifecycle) -> Result<(), Stop>
+    ensures { progress_of h.new result ≡ install (under h.old) (asks (class_lock l)) }
 {
-    if locks(l) { put(s, 1280, 0) } else { s }
+    if locks(l) { put(h, 1280, 0) } else { Ok(()) }
 }
 
-pub fn put_alerts(s: Progress, l: Lifecycle) -> Progress
-    ensures { result ≡ install s (asks (parts_to (alert_entries l) 58)) }
+// The whole plan.
+pub fn install(h: &mut Handler, l: Lifecycle) -> Result<(), Stop>
+    ensures { progress_of h.new result ≡ install (under h.old) (asks (plan_of l)) }
 {
-    let mut p = s;
-    let mut i = 0;
-    while i < ALERTS {
-        p = put_alert(p, l, i);
-        i += 1;
+    for i in 0..ALERTS {
+        put_alert(h, l, i)?;
     }
-    p
-}
-
-pub fn put_classes(s: Progress, l: Lifecycle) -> Progress
-    ensures { result ≡ install s (asks (parts_to (class_entries l) 4)) }
-{
-    let mut p = s;
-    let mut k = 0;
-    while k < CLASSES {
-        p = put_class(p, l, k);
-        k += 1;
+    for k in 0..CLASSES {
+        put_class(h, l, k)?;
     }
-    p
-}
-
-pub fn lock_alerts(s: Progress, l: Lifecycle) -> Progress
-    ensures { result ≡ install s (asks (parts_to (lock_entries l) 58)) }
-{
-    let mut p = s;
-    let mut i = 0;
-    while i < ALERTS {
-        p = lock_alert(p, l, i);
-        i += 1;
+    for a in 0..ALERTS {
+        lock_alert(h, l, a)?;
     }
-    p
+    lock_class(h, l)
 }

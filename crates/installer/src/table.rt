@@ -2,115 +2,103 @@
 ghost use Rattle.std.specs.Prelude.{◌≡◌, ◌<◌};
 ghost use Rattle.policy.specs.Plan.{class_of, en_of, is_a};
 ghost use Rattle.policy.specs.Table.{mark_at};
-ghost use Rattle.installer.specs.Marks.{mark_number, column_of};
 
-use policy::Lifecycle;
+use policy::Mark::{A, B, C, D, X};
+use policy::{Lifecycle, Mark};
 
-// A row for each alert, a column for each lifecycle: 0 to 3 for classes A to D, 4 for X.
-const TABLE: [[u8; 6]; 58] = [
-    [4, 2, 2, 4, 4, 4], // 0 Uart0FatalFault
-    [4, 2, 2, 4, 4, 4], // 1 Uart1FatalFault
-    [4, 2, 2, 4, 4, 4], // 2 Uart2FatalFault
-    [4, 2, 2, 4, 4, 4], // 3 Uart3FatalFault
-    [4, 2, 2, 4, 4, 4], // 4 GpioFatalFault
-    [4, 2, 2, 4, 4, 4], // 5 SpiDeviceFatalFault
-    [4, 2, 2, 3, 4, 4], // 6 SpiHost0FatalFault
-    [4, 2, 2, 3, 4, 4], // 7 SpiHost1FatalFault
-    [4, 2, 2, 4, 4, 4], // 8 I2c0FatalFault
-    [4, 2, 2, 4, 4, 4], // 9 I2c1FatalFault
-    [4, 2, 2, 4, 4, 4], // 10 I2c2FatalFault
-    [4, 2, 2, 4, 4, 4], // 11 PattgenFatalFault
-    [4, 2, 2, 4, 4, 4], // 12 RvTimerFatalFault
-    [4, 2, 2, 4, 4, 4], // 13 UsbdevFatalFault
-    [4, 0, 0, 3, 4, 4], // 14 OtpCtrlFatalMacroError
-    [4, 0, 0, 3, 4, 4], // 15 OtpCtrlFatalCheckError
-    [4, 0, 0, 3, 4, 4], // 16 OtpCtrlFatalBusIntegError
-    [4, 0, 0, 3, 4, 4], // 17 LcCtrlFatalProgError
-    [4, 0, 0, 3, 4, 4], // 18 LcCtrlFatalStateError
-    [4, 0, 0, 3, 4, 4], // 19 LcCtrlFatalBusIntegError
-    [4, 2, 2, 4, 4, 4], // 20 PwrmgrAonFatalFault
-    [4, 2, 2, 4, 4, 4], // 21 RstmgrAonFatalFault
-    [4, 2, 2, 4, 4, 4], // 22 ClkmgrAonRecovFault
-    [4, 2, 2, 4, 4, 4], // 23 ClkmgrAonFatalFault
-    [4, 2, 2, 4, 4, 4], // 24 SysrstCtrlAonFatalFault
-    [4, 2, 2, 4, 4, 4], // 25 AdcCtrlAonFatalFault
-    [4, 2, 2, 4, 4, 4], // 26 PwmAonFatalFault
-    [4, 2, 2, 4, 4, 4], // 27 PinmuxAonFatalFault
-    [4, 2, 2, 4, 4, 4], // 28 AonTimerAonFatalFault
-    [4, 2, 2, 4, 4, 4], // 29 SensorCtrlRecovAlert
-    [4, 2, 2, 4, 4, 4], // 30 SensorCtrlFatalAlert
-    [4, 1, 1, 3, 4, 4], // 31 SramCtrlRetAonFatalIntgError
-    [4, 3, 3, 3, 4, 4], // 32 FlashCtrlRecovErr
-    [4, 0, 0, 3, 4, 4], // 33 FlashCtrlFatalErr
-    [4, 2, 2, 4, 4, 4], // 34 RvDmFatalFault
-    [4, 2, 2, 4, 4, 4], // 35 RvPlicFatalFault
-    [4, 3, 3, 3, 4, 4], // 36 AesRecovCtrlUpdateErr
-    [4, 0, 0, 3, 4, 4], // 37 AesFatalFault
-    [4, 0, 0, 3, 4, 4], // 38 HmacFatalFault
-    [4, 0, 0, 3, 4, 4], // 39 KmacFatalFault
-    [4, 0, 0, 3, 4, 4], // 40 KeymgrFatalFaultErr
-    [4, 3, 3, 3, 4, 4], // 41 KeymgrRecovOperationErr
-    [4, 3, 3, 3, 4, 4], // 42 CsrngRecovAlert
-    [4, 0, 0, 3, 4, 4], // 43 CsrngFatalAlert
-    [4, 3, 3, 3, 4, 4], // 44 EntropySrcRecovAlert
-    [4, 0, 0, 3, 4, 4], // 45 EntropySrcFatalAlert
-    [4, 0, 0, 3, 4, 4], // 46 Edn0FatalAlert
-    [4, 3, 3, 3, 4, 4], // 47 Edn0RecovAlert
-    [4, 0, 0, 3, 4, 4], // 48 Edn1FatalAlert
-    [4, 3, 3, 3, 4, 4], // 49 Edn1RecovAlert
-    [4, 0, 0, 3, 4, 4], // 50 SramCtrlMainFatalError
-    [4, 0, 0, 3, 4, 4], // 51 OtbnFatal
-    [4, 3, 3, 3, 4, 4], // 52 OtbnRecov
-    [4, 0, 0, 3, 4, 4], // 53 RomCtrlFatal
-    [4, 0, 0, 3, 4, 4], // 54 RvCoreIbexFatalSwErr
-    [4, 3, 3, 3, 4, 4], // 55 RvCoreIbexRecovSwErr
-    [4, 0, 0, 3, 4, 4], // 56 RvCoreIbexFatalHwErr
-    [4, 3, 3, 3, 4, 4], // 57 RvCoreIbexRecovHwErr
+// The alerts that the policy classifies.
+pub const ALERTS: usize = 58;
+
+// A row for each alert, a column for each lifecycle.
+const TABLE: [[Mark; 6]; ALERTS] = [
+    [X, C, C, X, X, X], // 0 Uart0FatalFault
+    [X, C, C, X, X, X], // 1 Uart1FatalFault
+    [X, C, C, X, X, X], // 2 Uart2FatalFault
+    [X, C, C, X, X, X], // 3 Uart3FatalFault
+    [X, C, C, X, X, X], // 4 GpioFatalFault
+    [X, C, C, X, X, X], // 5 SpiDeviceFatalFault
+    [X, C, C, D, X, X], // 6 SpiHost0FatalFault
+    [X, C, C, D, X, X], // 7 SpiHost1FatalFault
+    [X, C, C, X, X, X], // 8 I2c0FatalFault
+    [X, C, C, X, X, X], // 9 I2c1FatalFault
+    [X, C, C, X, X, X], // 10 I2c2FatalFault
+    [X, C, C, X, X, X], // 11 PattgenFatalFault
+    [X, C, C, X, X, X], // 12 RvTimerFatalFault
+    [X, C, C, X, X, X], // 13 UsbdevFatalFault
+    [X, A, A, D, X, X], // 14 OtpCtrlFatalMacroError
+    [X, A, A, D, X, X], // 15 OtpCtrlFatalCheckError
+    [X, A, A, D, X, X], // 16 OtpCtrlFatalBusIntegError
+    [X, A, A, D, X, X], // 17 LcCtrlFatalProgError
+    [X, A, A, D, X, X], // 18 LcCtrlFatalStateError
+    [X, A, A, D, X, X], // 19 LcCtrlFatalBusIntegError
+    [X, C, C, X, X, X], // 20 PwrmgrAonFatalFault
+    [X, C, C, X, X, X], // 21 RstmgrAonFatalFault
+    [X, C, C, X, X, X], // 22 ClkmgrAonRecovFault
+    [X, C, C, X, X, X], // 23 ClkmgrAonFatalFault
+    [X, C, C, X, X, X], // 24 SysrstCtrlAonFatalFault
+    [X, C, C, X, X, X], // 25 AdcCtrlAonFatalFault
+    [X, C, C, X, X, X], // 26 PwmAonFatalFault
+    [X, C, C, X, X, X], // 27 PinmuxAonFatalFault
+    [X, C, C, X, X, X], // 28 AonTimerAonFatalFault
+    [X, C, C, X, X, X], // 29 SensorCtrlRecovAlert
+    [X, C, C, X, X, X], // 30 SensorCtrlFatalAlert
+    [X, B, B, D, X, X], // 31 SramCtrlRetAonFatalIntgError
+    [X, D, D, D, X, X], // 32 FlashCtrlRecovErr
+    [X, A, A, D, X, X], // 33 FlashCtrlFatalErr
+    [X, C, C, X, X, X], // 34 RvDmFatalFault
+    [X, C, C, X, X, X], // 35 RvPlicFatalFault
+    [X, D, D, D, X, X], // 36 AesRecovCtrlUpdateErr
+    [X, A, A, D, X, X], // 37 AesFatalFault
+    [X, A, A, D, X, X], // 38 HmacFatalFault
+    [X, A, A, D, X, X], // 39 KmacFatalFault
+    [X, A, A, D, X, X], // 40 KeymgrFatalFaultErr
+    [X, D, D, D, X, X], // 41 KeymgrRecovOperationErr
+    [X, D, D, D, X, X], // 42 CsrngRecovAlert
+    [X, A, A, D, X, X], // 43 CsrngFatalAlert
+    [X, D, D, D, X, X], // 44 EntropySrcRecovAlert
+    [X, A, A, D, X, X], // 45 EntropySrcFatalAlert
+    [X, A, A, D, X, X], // 46 Edn0FatalAlert
+    [X, D, D, D, X, X], // 47 Edn0RecovAlert
+    [X, A, A, D, X, X], // 48 Edn1FatalAlert
+    [X, D, D, D, X, X], // 49 Edn1RecovAlert
+    [X, A, A, D, X, X], // 50 SramCtrlMainFatalError
+    [X, A, A, D, X, X], // 51 OtbnFatal
+    [X, D, D, D, X, X], // 52 OtbnRecov
+    [X, A, A, D, X, X], // 53 RomCtrlFatal
+    [X, A, A, D, X, X], // 54 RvCoreIbexFatalSwErr
+    [X, D, D, D, X, X], // 55 RvCoreIbexRecovSwErr
+    [X, A, A, D, X, X], // 56 RvCoreIbexFatalHwErr
+    [X, D, D, D, X, X], // 57 RvCoreIbexRecovHwErr
 ];
 
-fn column(l: Lifecycle) -> usize
-    ensures { (result ≡ column_of l) × (result < 6) }
+// How alert i is marked.
+pub fn mark(l: Lifecycle, i: usize) -> Mark
+    requires { i < 58 }
+    ensures { result ≡ mark_at l i }
 {
-    match l {
-        Lifecycle::Raw => 0,
-        Lifecycle::Prod => 1,
-        Lifecycle::ProdEnd => 2,
-        Lifecycle::Dev => 3,
-        Lifecycle::Rma => 4,
-        Lifecycle::Scrap => 5,
+    TABLE[i][l as usize]
+}
+
+// CLASS and EN of an alert marked m: X means 0 and 0.
+pub fn class_value(m: Mark) -> u32
+    ensures { result ≡ class_of m }
+{
+    match m {
+        A | X => 0,
+        B => 1,
+        C => 2,
+        D => 3,
     }
 }
 
-// How alert i is marked.
-fn mark(l: Lifecycle, i: usize) -> u8
-    requires { i < 58 }
-    ensures { result ≡ mark_number (mark_at l i) }
+pub fn en_value(m: Mark) -> u32
+    ensures { result ≡ en_of m }
 {
-    let c = column(l);
-    TABLE[i][c]
+    u32::from(m != X)
 }
 
-// CLASS and EN of alert i: X means 0 and 0.
-pub fn class_value(l: Lifecycle, i: usize) -> u32
-    requires { i < 58 }
-    ensures { result ≡ class_of (mark_at l i) }
+pub fn is_a(m: Mark) -> bool
+    ensures { result ≡ is_a m }
 {
-    let m = mark(l, i);
-    if m < 4 { m as u32 } else { 0 }
-}
-
-pub fn en_value(l: Lifecycle, i: usize) -> u32
-    requires { i < 58 }
-    ensures { result ≡ en_of (mark_at l i) }
-{
-    let m = mark(l, i);
-    if m < 4 { 1 } else { 0 }
-}
-
-pub fn is_a(l: Lifecycle, i: usize) -> bool
-    requires { i < 58 }
-    ensures { result ≡ is_a (mark_at l i) }
-{
-    let m = mark(l, i);
-    m == 0
+    m == A
 }

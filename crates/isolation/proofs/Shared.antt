@@ -6,6 +6,7 @@ use mathlib.Core.Bool.{Bool, true, false, cond, not, ◌&&◌, ◌||◌}
 use native.Mathlib.Omega.{arith}
 use borrow.Author.Tests.{ltb-true, lt-ltb, not-true}
 use lib.Dec.{eqb}
+use Rattle.std.specs.Prelude.{Ok, Err}
 use Rattle.bits.specs.Bits.{bit, bits_of, fits}
 use Rattle.bits.proofs.BitLaws.{bit_bits_of}
 use Rattle.bits.proofs.IndexLaws.{and-true}
@@ -17,7 +18,7 @@ use Rattle.laws.specs.InMap.{in_map}
 use Rattle.laws.specs.RegisterFile.{single_target, single_stored, target, new_value, writes, stores, commits}
 use Rattle.laws.specs.StageFile.{names, stage_by}
 use Rattle.rules.specs.Access.{value, locked, silly, bars, unlike, in_order, verdict, accepts, is_first, named, drops, acted}
-use Rattle.rules.specs.Answer.{first_of}
+use Rattle.rules.specs.Answer.{first_of, Verdict}
 use Rattle.rules.specs.Map.{decode, number_of, is_register, field_row, bits, write_only, read_only, guard, is_lock, is_shadowed}
 use Rattle.rules.specs.Stages.{stage, stage_in}
 use Rattle.rules.specs.State.{most, alert, receiver}
@@ -28,7 +29,6 @@ use Rattle.rules.specs.declared.Handler.{Handler}
 use Rattle.rules.specs.declared.Register.{Register}
 use Rattle.rules.specs.declared.Register.TheVariants.{Only, Local, Alert, Block, Unassigned}
 use Rattle.rules.specs.declared.Single.TheVariants.{IntrState, IntrEnable, IntrTest, PingRegwen, PingTimeout, PingEnable}
-use Rattle.rules.specs.declared.Verdict.{Verdict}
 
 -- ── what the owner's class depends on beside its block ──
 
@@ -210,13 +210,13 @@ module _ (k : ℕ) (his : ℕ → Bool) (g f : Handler) (s : Shared k his g f) w
 
     -- a verdict does the same to it
     same_by_read : (r : ℕ) (t : Verdict) → stage_by t g (Read r) (stage g p) ≡ stage_by t f (Read r) (stage f p)
-    same_by_read r Verdict.Accepted = refl
-    same_by_read r (Verdict.Refused m) = ap (λ (c : ℕ). cond (drops m) 0 c) (s.stages d i e j)
+    same_by_read r (Ok tt) = refl
+    same_by_read r (Err m) = ap (λ (c : ℕ). cond (drops m) 0 c) (s.stages d i e j)
 
     same_by_write : (r v : ℕ) → decode g.n r ≡ p → (t : Verdict) → stage_by t g (Write r v) (stage g p) ≡ stage_by t f (Write r v) (stage f p)
-    same_by_write r v n Verdict.Accepted =
+    same_by_write r v n (Ok tt) =
         ap (λ (b : Bool). cond b (v + 1) 0) (same_first_write r v (ap (mine his) n ∙ ap not e) (ap (in_map g.n) n ∙ in_g))
-    same_by_write r v n (Verdict.Refused m) = ap (λ (c : ℕ). cond (drops m) 0 c) (s.stages d i e j)
+    same_by_write r v n (Err m) = ap (λ (c : ℕ). cond (drops m) 0 c) (s.stages d i e j)
 
     -- so does an access that names it
     same_by : (x : Access) → named g x ≡ p → stage_by (verdict g x) g x (stage g p) ≡ stage_by (verdict f x) f x (stage f p)

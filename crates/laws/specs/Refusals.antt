@@ -1,13 +1,12 @@
 -- "Each is given exactly in its case", in the order of an access, as facts.
 -- Assumes nothing.
-use Rattle.std.specs.Prelude.{ℕ, ◌≤◌, ◌<◌, ◌≡◌, ◌⊎◌, true, false, List, ℤ, pos, neg_ℤ, get_or, length}
+use Rattle.std.specs.Prelude.{ℕ, ◌≤◌, ◌<◌, ◌≡◌, ◌⊎◌, true, false, List, ℤ, pos, neg_ℤ, get_or, length, Ok, Err}
 use Rattle.rules.specs.Access.{malformed, no_register, wrong_way, too_wide, silly_threshold, barred, differs}
-use Rattle.rules.specs.Answer.{Case}
+use Rattle.rules.specs.Answer.{Case, Verdict}
 use Rattle.rules.specs.declared.Access.{Access}
 use Rattle.rules.specs.declared.Answer.{Answer}
 use Rattle.rules.specs.declared.Handler.{Handler}
 use Rattle.rules.specs.declared.Refusal.{Refusal}
-use Rattle.rules.specs.declared.Verdict.{Verdict}
 
 -- m is the refusal of the first case in the list that holds
 pub record First (cs : List Case) (d : Case) (m : Refusal) : Type 0 where
@@ -37,5 +36,5 @@ AccessNumber z = ((v : ℕ) × (v ≤ 4294967295) × (z ≡ pos v)) ⊎ ((m : �
 
 -- what a verdict answers: a where the access is accepted
 abbrev pub answer_by : Verdict → Answer → Answer
-answer_by Verdict.Accepted a = a
-answer_by (Verdict.Refused m) a = Answer.Refused m
+answer_by (Ok tt) a = a
+answer_by (Err m) a = Answer.Refused m

@@ -1,6 +1,6 @@
 // "Register map": what a register's row says of an access to it.
 ghost use Rattle.std.specs.Prelude.{◌≡◌, ◌^◌};
-ghost use Rattle.rules.specs.Map.{is_register, only_written, write_only, only_read, read_only, bits, is_lock, is_shadowed, lock_of, guard_by, guard};
+ghost use Rattle.rules.specs.Map.{is_register, write_only, read_only, bits, is_lock, is_shadowed, lock_of, guard_by, guard};
 
 use crate::row::row_of;
 use rules::{Field, Guard, Register, Setting, Single, Way};
@@ -9,73 +9,44 @@ use rules::{Field, Guard, Register, Setting, Single, Way};
 pub fn is_register(q: Register) -> bool
     ensures { result ≡ is_register q }
 {
-    let row = row_of(q);
-    row.bits != 0
+    q != Register::Unassigned
 }
 
-fn only_written(w: Way) -> bool
-    ensures { result ≡ only_written w }
-{
-    match w {
-        Way::Both => false,
-        Way::OneClears => false,
-        Way::OneSets => false,
-        Way::ReadOnly => false,
-        Way::WriteOnly => true,
-    }
-}
-
+#[tactic(auto, unfolding(rules::specs::Map::write_only))]
 pub fn write_only(q: Register) -> bool
     ensures { result ≡ write_only q }
 {
-    let row = row_of(q);
-    let way = row.way;
-    only_written(way)
+    row_of(q).way == Way::WriteOnly
 }
 
-fn only_read(w: Way) -> bool
-    ensures { result ≡ only_read w }
-{
-    match w {
-        Way::Both => false,
-        Way::OneClears => false,
-        Way::OneSets => false,
-        Way::ReadOnly => true,
-        Way::WriteOnly => false,
-    }
-}
-
+#[tactic(auto, unfolding(rules::specs::Map::read_only))]
 pub fn read_only(q: Register) -> bool
     ensures { result ≡ read_only q }
 {
-    let row = row_of(q);
-    let way = row.way;
-    only_read(way)
+    row_of(q).way == Way::ReadOnly
 }
 
 // A written value fits the register exactly if it is below this.
 pub fn limit(q: Register) -> u64
     ensures { result ≡ 2 ^ bits q }
 {
-    let row = row_of(q);
-    let one: u64 = 1;
-    one << row.bits
+    1 << row_of(q).bits
 }
 
 // Whether it is a REGWEN or CLR_REGWEN, in which a 0 is accepted again.
+#[tactic(auto, unfolding(rules::specs::Map::is_lock))]
 pub fn is_lock(q: Register) -> bool
     ensures { result ≡ is_lock q }
 {
-    let row = row_of(q);
-    row.lock
+    row_of(q).lock
 }
 
 // Whether it takes two equal writes.
+#[tactic(auto, unfolding(rules::specs::Map::is_shadowed))]
 pub fn is_shadowed(q: Register) -> bool
     ensures { result ≡ is_shadowed q }
 {
-    let row = row_of(q);
-    row.shadowed
+    row_of(q).shadowed
 }
 
 // The lock of the alert or local alert that q belongs to, lock s of its class, and of the single registers the ping timer's.
@@ -102,10 +73,9 @@ fn guard_by(g: Guard, q: Register) -> Register
 }
 
 // The REGWEN or CLR_REGWEN that guards a register, and `Unassigned` where none does.
+#[tactic(auto, unfolding(rules::specs::Map::guard))]
 pub fn guard_of(q: Register) -> Register
     ensures { result ≡ guard q }
 {
-    let row = row_of(q);
-    let g = row.guard;
-    guard_by(g, q)
+    guard_by(row_of(q).guard, q)
 }

@@ -21,6 +21,7 @@ ghost use Rattle.std.specs.Prelude.{◌≡◌};
 ghost use Rattle.rules.specs.Map.{block_at, alert_at, decode};
 
 // The register at +o in the block of class k.
+#[tactic(auto, unfolding(rules::specs::Map::block_at))]
 fn block_at(k: usize, o: usize) -> Register
     ensures { result ≡ block_at k o }
 {
@@ -50,10 +51,12 @@ fn alert_at(f: Field, i: usize, n: usize) -> Register
     }
 }
 
-// The number selects one of these ranges; all other numbers are unassigned.
-fn select(n: usize, r: usize) -> Register
+// The register that a number selects in a handler of n alerts; a number outside all ranges is unassigned.
+#[tactic(auto, using(laws::proofs::Map::MapLaws::decode_none), unfolding(rules::specs::Map::decode))]
+pub fn register_at(n: usize, r: u16) -> Register
     ensures { result ≡ decode n r }
 {
+    let r = r as usize;
     match r {
         0 => Register::Only(Single::IntrState),
         1 => Register::Only(Single::IntrEnable),
@@ -72,11 +75,4 @@ fn select(n: usize, r: usize) -> Register
         BLOCKS..END => block_at((r - BLOCKS) / 16, (r - BLOCKS) % 16),
         _ => Register::Unassigned,
     }
-}
-
-// The register that a number selects in a handler of n alerts.
-pub fn register_at(n: usize, r: u16) -> Register
-    ensures { result ≡ decode n r }
-{
-    select(n, r as usize)
 }

@@ -4,7 +4,8 @@ ghost use Rattle.rules.specs.Map.{single_row, field_row, setting_row, row};
 
 use rules::{Field, Guard, Register, Row, Setting, Single, Way};
 
-// A row: bits, way, guard, whether it is a lock, whether steps 2 to 4 of a tick move it, whether it is shadowed.
+// A row: bits, way, guard, whether it is a lock, whether steps 2 to 4 of a tick move it, whether it is shadowed. Kept: the table reads line by line as in
+// `rules Map`, which has the same six columns.
 fn line(bits: u8, way: Way, guard: Guard, lock: bool, moves: bool, shadowed: bool) -> Row
     ensures { result ≡ record { bits = bits; way = way; guard = guard; lock = lock; moves = moves; shadowed = shadowed } }
 {

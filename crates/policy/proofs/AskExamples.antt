@@ -22,7 +22,7 @@ use Rattle.policy.specs.Plan.{alert_entries, class_entries, lock_entries, class_
 use Rattle.policy.specs.Table.{mark_at}
 use Rattle.policy.specs.declared.Installed.{Installed}
 use Rattle.policy.specs.declared.Lifecycle.{Lifecycle}
-use Rattle.policy.specs.declared.Progress.{Progress}
+use Rattle.policy.specs.Progress.{Progress}
 
 -- names what the examples compute with
 unfoldable boots : ℕ → ℕ

@@ -11,7 +11,7 @@ use Rattle.rules.specs.declared.Handler.{Handler}
 use Rattle.rules.specs.declared.Input.{Input}
 use Rattle.rules.specs.declared.Register.{Register}
 use Rattle.rules.specs.declared.Ticked.{Ticked}
-use Rattle.policy.specs.declared.Progress.{Progress}
+use Rattle.policy.specs.Progress.{Progress}
 
 -- all wires at (0,1), entropy word 0 and no escalation ping answered (request (ix))
 abbrev pub rest : Access → Input

@@ -1,3 +1,4 @@
+pub mod Progress
 pub mod Install
 pub mod Table
 pub mod Plan

@@ -4,7 +4,7 @@
 use rules::Handler;
 
 // How an alert is marked: a class, or X for none.
-#[derive(Clone, Copy)]
+#[derive(Clone, Copy, PartialEq, Eq)]
 pub enum Mark {
     A,
     B,
@@ -23,11 +23,11 @@ pub enum Lifecycle {
     Scrap,
 }
 
-// Why a boot does not begin.
+// Why a boot does not begin, and the number of that refusal.
 #[derive(Clone, Copy)]
 pub enum Bar {
-    BadState,
-    FewAlerts,
+    BadState = 7,
+    FewAlerts = 13,
 }
 
 // What a boot gives: the state reached, the answer as one signed number, and the register at which it stopped, 0 where at none.
@@ -39,11 +39,4 @@ pub struct Installed {
     pub answer: i64,
     pub register: u16,
     pub spare: [u8; 6],
-}
-
-// How far a boot came, and whether it goes on.
-#[derive(Clone, Copy)]
-pub struct Progress {
-    pub reached: Installed,
-    pub going: bool,
 }

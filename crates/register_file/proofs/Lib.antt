@@ -1,4 +1,3 @@
-pub mod Past
 pub mod Stores
 pub mod Restages
 pub mod Parts

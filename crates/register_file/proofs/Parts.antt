@@ -1,4 +1,4 @@
--- The parts of the state, made anew one by one, are what `store` and `with_stage` of the rules leave.
+-- The parts of the state, made anew one by one, are what `store` and `with_stage` of the rules leave: what a write does to each part by itself.
 -- Assumes nothing.
 use Prim.Native.Nat.{ℕ, ◌<◌}
 use mathlib.Core.Path.{◌≡◌, refl, sym, ◌∙◌}

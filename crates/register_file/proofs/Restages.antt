@@ -1,33 +1,22 @@
 -- Request (v): a stage put and dropped, as the definitions state it.
 -- Assumes nothing.
-use Prim.Native.Nat.{ℕ, ◌+◌, ◌^◌, ◌≤◌, ◌<◌}
-use mathlib.Core.Path.{◌≡◌, refl, sym, ap, ◌∙◌}
-use mathlib.Core.Bool.{Bool, cond, not}
+use Prim.Native.Nat.{ℕ, ◌+◌, ◌<◌}
+use mathlib.Core.Path.{◌≡◌, refl, sym, ap}
+use mathlib.Core.Bool.{Bool, cond}
 use mathlib.Core.List.{List}
 use native.Mathlib.Omega.{arith}
-use lib.ListN.{get_or, length, get_or-eq_default}
-use borrow.Author.Tests.{eq-eqb, ne_eqb}
+use lib.ListN.{get_or, length}
+use borrow.Author.Tests.{ne_eqb}
 use Rattle.bits.proofs.IndexLaws.{is_each, each_ext}
-use Rattle.laws.proofs.Map.Cases.{by_field, by_setting}
-use Rattle.rules.specs.Map.{field_bits, offset}
-use Rattle.rules.specs.Stages.{setting_stage, no_class_stages, stage, with_setting_stage, with_stage, dropped}
-use Rattle.rules.specs.State.{with_stages, put}
+use Rattle.rules.specs.Map.{offset}
+use Rattle.rules.specs.Stages.{with_setting_stage}
+use Rattle.rules.specs.State.{put}
 use Rattle.rules.specs.declared.ClassStages.{ClassStages}
-use Rattle.rules.specs.declared.Field.{Field}
-use Rattle.rules.specs.declared.Handler.{Handler}
-use Rattle.rules.specs.declared.Register.{Register}
 use Rattle.rules.specs.declared.Setting.{Setting}
-use Rattle.rules.specs.declared.Setting.TheVariants.{PhaseCyc}
+use Rattle.rules.specs.declared.Setting.TheVariants.{Ctrl, ClrRegwen, Clr, AccumCnt, AccumThresh, TimeoutCyc, PhaseCyc, EscCnt}
 use Rattle.register_file.proofs.Stores.{phase_other, phase_shifted}
 
 -- ── a class's block ──
-
--- past the last class there is no stage
-past_setting : (s : Setting) → setting_stage s no_class_stages ≡ 0
-past_setting = by_setting (λ s. setting_stage s no_class_stages ≡ 0) refl refl refl refl refl refl refl (λ p. refl) refl refl
-
-pub past_class : (cs : List ClassStages) (s : Setting) (k : ℕ) → length cs ≤ k → 0 ≡ setting_stage s (get_or cs k no_class_stages)
-past_class cs s k h = sym (ap (setting_stage s) (get_or-eq_default cs no_class_stages h) ∙ past_setting s)
 
 -- the stages with those of other lengths
 abbrev with_lengths : ClassStages → List ℕ → ClassStages
@@ -48,14 +37,16 @@ module _ (v : ℕ) (c : ClassStages) where
       simp (phase_other p 6 (omega arith), phase_other p 1 (omega arith), phase_other p 5 (omega arith))
       (ap (with_lengths c) (each_ext 4 _ _ 0 (λ j h. ap (λ (t : Bool). cond t v (get_or c.lengths j 0)) (phase_shifted p j))))
 
--- no code of a register of an alert or a local alert is over 4
-pub code_small : (f : Field) (c : ℕ) → c ≤ 2 ^ field_bits f → c < 5
-code_small f c = by_field (λ f. c ≤ 2 ^ field_bits f → c < 5) (λ h. omega arith) (λ h. omega arith) (λ h. omega arith) (λ h. omega arith) f
-
--- ── the state ──
-
-module _ (h : Handler) (q : Register) where
-  -- where no stage is open none is dropped
-  pub none_dropped : stage h q ≡ 0 → h ≡ with_stages (dropped q h.stages) h
-  unfolding dropped
-  none_dropped e = ap (λ (t : Bool). with_stages (cond (not t) (with_stage q 0 h.stages) h.stages) h) (sym (eq-eqb (stage h q) 0 e))
+  -- one put at a register that has no stage changes nothing
+  pub put_none : (s : Setting) → length c.lengths ≡ 4 → (s ≡ Ctrl → ⊥) → (s ≡ AccumThresh → ⊥) → (s ≡ TimeoutCyc → ⊥) → ((p : ℕ) → s ≡ PhaseCyc p → ⊥)
+      → c ≡ with_setting_stage s v c
+  put_none Setting.Regwen l t a o p = put_register Setting.Regwen l (λ p h e. omega arith)
+  put_none Ctrl l t a o p = absurd (t refl)
+  put_none ClrRegwen l t a o p = put_register ClrRegwen l (λ p h e. omega arith)
+  put_none Clr l t a o p = put_register Clr l (λ p h e. omega arith)
+  put_none AccumCnt l t a o p = put_register AccumCnt l (λ p h e. omega arith)
+  put_none AccumThresh l t a o p = absurd (a refl)
+  put_none TimeoutCyc l t a o p = absurd (o refl)
+  put_none (PhaseCyc j) l t a o p = absurd (p j refl)
+  put_none EscCnt l t a o p = put_register EscCnt l (λ p h e. omega arith)
+  put_none Setting.State l t a o p = put_register Setting.State l (λ p h e. omega arith)

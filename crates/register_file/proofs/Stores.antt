@@ -1,7 +1,7 @@
 -- A store into a list, and into the interrupt bits, as the definitions state them.
 -- Assumes nothing.
 use Prim.Native.Nat.{ℕ, ◌+◌, ◌-◌, ◌^◌, ◌<◌, ◌%◌}
-use mathlib.Core.Path.{◌≡◌, sym, ap, ◌∙◌}
+use mathlib.Core.Path.{◌≡◌, refl, sym, ap, ◌∙◌}
 use mathlib.Core.Bool.{Bool, false, cond, not, ◌&&◌, ◌||◌}
 use mathlib.Core.List.{List}
 use native.Mathlib.Omega.{arith}
@@ -17,13 +17,11 @@ use Rattle.bits.proofs.BitLaws.{bit_and_law, bit_or_law, bit_not, bit_mod, is_bi
 use Rattle.bits.proofs.IndexLaws.{set_each, is_each, each_ext}
 use Rattle.class_rules.specs.Class.{phase_cyc}
 use Rattle.class_rules.specs.declared.Class.{Class}
-use Rattle.laws.proofs.Map.Cases.{by_field}
 use Rattle.rules.specs.Access.{with_setting}
-use Rattle.rules.specs.Map.{field_bits, offset}
+use Rattle.rules.specs.Map.{offset}
 use Rattle.rules.specs.State.{put}
-use Rattle.rules.specs.declared.Field.{Field}
 use Rattle.rules.specs.declared.Setting.{Setting}
-use Rattle.rules.specs.declared.Setting.TheVariants.{PhaseCyc}
+use Rattle.rules.specs.declared.Setting.TheVariants.{Ctrl, ClrRegwen, Clr, AccumCnt, AccumThresh, TimeoutCyc, PhaseCyc, EscCnt}
 
 -- ── lists ──
 
@@ -95,6 +93,16 @@ module _ (v : ℕ) (c : Class) where
       simp (phase_other p 6 (omega arith), phase_other p 1 (omega arith), phase_other p 5 (omega arith), phase_other p 0 (omega arith), phase_other p 2 (omega arith))
       (ap (with_lengths c) (each_ext 4 _ _ 0 (λ j h. ap (λ (t : Bool). cond t v (phase_cyc c j)) (phase_shifted p j))))
 
--- no register of an alert or a local alert has more than 2 bits
-pub field_small : (f : Field) (v : ℕ) → v < 2 ^ field_bits f → v < 4
-field_small f v = by_field (λ f. v < 2 ^ field_bits f → v < 4) (λ h. omega arith) (λ h. omega arith) (λ h. omega arith) (λ h. omega arith) f
+  -- one at a register that only the handler writes, or at CLR, changes nothing
+  pub set_none : (s : Setting) → length c.lengths ≡ 4 → (s ≡ Setting.Regwen → ⊥) → (s ≡ Ctrl → ⊥) → (s ≡ ClrRegwen → ⊥) → (s ≡ AccumThresh → ⊥) → (s ≡ TimeoutCyc → ⊥)
+      → ((p : ℕ) → s ≡ PhaseCyc p → ⊥) → c ≡ with_setting s v c
+  set_none Setting.Regwen l r t w a o p = absurd (r refl)
+  set_none Ctrl l r t w a o p = absurd (t refl)
+  set_none ClrRegwen l r t w a o p = absurd (w refl)
+  set_none Clr l r t w a o p = set_register Clr l (λ p h e. omega arith)
+  set_none AccumCnt l r t w a o p = set_register AccumCnt l (λ p h e. omega arith)
+  set_none AccumThresh l r t w a o p = absurd (a refl)
+  set_none TimeoutCyc l r t w a o p = absurd (o refl)
+  set_none (PhaseCyc j) l r t w a o p = absurd (p j refl)
+  set_none EscCnt l r t w a o p = set_register EscCnt l (λ p h e. omega arith)
+  set_none Setting.State l r t w a o p = set_register Setting.State l (λ p h e. omega arith)

@@ -1,171 +1,82 @@
-// Request (v): a register's stage set and dropped.
+// Request (v): a register's stage set and dropped, where the stages stand.
 ghost use Rattle.std.specs.Prelude.{◌≡◌, cond, ◌^◌, ◌≤◌, eqb, get_or};
 ghost use Rattle.rules.specs.Map.{single_number, setting_bits, bits};
-ghost use Rattle.rules.specs.Stages.{local_stages, no_class_stages, with_local_stages, with_setting_stage};
-ghost use Rattle.rules.specs.State.{local_count, class_count, put};
-ghost use Rattle.register_file.specs.Parts.{restaged_timeout, restaged_locals, restaged_classes, code_of};
-ghost use Rattle.rules.specs.declared.Single.TheVariants.{PingTimeout};
+ghost use Rattle.rules.specs.Stages.{local_stages, alert_stages, no_class_stages, with_local_stages, with_alert_stages, with_setting_stage, with_stage, dropped};
+ghost use Rattle.rules.specs.State.{most, local_count, class_count, put};
 
-use rules::{ClassStages, Field, LocalStages, Register, Setting, Single};
-
-// A column of the local alerts' with the code c for local alert j.
-fn set_code(codes: [u32; 7], j: usize, c: u32) -> [u32; 7]
-    ensures { result ≡ put local_count codes 0 j c }
-{
-    let mut out = codes;
-    if j < 7 {
-        out[j] = c;
-    }
-    out
-}
+use crate::list::put_entry;
+use crate::stage::stage_in;
+use rules::{AlertStages, ClassStages, Field, LocalStages, Register, Setting, Single, Stages};
 
 // The local alerts' stages with the code c at register f of local alert j, if that is shadowed.
-fn set_local(l: LocalStages, f: Field, j: usize, c: u32) -> LocalStages
-    ensures { result ≡ with_local_stages f (put local_count (local_stages f l) 0 j c) l }
+fn put_local(l: &mut LocalStages, f: Field, j: usize, c: u32)
+    ensures { l.new ≡ with_local_stages f (put local_count (local_stages f l.old) 0 j c) l.old }
 {
-    let mut out = l;
     match f {
-        Field::Regwen => l,
-        Field::En => {
-            let codes = l.en;
-            let put = set_code(codes, j, c);
-            out.en = put;
-            out
-        }
-        Field::Class => {
-            let codes = l.class;
-            let put = set_code(codes, j, c);
-            out.class = put;
-            out
-        }
-        Field::Cause => l,
+        Field::En => put_entry(&mut l.en, j, c),
+        Field::Class => put_entry(&mut l.class, j, c),
+        _ => {}
     }
 }
 
-// The stages of the four lengths with v for phase p.
-fn set_length(lengths: [u64; 4], p: usize, v: u64) -> [u64; 4]
-    ensures { result ≡ put 4 lengths 0 p v }
+// The alerts' stages with the code c at register f of alert i, if that is shadowed. Kept beside that of a local alert: the codes have two widths.
+fn put_alert(a: &mut AlertStages, f: Field, i: usize, c: u8)
+    ensures { a.new ≡ with_alert_stages f (put most (alert_stages f a.old) 0 i c) a.old }
 {
-    let mut out = lengths;
-    if p < 4 {
-        out[p] = v;
+    match f {
+        Field::En => put_entry(&mut a.en, i, c),
+        Field::Class => put_entry(&mut a.class, i, c),
+        _ => {}
     }
-    out
 }
 
-// The stages of a class's block with the code v at one register, if that is shadowed.
-fn set_setting(s: Setting, v: u64, c: ClassStages) -> ClassStages
+// The stages of a class's block with the code v at one register, if that is shadowed. Kept beside that of the block itself: two C structs.
+fn put_setting(c: &mut ClassStages, s: Setting, v: u64)
     requires { v ≤ 2 ^ setting_bits s }
-    ensures { result ≡ with_setting_stage s v c }
+    ensures { c.new ≡ with_setting_stage s v c.old }
 {
-    let mut out = c;
     match s {
-        Setting::Regwen => c,
-        Setting::Ctrl => {
-            out.ctrl = v as u32;
-            out
-        }
-        Setting::ClrRegwen => c,
-        Setting::Clr => c,
-        Setting::AccumCnt => c,
-        Setting::AccumThresh => {
-            out.thresh = v as u32;
-            out
-        }
-        Setting::TimeoutCyc => {
-            out.timeout = v;
-            out
-        }
-        Setting::PhaseCyc(p) => {
-            let lengths = c.lengths;
-            let put = set_length(lengths, p, v);
-            out.lengths = put;
-            out
-        }
-        Setting::EscCnt => c,
-        Setting::State => c,
+        Setting::Ctrl => c.ctrl = v as u32,
+        Setting::AccumThresh => c.thresh = v as u32,
+        Setting::TimeoutCyc => c.timeout = v,
+        Setting::PhaseCyc(p) => put_entry(&mut c.lengths, p, v),
+        _ => {}
     }
 }
 
 // The classes' stages with the code v at one register of the block of class k.
-fn set_block(classes: [ClassStages; 4], s: Setting, k: usize, v: u64) -> [ClassStages; 4]
+fn put_block(classes: &mut [ClassStages; 4], s: Setting, k: usize, v: u64)
     requires { v ≤ 2 ^ setting_bits s }
-    ensures { result ≡ put class_count classes no_class_stages k (with_setting_stage s v (get_or classes k no_class_stages)) }
+    ensures { classes.new ≡ put class_count classes.old no_class_stages k (with_setting_stage s v (get_or classes.old k no_class_stages)) }
 {
-    let mut out = classes;
     if k < 4 {
-        let c = classes[k];
-        let put = set_setting(s, v, c);
-        out[k] = put;
-    }
-    out
-}
-
-// The stage of the ping timer's timeout with the code c at one register: of those that there is one of, it alone is shadowed.
-fn set_single(timeout: u64, o: Single, c: u64) -> u64
-    ensures { result ≡ cond (eqb (single_number o) (single_number PingTimeout)) c timeout }
-{
-    match o {
-        Single::IntrState => timeout,
-        Single::IntrEnable => timeout,
-        Single::IntrTest => timeout,
-        Single::PingRegwen => timeout,
-        Single::PingTimeout => c,
-        Single::PingEnable => timeout,
+        put_setting(&mut classes[k], s, v);
     }
 }
 
-// The stage of the ping timer's timeout with the code c at register q's stage. So with each part of the stages.
-pub fn restage_timeout(timeout: u64, q: Register, c: u64) -> u64
-    ensures { result ≡ restaged_timeout q c timeout }
-{
-    match q {
-        Register::Only(o) => set_single(timeout, o, c),
-        Register::Local(_, _) => timeout,
-        Register::Alert(_, _) => timeout,
-        Register::Block(_, _) => timeout,
-        Register::Unassigned => timeout,
-    }
-}
-
-// The local alerts' stages.
-pub fn restage_locals(l: LocalStages, q: Register, c: u64) -> LocalStages
+// The stages with the code c at register q's; of those that there is one of the ping timer's timeout alone is shadowed.
+#[tactic(auto, unfolding(rules::specs::Stages::with_stage, rules::specs::Map::bits))]
+pub fn put_stage(s: &mut Stages, q: Register, c: u64)
     requires { c ≤ 2 ^ bits q }
-    ensures { result ≡ restaged_locals q c l }
+    ensures { s.new ≡ with_stage q c s.old }
 {
     match q {
-        Register::Only(_) => l,
-        Register::Local(f, j) => set_local(l, f, j, c as u32),
-        Register::Alert(_, _) => l,
-        Register::Block(_, _) => l,
-        Register::Unassigned => l,
+        Register::Only(o) => if o == Single::PingTimeout {
+            s.timeout = c;
+        },
+        Register::Local(f, j) => put_local(&mut s.locals, f, j, c as u32),
+        Register::Alert(f, i) => put_alert(&mut s.alerts, f, i, c as u8),
+        Register::Block(t, k) => put_block(&mut s.classes, t, k, c),
+        Register::Unassigned => {}
     }
 }
 
-// The classes' stages.
-pub fn restage_classes(classes: [ClassStages; 4], q: Register, c: u64) -> [ClassStages; 4]
-    requires { c ≤ 2 ^ bits q }
-    ensures { result ≡ restaged_classes q c classes }
+// The stages with that of register q gone, if it is open.
+#[tactic(auto, unfolding(rules::specs::Stages::dropped))]
+pub fn drop_stage(s: &mut Stages, q: Register)
+    ensures { s.new ≡ dropped q s.old }
 {
-    match q {
-        Register::Only(_) => classes,
-        Register::Local(_, _) => classes,
-        Register::Alert(_, _) => classes,
-        Register::Block(s, k) => set_block(classes, s, k, c),
-        Register::Unassigned => classes,
-    }
-}
-
-// The code of an alert's register, 0 where q is none.
-pub fn restage_alert(q: Register, c: u64) -> u8
-    requires { c ≤ 2 ^ bits q }
-    ensures { result ≡ code_of q c }
-{
-    match q {
-        Register::Only(_) => 0,
-        Register::Local(_, _) => 0,
-        Register::Alert(_, _) => c as u8,
-        Register::Block(_, _) => 0,
-        Register::Unassigned => 0,
+    if stage_in(s, q) != 0 {
+        put_stage(s, q, 0);
     }
 }

@@ -1,15 +1,15 @@
-// "One tick", step 1: an accepted write.
-ghost use Rattle.std.specs.Prelude.{◌≡◌, cond, not, ◌&&◌, ◌||◌, ◌^◌, ◌<◌, eqb, get_or, set};
+// "One tick", step 1: an accepted write, into the state where it stands.
+ghost use Rattle.std.specs.Prelude.{◌≡◌, cond, not, ◌&&◌, ◌||◌, ◌^◌, ◌<◌, eqb, get_or};
 ghost use Rattle.bits.specs.Bits.{bit, bits_of};
 ghost use Rattle.class_rules.specs.Class.{no_class};
 ghost use Rattle.rules.specs.Map.{single_bits, setting_bits, bits};
-ghost use Rattle.rules.specs.State.{local_count, class_count, field_index, local_column, with_local_column, put};
-ghost use Rattle.rules.specs.Access.{field_stored, with_setting, with_interrupt, with_ping};
-ghost use Rattle.register_file.specs.Parts.{set_in, stored_interrupts, stored_timer, stored_locals, stored_classes, stored_alert, place_of};
+ghost use Rattle.rules.specs.State.{most, local_count, class_count, local_column, alert_column, with_local_column, with_alert_column, put};
+ghost use Rattle.rules.specs.Access.{field_stored, with_setting, with_interrupt, with_ping, store};
 
+use crate::list::put_entry;
 use crate::read::{alert_value, local_value};
 use class_rules::Class;
-use rules::{Alerts, Field, Interrupts, Locals, MOST, Register, Setting, Single, Timer};
+use rules::{Alerts, Field, Handler, Interrupts, Locals, Register, Setting, Single, Timer};
 
 // INTR_STATE: a 1 clears.
 fn cleared(state: u16, v: u16) -> u16
@@ -27,290 +27,113 @@ fn raised(state: u16, v: u16) -> u16
     (state % 16) | v
 }
 
-// The ping timer's enable: a 0 does nothing.
-fn enabled(old: u16, v: u16) -> u16
-    ensures { result ≡ cond (eqb v 0) old v }
+// The interrupt registers with v written at one of them.
+fn store_interrupt(i: &mut Interrupts, o: Single, v: u32)
+    requires { v < 2 ^ single_bits o }
+    ensures { i.new ≡ with_interrupt o v i.old }
 {
-    if v == 0 { old } else { v }
+    match o {
+        Single::IntrState => i.state = cleared(i.state, v as u16),
+        Single::IntrEnable => i.enable = v as u16,
+        Single::IntrTest => i.state = raised(i.state, v as u16),
+        _ => {}
+    }
+}
+
+// The ping timer's registers with v written at one of them; a 0 to the enable does nothing.
+fn store_ping(t: &mut Timer, o: Single, v: u32)
+    requires { v < 2 ^ single_bits o }
+    ensures { t.new ≡ with_ping o v t.old }
+{
+    match o {
+        Single::PingRegwen => t.regwen = v as u16,
+        Single::PingTimeout => t.timeout = v,
+        Single::PingEnable => if v != 0 {
+            t.enable = v as u16;
+        },
+        _ => {}
+    }
 }
 
 // In CAUSE a written 1 clears.
 fn field_stored(f: Field, old: u8, v: u8) -> u8
     ensures { result ≡ field_stored f old v }
 {
+    if f != Field::Cause {
+        v
+    } else if v == 1 {
+        0
+    } else {
+        old
+    }
+}
+
+// The local alerts with v written at register f of local alert j.
+fn store_local(l: &mut Locals, f: Field, j: usize, v: u8)
+    ensures { l.new ≡ with_local_column f (put local_count (local_column f l.old) 0 j (field_stored f (get_or (local_column f l.old) j 0) v)) l.old }
+{
+    let w = field_stored(f, local_value(l, f, j), v);
     match f {
-        Field::Regwen => v,
-        Field::En => v,
-        Field::Class => v,
-        Field::Cause => if v == 1 { 0 } else { old },
+        Field::Regwen => put_entry(&mut l.regwen, j, w),
+        Field::En => put_entry(&mut l.en, j, w),
+        Field::Class => put_entry(&mut l.class, j, w),
+        Field::Cause => put_entry(&mut l.cause, j, w),
     }
 }
 
-// The column with w at i, where there is such an entry.
-pub fn set_entry(xs: &mut [u8], i: usize, w: u8)
-    ensures { xs.new ≡ set xs.old i w }
+// The alerts with v written at register f of alert i. Kept beside that of a local alert: two C structs, whose columns have two lengths.
+fn store_alert(a: &mut Alerts, f: Field, i: usize, v: u8)
+    ensures { a.new ≡ with_alert_column f (put most (alert_column f a.old) 0 i (field_stored f (get_or (alert_column f a.old) i 0) v)) a.old }
 {
-    if i < xs.len() {
-        xs[i] = w;
-    }
-}
-
-// The alerts' column with w at i, where there is such an entry.
-pub fn set_at(xs: &mut [u8; MOST], i: usize, w: u8)
-    ensures { xs.new ≡ set_in xs.old i w }
-{
-    if i < MOST {
-        xs[i] = w;
-    }
-}
-
-// The local alerts with w in register f of local alert j.
-fn set_local(l: Locals, f: Field, j: usize, w: u8) -> Locals
-    ensures { result ≡ with_local_column f (put local_count (local_column f l) 0 j w) l }
-{
-    let mut out = l;
+    let w = field_stored(f, alert_value(a, f, i), v);
     match f {
-        Field::Regwen => {
-            let mut xs = l.regwen;
-            set_entry(&mut xs, j, w);
-            out.regwen = xs;
-            out
-        }
-        Field::En => {
-            let mut xs = l.en;
-            set_entry(&mut xs, j, w);
-            out.en = xs;
-            out
-        }
-        Field::Class => {
-            let mut xs = l.class;
-            set_entry(&mut xs, j, w);
-            out.class = xs;
-            out
-        }
-        Field::Cause => {
-            let mut xs = l.cause;
-            set_entry(&mut xs, j, w);
-            out.cause = xs;
-            out
-        }
+        Field::Regwen => put_entry(&mut a.regwen, i, w),
+        Field::En => put_entry(&mut a.en, i, w),
+        Field::Class => put_entry(&mut a.class, i, w),
+        Field::Cause => put_entry(&mut a.cause, i, w),
     }
-}
-
-// The four lengths with v for phase p.
-fn set_length(lengths: [u32; 4], p: usize, v: u32) -> [u32; 4]
-    ensures { result ≡ put 4 lengths 0 p v }
-{
-    let mut out = lengths;
-    if p < 4 {
-        out[p] = v;
-    }
-    out
 }
 
 // A class's block with v written at one register.
-fn set_setting(s: Setting, v: u32, c: Class) -> Class
+fn store_setting(c: &mut Class, s: Setting, v: u32)
     requires { v < 2 ^ setting_bits s }
-    ensures { result ≡ with_setting s v c }
+    ensures { c.new ≡ with_setting s v c.old }
 {
-    let mut out = c;
     match s {
-        Setting::Regwen => {
-            out.regwen = v as u8;
-            out
-        }
-        Setting::Ctrl => {
-            out.ctrl = v as u16;
-            out
-        }
-        Setting::ClrRegwen => {
-            out.clrwen = v as u8;
-            out
-        }
-        Setting::Clr => c,
-        Setting::AccumCnt => c,
-        Setting::AccumThresh => {
-            out.thresh = v as u16;
-            out
-        }
-        Setting::TimeoutCyc => {
-            out.timeout = v;
-            out
-        }
-        Setting::PhaseCyc(p) => {
-            let lengths = c.lengths;
-            let stored = set_length(lengths, p, v);
-            out.lengths = stored;
-            out
-        }
-        Setting::EscCnt => c,
-        Setting::State => c,
+        Setting::Regwen => c.regwen = v as u8,
+        Setting::Ctrl => c.ctrl = v as u16,
+        Setting::ClrRegwen => c.clrwen = v as u8,
+        Setting::AccumThresh => c.thresh = v as u16,
+        Setting::TimeoutCyc => c.timeout = v,
+        Setting::PhaseCyc(p) => put_entry(&mut c.lengths, p, v),
+        _ => {}
     }
 }
 
-// The classes with v written in the block of class k.
-fn set_block(classes: [Class; 4], s: Setting, k: usize, v: u32) -> [Class; 4]
+// The classes with v written at one register of the block of class k. Kept beside that of the stages: one with the write as a parameter is as long.
+fn store_block(classes: &mut [Class; 4], s: Setting, k: usize, v: u32)
     requires { v < 2 ^ setting_bits s }
-    ensures { result ≡ put class_count classes no_class k (with_setting s v (get_or classes k no_class)) }
+    ensures { classes.new ≡ put class_count classes.old no_class k (with_setting s v (get_or classes.old k no_class)) }
 {
-    let mut out = classes;
     if k < 4 {
-        let c = classes[k];
-        let stored = set_setting(s, v, c);
-        out[k] = stored;
-    }
-    out
-}
-
-// The interrupt registers with v written at one of them.
-fn set_interrupt(o: Single, v: u32, i: Interrupts) -> Interrupts
-    requires { v < 2 ^ single_bits o }
-    ensures { result ≡ with_interrupt o v i }
-{
-    match o {
-        Single::IntrState => Interrupts {
-            state: cleared(i.state, v as u16),
-            enable: i.enable,
-        },
-        Single::IntrEnable => {
-            let enable = v as u16;
-            Interrupts {
-                state: i.state,
-                enable,
-            }
-        }
-        Single::IntrTest => Interrupts {
-            state: raised(i.state, v as u16),
-            enable: i.enable,
-        },
-        Single::PingRegwen => i,
-        Single::PingTimeout => i,
-        Single::PingEnable => i,
+        store_setting(&mut classes[k], s, v);
     }
 }
 
-// The ping timer's registers with v written at one of them; a 0 to the enable does nothing.
-fn set_ping(o: Single, v: u32, t: Timer) -> Timer
-    requires { v < 2 ^ single_bits o }
-    ensures { result ≡ with_ping o v t }
-{
-    let mut out = t;
-    match o {
-        Single::IntrState => t,
-        Single::IntrEnable => t,
-        Single::IntrTest => t,
-        Single::PingRegwen => {
-            out.regwen = v as u16;
-            out
-        }
-        Single::PingTimeout => {
-            out.timeout = v;
-            out
-        }
-        Single::PingEnable => {
-            out.enable = enabled(t.enable, v as u16);
-            out
-        }
-    }
-}
-
-// The interrupt registers after an accepted write to register q; v fits it. So with each part of the state.
-pub fn store_interrupts(i: Interrupts, q: Register, v: u32) -> Interrupts
+// The state after an accepted write of v to register q; v fits it.
+#[tactic(auto, unfolding(rules::specs::Access::store, rules::specs::Map::bits))]
+pub fn store(h: &mut Handler, q: Register, v: u32)
     requires { v < 2 ^ bits q }
-    ensures { result ≡ stored_interrupts q v i }
+    ensures { h.new ≡ store h.old q v }
 {
     match q {
-        Register::Only(o) => set_interrupt(o, v, i),
-        Register::Local(_, _) => i,
-        Register::Alert(_, _) => i,
-        Register::Block(_, _) => i,
-        Register::Unassigned => i,
-    }
-}
-
-// The ping timer's registers.
-pub fn store_timer(t: Timer, q: Register, v: u32) -> Timer
-    requires { v < 2 ^ bits q }
-    ensures { result ≡ stored_timer q v t }
-{
-    match q {
-        Register::Only(o) => set_ping(o, v, t),
-        Register::Local(_, _) => t,
-        Register::Alert(_, _) => t,
-        Register::Block(_, _) => t,
-        Register::Unassigned => t,
-    }
-}
-
-// The local alerts.
-pub fn store_locals(l: Locals, q: Register, v: u32) -> Locals
-    requires { v < 2 ^ bits q }
-    ensures { result ≡ stored_locals q v l }
-{
-    match q {
-        Register::Only(_) => l,
-        Register::Local(f, j) => {
-            let old = local_value(l, f, j);
-            set_local(l, f, j, field_stored(f, old, v as u8))
+        Register::Only(o) => {
+            store_interrupt(&mut h.interrupts, o, v);
+            store_ping(&mut h.timer, o, v);
         }
-        Register::Alert(_, _) => l,
-        Register::Block(_, _) => l,
-        Register::Unassigned => l,
-    }
-}
-
-// The classes.
-pub fn store_classes(classes: [Class; 4], q: Register, v: u32) -> [Class; 4]
-    requires { v < 2 ^ bits q }
-    ensures { result ≡ stored_classes q v classes }
-{
-    match q {
-        Register::Only(_) => classes,
-        Register::Local(_, _) => classes,
-        Register::Alert(_, _) => classes,
-        Register::Block(s, k) => set_block(classes, s, k, v),
-        Register::Unassigned => classes,
-    }
-}
-
-// What the alert's register q then holds, 0 where q is none.
-pub fn store_alert(a: Alerts, q: Register, v: u32) -> u8
-    requires { v < 2 ^ bits q }
-    ensures { result ≡ stored_alert q v a }
-{
-    match q {
-        Register::Only(_) => 0,
-        Register::Local(_, _) => 0,
-        Register::Alert(f, i) => {
-            let old = alert_value(a, f, i);
-            field_stored(f, old, v as u8)
-        }
-        Register::Block(_, _) => 0,
-        Register::Unassigned => 0,
-    }
-}
-
-// The place of a field among an alert's registers.
-fn index_of(f: Field) -> u8
-    ensures { result ≡ field_index f }
-{
-    match f {
-        Field::Regwen => 0,
-        Field::En => 1,
-        Field::Class => 2,
-        Field::Cause => 3,
-    }
-}
-
-// The alert whose register of the k-th field q is, and past the alerts where it is none.
-pub fn place_of(k: u8, q: Register) -> usize
-    ensures { result ≡ place_of k q }
-{
-    match q {
-        Register::Only(_) => MOST,
-        Register::Local(_, _) => MOST,
-        Register::Alert(f, i) => if index_of(f) == k { i } else { MOST },
-        Register::Block(_, _) => MOST,
-        Register::Unassigned => MOST,
+        Register::Local(f, j) => store_local(&mut h.locals, f, j, v as u8),
+        Register::Alert(f, i) => store_alert(&mut h.alerts, f, i, v as u8),
+        Register::Block(s, k) => store_block(&mut h.classes, s, k, v),
+        Register::Unassigned => {}
     }
 }

@@ -1,4 +1,1 @@
 pub mod Accesses
-pub mod UnmovedLaws
-pub mod Changes
-pub mod Puts

@@ -1,32 +1,18 @@
--- "One tick", step 1, as one change: what is stored at which register, and which stage gets which code.
+-- "One tick", step 1: what an access leaves, and gives.
 -- Assumes nothing.
-use Rattle.std.specs.Prelude.{ℕ, ◌^◌, ◌≤◌, ◌<◌, ◌≡◌}
-use Rattle.rules.specs.Access.{store, written}
-use Rattle.rules.specs.Map.{bits}
-use Rattle.rules.specs.Stages.{with_stage}
-use Rattle.rules.specs.State.{with_stages}
+use Rattle.std.specs.Prelude.{false}
+use Rattle.rules.specs.Access.{kept, raised_by}
 use Rattle.rules.specs.declared.Accessed.{Accessed}
+use Rattle.rules.specs.declared.Answer.{Answer}
+use Rattle.rules.specs.declared.Effects.{Effects}
 use Rattle.rules.specs.declared.Handler.{Handler}
+use Rattle.rules.specs.declared.Refusal.{Refusal}
 use Rattle.rules.specs.declared.Register.{Register}
-use Rattle.registers.specs.declared.change.Change.{Change}
-use Rattle.registers.specs.declared.change.Written.{Written}
 
--- the state h with v stored at q, and the code c at the stage of p
-abbrev pub changed_by : Handler → Register → ℕ → Register → ℕ → Handler
-changed_by h q v p c = with_stages (with_stage p c h.stages) (store h q v)
+-- the state h that is left, with the answer and the effects that are given
+abbrev pub left_with : Handler → Answer × Effects → Accessed
+left_with h r = record { handler = h; answer = r.0; effects = r.1 }
 
--- an accepted write of v to q
-pub record WrittenBy (h : Handler) (q : Register) (v : ℕ) (w : Written) : Type 0 where
-  pub whole : changed_by h w.stored w.value w.staged w.code ≡ written h q v
-  pub value_fits : w.value < 2 ^ bits w.stored
-  pub code_fits : w.code ≤ 2 ^ bits w.staged
-
--- what a change leaves, answers and hands to the later steps
-abbrev pub changed : Handler → Change → Accessed
-changed h c = record { handler = changed_by h c.stored c.value c.staged c.code; answer = c.answer; effects = c.effects }
-
--- it is the step 1 that gives a, and what it stores and stages fits
-pub record ChangesTo (h : Handler) (a : Accessed) (c : Change) : Type 0 where
-  pub whole : changed h c ≡ a
-  pub value_fits : c.value < 2 ^ bits c.stored
-  pub code_fits : c.code ≤ 2 ^ bits c.staged
+-- a refused access that names q
+abbrev pub refused_by : Refusal → Handler → Register → Accessed
+refused_by m h q = record { handler = kept m h q; answer = Answer.Refused m; effects = record { clears = 0; raises = raised_by m; begins = false } }

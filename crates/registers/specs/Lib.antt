@@ -1,3 +1,1 @@
-pub mod Unmoved
 pub mod Change
-pub mod Put

@@ -1,42 +1,44 @@
 // "One tick", step 1: the access, on the state before any event of this tick.
 ghost use Rattle.std.specs.Prelude.{◌≡◌};
-ghost use Rattle.rules.specs.Access.{accessed};
+ghost use Rattle.rules.specs.Access.{named, accessed};
+ghost use Rattle.registers.specs.Change.{left_with};
 
-use crate::put::put_of;
-use register_file::write::set_at;
-use rules::{Access, Accessed, Handler};
+use crate::change::{act, refuse};
+use crate::verdict::verdict_of;
+use map::number::register_at;
+use rules::{Access, Accessed, Answer, Effects, Handler, Register};
+
+// The register that an access names.
+fn name(h: &Handler, x: Access) -> Register
+    ensures { result ≡ named h.now x }
+{
+    match x {
+        Access::Read(r) | Access::Write(r, _) => register_at(h.n, r),
+        Access::Nothing | Access::Malformed => Register::Unassigned,
+    }
+}
+
+// The access on the state where it stands, so that nothing else of it is copied: the answer, and the effects on the later steps. The register number is
+// decoded here, once.
+#[tactic(auto, unfolding(rules::specs::Access::accessed))]
+pub fn access_in(h: &mut Handler, x: Access) -> (Answer, Effects)
+    ensures { left_with h.new result ≡ accessed h.old x }
+{
+    let q = name(h, x);
+    match verdict_of(h, x, q) {
+        Ok(()) => act(h, x, q),
+        Err(m) => refuse(h, q, m),
+    }
+}
 
 // The state after it, the answer, and its effects on the later steps.
 pub fn access(h: Handler, x: Access) -> Accessed
     ensures { result ≡ accessed h x }
 {
-    let put = put_of(h, x);
-    let mut g = h;
-    let mut stages = g.stages;
-    let class_stages = put.class_stages;
-    stages.classes = class_stages;
-    let local_stages = put.local_stages;
-    stages.locals = local_stages;
-    stages.timeout = put.timeout;
-    set_at(&mut stages.alerts.en, put.en_stage, put.code);
-    set_at(&mut stages.alerts.class, put.class_stage, put.code);
-    g.stages = stages;
-    let classes = put.classes;
-    g.classes = classes;
-    let locals = put.locals;
-    g.locals = locals;
-    let interrupts = put.interrupts;
-    g.interrupts = interrupts;
-    let timer = put.timer;
-    g.timer = timer;
-    set_at(&mut g.alerts.regwen, put.regwen, put.value);
-    set_at(&mut g.alerts.en, put.en, put.value);
-    set_at(&mut g.alerts.class, put.class, put.value);
-    set_at(&mut g.alerts.cause, put.cause, put.value);
-    let answer = put.answer;
-    let effects = put.effects;
+    let mut handler = h;
+    let (answer, effects) = access_in(&mut handler, x);
     Accessed {
-        handler: g,
+        handler,
         answer,
         effects,
     }

@@ -3,7 +3,5 @@
 
 pub mod access;
 mod change;
-pub mod put;
 mod silly;
-pub mod unmoved;
 mod verdict;

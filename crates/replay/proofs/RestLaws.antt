@@ -1,12 +1,13 @@
 -- The rest bytes: moved to the buffer's start, and completed by what comes next.
 -- Assumes nothing.
-use Prim.Native.Nat.{ℕ, suc, ◌+◌, ◌-◌, ◌*◌, ◌/◌, ◌%◌, ◌≤◌, ◌<◌}
+use Prim.Native.Nat.{ℕ, ◌+◌, ◌-◌, ◌*◌, ◌/◌, ◌%◌, ◌≤◌, ◌<◌}
 use mathlib.Core.Path.{◌≡◌, sym, ap, ap₂, subst, ◌∙◌}
 use mathlib.Core.List.{List, ◌++◌, append_assoc}
 use native.Mathlib.Nat.{div-add-mod', mod-lt}
 use native.Mathlib.Omega.{arith}
-use lib.ListN.{length, get_or, set, take, drop, length-drop, take-append-drop}
-use lib.Seq.{append_snoc, drop-append-add, drop-cons, get_or-append-add, get_or-drop, length-take-le, set_at, take_all, take_at, take-suc}
+use lib.ListN.{length, take, drop, length-drop, take-append-drop}
+use lib.Seq.{drop-append-add, length-take-le, paste, take_all, take_at}
+use Rattle.std.specs.List.{copy_within}
 use Rattle.trace_rules.specs.Edition.{record_bytes}
 use Rattle.trace_rules.specs.declared.Edition.{Edition}
 use Rattle.trace_rules.specs.Record.{inputs_of, record_count}
@@ -17,37 +18,8 @@ use Rattle.replay.proofs.WholeRecords.{inputs_whole, part_take, whole_length, wh
 
 -- ── moved to the start ──
 
--- a list whose first n entries are those from a place on
-abbrev pub fronted : ℕ → ℕ → List ℕ → List ℕ
-fronted from n xs = take n (drop from xs) ++ drop n xs
-
-module _ (xs : List ℕ) (from n : ℕ) where
-  length_part : from + n ≤ length xs → length (take n (drop from xs)) ≡ n
-  length_part h = length-take-le n (drop from xs) (simp length-drop (omega arith))
-
-  -- an entry that is still to be moved is where it was
-  unmoved : from + n < length xs → get_or (fronted from n xs) (from + n) 0 ≡ get_or (drop from xs) n 0
-  unmoved h =
-      let l = length_part (omega arith) in
-      let e : from + n ≡ length (take n (drop from xs)) + from = omega arith in
-      let s : n + from ≡ from + n = omega arith in
-      ap (λ (k : ℕ). get_or (fronted from n xs) k 0) e
-      ∙ get_or-append-add (take n (drop from xs)) (drop n xs) from 0
-      ∙ get_or-drop n xs from 0 ∙ ap (λ (k : ℕ). get_or xs k 0) s ∙ sym (get_or-drop from xs n 0)
-
-  pub front_next : from + n < length xs → set (fronted from n xs) n (get_or (fronted from n xs) (from + n) 0) ≡ fronted from (suc n) xs
-  front_next h =
-      let p = take n (drop from xs) in
-      let v = get_or (drop from xs) n 0 in
-      let m : n < length (drop from xs) = simp length-drop (omega arith) in
-      ap (set (fronted from n xs) n) (unmoved h)
-      ∙ ap (λ (ys : List ℕ). set (p ++ ys) n v) (drop-cons xs n 0 (omega arith))
-      ∙ set_at p (get_or xs n 0) (drop (suc n) xs) v n (length_part (omega arith))
-      ∙ sym (append_snoc p v (drop (suc n) xs))
-      ∙ ap (λ (ys : List ℕ). ys ++ drop (suc n) xs) (sym (take-suc (drop from xs) n 0 m))
-
--- the rest of the first n entries
-pub kept_front : (e : Edition) (n : ℕ) (xs : List ℕ) (d : ℕ) → d ≡ record_bytes e → n ≤ length xs → Kept e (take n xs) (n % d) (fronted (n - n % d) (n % d) xs)
+-- the rest of the first n entries, copied to the start
+pub kept_front : (e : Edition) (n : ℕ) (xs : List ℕ) (d : ℕ) → d ≡ record_bytes e → n ≤ length xs → Kept e (take n xs) (n % d) (copy_within xs (n - n % d) n 0)
 kept_front e n xs d z h =
     let r = n % d in
     let k = n - n % d in
@@ -55,10 +27,13 @@ kept_front e n xs d z h =
     let s : n / d * d + n % d ≡ n = div-add-mod' n d in
     let c : n / d * d ≡ record_count e (take n xs) * record_bytes e = ap₂ (λ (m i : ℕ). m / i * i) (sym l) z in
     let k_is : k ≡ record_count e (take n xs) * record_bytes e = omega arith in
+    let r_is : n - k ≡ r = omega arith in
+    let part : length (take r (drop k xs)) ≡ r = length-take-le r (drop k xs) (simp length-drop (omega arith)) in
     let small : r < record_bytes e = subst (λ (i : ℕ). n % d < i) z (mod-lt n (subst (λ (i : ℕ). 0 < i) (sym z) (some_bytes e))) in
     record {
       rest =
-          take_at (take r (drop k xs)) (drop r xs) r (length_part xs k r (omega arith))
+          ap (λ (m : ℕ). take r (paste xs 0 (drop k xs) m)) r_is
+          ∙ take_at (take r (drop k xs)) (drop (0 + r) xs) r part
           ∙ sym (part_take r k n xs (omega arith))
           ∙ take_all r (drop k (take n xs)) (simp length-drop (omega arith))
           ∙ ap (λ (j : ℕ). drop j (take n xs)) k_is;

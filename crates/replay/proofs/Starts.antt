@@ -15,7 +15,6 @@ use Rattle.trace_rules.specs.declared.Edition.{Edition}
 use Rattle.rules.specs.declared.Made.{Made}
 use Rattle.rules.specs.declared.Refusal.TheVariants.{BadCount}
 use Rattle.laws.proofs.Valid.KeepsValid.{made_valid}
-use Rattle.laws.proofs.Valid.ValidLaws.{facts}
 
 -- its timer is off, so that an older edition admits it too
 made_off : (n : ℕ) → is_on (made n).handler ≡ false
@@ -44,13 +43,3 @@ made_admits e n h = admits_made e n (go (bad_count n))
     go : (b : Bool) → (either b).handler.n ≤ alerts e
     go true = omega arith
     go false = h
-
--- the editions that speak of every alert
-pub made_admits_248 : (n : ℕ) → admits Edition.Alerts248 (made n).handler ≡ true
-made_admits_248 n = admits_made Edition.Alerts248 n (facts (made n).handler (made_valid n)).n
-
-pub made_admits_pings : (n : ℕ) → admits Edition.Pings (made n).handler ≡ true
-made_admits_pings n = admits_made Edition.Pings n (facts (made n).handler (made_valid n)).n
-
-pub made_admits_wires : (n : ℕ) → admits Edition.Wires (made n).handler ≡ true
-made_admits_wires n = admits_made Edition.Wires n (facts (made n).handler (made_valid n)).n

@@ -1,7 +1,7 @@
 -- Turns: one that reads nothing, one that reads, and two as one.
 -- Assumes nothing.
 use Prim.Native.Nat.{ℕ, ◌*◌, ◌≤◌, ◌<◌}
-use mathlib.Core.Path.{◌≡◌, refl, sym, ap, subst, ◌∙◌}
+use mathlib.Core.Path.{◌≡◌, sym, ap, subst, ◌∙◌}
 use mathlib.Core.Bool.{true}
 use mathlib.Core.List.{List, [], ◌++◌, append-nil, append_assoc}
 use native.Mathlib.Nat.{div-eq_of_lt, zero-mul}
@@ -16,14 +16,13 @@ use Rattle.rules.specs.Run.{run}
 use Rattle.trace_rules.specs.declared.Edition.{Edition}
 use Rattle.rules.specs.declared.Handler.{Handler}
 use Rattle.trace_laws.proofs.BatchLaws.{run_admits}
-use Rattle.trace_laws.proofs.PartLaws.{some_bytes}
 use Rattle.laws.proofs.Tick.Runs.{run_append}
 use Rattle.replay.specs.Rest.{Ran, Turned, rest_of}
 use Rattle.replay.proofs.RestLaws.{inputs_behind, rest_behind}
 
--- the state stays one that refusal 7 would not meet
-pub turned_admits : (e : Edition) (h : Handler) (kept : List ℕ) (g : Handler) (n : ℕ) (buffer : List ℕ) → admits e h ≡ true → Turned e h kept g n buffer → admits e g ≡ true
-turned_admits e h kept g n buffer v t = ap (admits e) t.ran.state ∙ run_admits e h (kept ++ t.came) v
+-- what the ticks leave is a state that refusal 7 would not meet
+pub ran_admits : (e : Edition) (h : Handler) (bytes : List ℕ) (g : Handler) → admits e h ≡ true → g ≡ run h (inputs_of e bytes) → admits e g ≡ true
+ran_admits e h bytes g v s = ap (admits e) s ∙ run_admits e h bytes v
 
 -- ── no bytes came ──
 
@@ -53,10 +52,6 @@ turned_none e h n old buffer short same =
     }
 
 -- ── a read ──
-
--- before the first
-pub turned_start : (e : Edition) (h : Handler) (buffer : List ℕ) → Turned e h [] h 0 buffer
-turned_start e h buffer = turned_none e h 0 buffer buffer (some_bytes e) refl
 
 -- count bytes are in the buffer then, and the n that were kept are the first of them
 pub turned_read : (e : Edition) (h : Handler) (n count : ℕ) (old read : List ℕ) → n ≤ count → take n read ≡ take n old
@@ -94,3 +89,9 @@ turned_next e h kept g n buffer t f m later u =
                 };
           };
     }
+
+-- the same where the next turn's edition is only known to be equal
+pub turned_then : (e : Edition) (h : Handler) (kept : List ℕ) (g : Handler) (n : ℕ) (buffer : List ℕ) → Turned e h kept g n buffer
+    → (d : Edition) → d ≡ e → (f : Handler) (m : ℕ) (later : List ℕ) → Turned d g (take n buffer) f m later → Turned e h kept f m later
+turned_then e h kept g n buffer t d same f m later u =
+    turned_next e h kept g n buffer t f m later (subst (λ (x : Edition). Turned x g (take n buffer) f m later) same u)

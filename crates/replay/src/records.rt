@@ -30,9 +30,9 @@ pub fn replay(edition: Edition, h: Handler, bytes: &[u8], text: &mut [u8]) -> Re
     let mut words = [0u64; TURN];
     let size = record_bytes(edition);
     let count = bytes.len() / size;
-    let whole = count * size;
-    let done = batch(edition, h, &bytes[..whole], &mut words);
-    let written = hex_lines(&words[..count], text);
-    let handler = done.handler;
-    Replayed { handler, written }
+    let done = batch(edition, h, &bytes[..count * size], &mut words);
+    Replayed {
+        handler: done.handler,
+        written: hex_lines(&words[..count], text),
+    }
 }

@@ -1,11 +1,11 @@
 -- "One tick", step 1: the access, on the state before any event of this tick.
 -- Assumes nothing.
-use Rattle.std.specs.Prelude.{ℕ, ◌+◌, ◌^◌, Bool, true, false, cond, not, ◌&&◌, ◌||◌, List, [], ◌∷◌, eqb}
+use Rattle.std.specs.Prelude.{ℕ, ◌+◌, ◌^◌, Bool, true, false, cond, not, ◌&&◌, ◌||◌, List, [], ◌∷◌, eqb, Ok, Err}
 use Rattle.bits.specs.Bits.{bit, bits_of, fits}
 use Rattle.bits.specs.Index.{each}
 use Rattle.class_rules.specs.Class.{no_class, en, phase_cyc}
 use Rattle.class_rules.specs.declared.Class.{Class}
-use Rattle.rules.specs.Answer.{Case, first_of, refusal_number}
+use Rattle.rules.specs.Answer.{Case, first_of, refusal_number, Verdict}
 use Rattle.rules.specs.Map.{offset, single_number, decode, is_register, bits, write_only, read_only, guard, is_lock, is_shadowed}
 use Rattle.rules.specs.Stages.{stage, is_open, staged, dropped}
 use Rattle.rules.specs.State.{most, local_count, class_count, local, alert, class_at, local_column, alert_column, with_interrupts, with_locals, with_alerts, with_classes, with_stages, with_timer, with_local_column, with_alert_column, put}
@@ -26,7 +26,6 @@ use Rattle.rules.specs.declared.Setting.TheVariants.{Ctrl, ClrRegwen, Clr, Accum
 use Rattle.rules.specs.declared.Single.{Single}
 use Rattle.rules.specs.declared.Single.TheVariants.{IntrState, IntrEnable, IntrTest, PingRegwen, PingTimeout, PingEnable}
 use Rattle.rules.specs.declared.Timer.{Timer}
-use Rattle.rules.specs.declared.Verdict.{Verdict}
 
 -- ── what a register holds ──
 
@@ -201,8 +200,8 @@ store h Unassigned v = h
 -- ── the whole access ──
 
 abbrev pub accepts : Verdict → Bool
-accepts Verdict.Accepted = true
-accepts (Verdict.Refused m) = false
+accepts (Ok tt) = true
+accepts (Err m) = false
 
 abbrev pub accepted : Handler → Access → Bool
 accepted h x = accepts (verdict h x)
@@ -278,9 +277,9 @@ raised_by m = cond (eqb (refusal_number m) 12) (2 ^ 5) 0
 
 -- what an access leaves, answers and hands to the later steps goes by its verdict
 abbrev pub accessed_by : Verdict → Handler → Access → Accessed
-accessed_by Verdict.Accepted h x =
+accessed_by (Ok tt) h x =
     record { handler = left h x; answer = given h x; effects = record { clears = bits_of 4 (writes_clr h x); raises = 0; begins = writes_enable h x } }
-accessed_by (Verdict.Refused m) h x =
+accessed_by (Err m) h x =
     record { handler = kept m h (named h x); answer = Answer.Refused m; effects = record { clears = 0; raises = raised_by m; begins = false } }
 
 unfoldable pub accessed : Handler → Access → Accessed

@@ -1,10 +1,9 @@
 -- "Numbers that come back": refusals, their numbers and their order.
 -- Assumes nothing.
-use Rattle.std.specs.Prelude.{ℕ, Bool, cond, List, [], ◌∷◌, ℤ, pos, neg_ℤ}
+use Rattle.std.specs.Prelude.{ℕ, Bool, cond, List, [], ◌∷◌, ℤ, pos, neg_ℤ, Result, Ok, Err}
 use Rattle.rules.specs.declared.Answer.{Answer}
 use Rattle.rules.specs.declared.Refusal.{Refusal}
 use Rattle.rules.specs.declared.Refusal.TheVariants.{NoRegister, WrongWay, Locked, TooWide, BadRecord, BadCount, BadState, BadLength, ShortList, NoRecord, ShortBuffer, Differs, SillyThreshold}
-use Rattle.rules.specs.declared.Verdict.{Verdict}
 
 -- the table's first column; 10 and 11 are request (ii)'s, 12 is request (v)'s, 14 is request (vii)'s
 abbrev pub refusal_number : Refusal → ℕ
@@ -28,6 +27,10 @@ number (Answer.Value v) = pos v
 number Answer.Done = pos 0
 number (Answer.Refused m) = neg_ℤ (pos (refusal_number m))
 
+-- what is said of an access or a call: it is accepted, or refused
+abbrev pub Verdict : Type 0
+Verdict = Result (Unit {0}) Refusal
+
 -- a refusal and whether its case holds
 pub record Case : Type 0 where
   pub refusal : Refusal
@@ -35,5 +38,5 @@ pub record Case : Type 0 where
 
 -- the first in the list whose case holds is given
 unfoldable pub first_of : List Case → Verdict
-first_of [] = Verdict.Accepted
-first_of (c ∷ cs) = cond c.holds (Verdict.Refused c.refusal) (first_of cs)
+first_of [] = Ok tt
+first_of (c ∷ cs) = cond c.holds (Err c.refusal) (first_of cs)

@@ -10,7 +10,9 @@ pub const MOST: usize = 248;
 pub const WORDS: usize = 4;
 
 // ---- The state. Integers alone, so that any bytes that come in are a value and refusal 7 judges them. Wide enough that no struct has
-// padding, so that equal states are equal bytes and none of a caller's old bytes leave in one; 7 judges each register by its own bits. ----
+// padding, so that equal states are equal bytes and none of a caller's old bytes leave in one; 7 judges each register by its own bits.
+// Columns of local alerts and of alerts are two structs, and a field has an array of its own: C has this layout, and an exported function
+// takes no struct with a const parameter. ----
 
 #[repr(C)]
 #[derive(Clone, Copy)]
@@ -73,7 +75,7 @@ pub struct Timer {
 }
 
 // Stages, request (v): what the first of two equal writes left at a shadowed register. A stage's code is 0 for none, and the staged
-// value plus 1.
+// value plus 1: C has no Option.
 #[repr(C)]
 #[derive(Clone, Copy)]
 pub struct ClassStages {
@@ -123,7 +125,7 @@ pub struct Handler {
 // ---- Registers: a register number decoded into kind and index. ----
 
 // The registers that there is one of.
-#[derive(Clone, Copy)]
+#[derive(Clone, Copy, PartialEq, Eq)]
 pub enum Single {
     IntrState,
     IntrEnable,
@@ -134,7 +136,7 @@ pub enum Single {
 }
 
 // The registers of an alert or a local alert.
-#[derive(Clone, Copy)]
+#[derive(Clone, Copy, PartialEq, Eq)]
 pub enum Field {
     Regwen,
     En,
@@ -143,7 +145,7 @@ pub enum Field {
 }
 
 // The registers of a class's block.
-#[derive(Clone, Copy)]
+#[derive(Clone, Copy, PartialEq, Eq)]
 pub enum Setting {
     Regwen,
     Ctrl,
@@ -157,7 +159,7 @@ pub enum Setting {
     State,
 }
 
-#[derive(Clone, Copy)]
+#[derive(Clone, Copy, PartialEq, Eq)]
 pub enum Register {
     Only(Single),
     Local(Field, usize),
@@ -168,7 +170,7 @@ pub enum Register {
 
 // What can be done with a register: read and written, the same where a written 1 clears, the same where a written 1 sets and a 0 does
 // nothing, only read, only written.
-#[derive(Clone, Copy)]
+#[derive(Clone, Copy, PartialEq, Eq)]
 pub enum Way {
     Both,
     OneClears,
@@ -178,7 +180,7 @@ pub enum Way {
 }
 
 // What locks a register: nothing, the REGWEN or the CLR_REGWEN of its alert or class.
-#[derive(Clone, Copy)]
+#[derive(Clone, Copy, PartialEq, Eq)]
 pub enum Guard {
     Free,
     ByRegwen,
@@ -242,30 +244,26 @@ pub struct Input {
 
 // ---- What comes out. ----
 
-#[derive(Clone, Copy)]
+// Why an access or a call is refused, and the number that comes back for it, negated.
+#[derive(Clone, Copy, PartialEq, Eq)]
 pub enum Refusal {
-    NoRegister,
-    WrongWay,
-    Locked,
-    TooWide,
-    BadRecord,
-    BadCount,
-    BadState,
-    BadLength,
-    ShortList,
-    NoRecord,
-    ShortBuffer,
-    Differs,
-    SillyThreshold,
+    NoRegister = 1,
+    WrongWay = 2,
+    Locked = 3,
+    TooWide = 4,
+    BadRecord = 5,
+    BadCount = 6,
+    BadState = 7,
+    BadLength = 8,
+    ShortList = 9,
+    NoRecord = 10,
+    ShortBuffer = 11,
+    Differs = 12,
+    SillyThreshold = 14,
 }
 
-#[derive(Clone, Copy)]
-pub enum Verdict {
-    Accepted,
-    Refused(Refusal),
-}
-
-// An answer, before it becomes one signed number.
+// An answer, before it becomes one signed number. Each of its three cases has a name: `Result<Option<u32>, Refusal>` would say `Ok(None)`
+// for what is done.
 #[derive(Clone, Copy)]
 pub enum Answer {
     Done,

@@ -60,27 +60,26 @@ module _ (n : ℕ) (k : Links) (c : Timer) (begins pingable : Bool) (s : Sample)
 
   -- what the calls of `pace` ensure
   pub record Calls (begun : Begun) (r : Received) (right : Bool) (wrongs : ℕ) (told answered : Bool) (late : Meets) (failing line checked : Bool)
-      (i e : ℕ) (off : Bool) (receivers : Receivers) (stays : Bool) : Type 0 where
+      (e : ℕ) (off : Bool) (receivers : Receivers) (stays : Bool) : Type 0 where
     pub is_begun : BegunBy n k c begins pingable s.word begun
     pub received : ReceivedAll n k.receivers begun.asks s.alerts r
     pub is_right : right ≡ was_right_by n k c begins pingable s
     pub are_wrong : wrongs ≡ bits_of line_count (wrong_by n k c begins pingable s)
     pub is_told : told ≡ line_answer begun.meets t right (bit wrongs (line_of t)) s.receive
     pub is_answered : answered ≡ cond (is_line t) told (place_in r.answers t.alert)
-    pub is_alert : i ≡ t.alert
-    pub small : i < 256
-    pub meets : late ≡ met_by c begins pingable begun.meets.pending s.word answered
+    pub small : t.alert < 256
+    pub meets : late ≡ record begun.meets { answered = answered }
     pub is_failing : failing ≡ fails late t
     pub is_line_law : line ≡ is_line t
     pub is_checked : checked ≡ checks s.receive
     pub is_number : e ≡ line_of t
     pub is_off : off ≡ bit wrongs e
-    pub closes : receivers ≡ closed_by n r.receivers (failing && not line) i
+    pub closes : receivers ≡ closed_by n r.receivers (failing && not line) t.alert
     pub is_stay : stays ≡ right_after checked begun.meets t right off
 
   module _ (begun : Begun) (r : Received) (right : Bool) (wrongs : ℕ) (told answered : Bool) (late : Meets) (failing line checked : Bool)
-      (i e : ℕ) (off : Bool) (receivers : Receivers) (stays : Bool)
-      (x : Calls begun r right wrongs told answered late failing line checked i e off receivers stays) where
+      (e : ℕ) (off : Bool) (receivers : Receivers) (stays : Bool)
+      (x : Calls begun r right wrongs told answered late failing line checked e off receivers stays) where
     received_is : ReceivedAll n k.receivers (asks_by n k c begins pingable s) s.alerts r
     received_is = subst (λ (xs : List ℕ). ReceivedAll n k.receivers xs s.alerts r) x.is_begun.asks x.received
 
@@ -95,13 +94,13 @@ module _ (n : ℕ) (k : Links) (c : Timer) (begins pingable : Bool) (s : Sample)
     answer_is : place_in r.answers t.alert ≡ answers_at n k.receivers (asks_by n k c begins pingable s) s.alerts t.alert
     answer_is =
         ap (λ (xs : List ℕ). place_in xs t.alert) received_is.answered
-        ∙ place_in_each words (answers_at n k.receivers (asks_by n k c begins pingable s) s.alerts) t.alert (subst (λ (a : ℕ). a < 256) x.is_alert x.small)
+        ∙ place_in_each words (answers_at n k.receivers (asks_by n k c begins pingable s) s.alerts) t.alert x.small
 
     answered_is : answered ≡ answered_by n k c begins pingable s
     answered_is = x.is_answered ∙ ap₂ (λ (o a : Bool). cond (is_line t) o a) told_is answer_is
 
     late_is : late ≡ timed_by n k c begins pingable s
-    late_is = x.meets ∙ (λ u. met_by c begins pingable (x.is_begun.meets u).pending s.word (answered_is u))
+    late_is = x.meets ∙ (λ u. record (x.is_begun.meets u) { answered = answered_is u })
 
     failing_is : failing ≡ fails (timed_by n k c begins pingable s) t
     failing_is = x.is_failing ∙ ap (λ (m : Meets). fails m t) late_is
@@ -112,7 +111,7 @@ module _ (n : ℕ) (k : Links) (c : Timer) (begins pingable : Bool) (s : Sample)
     receivers_are : receivers ≡ receivers_by (receiver_by n k c begins pingable s)
     receivers_are =
         x.closes
-        ∙ (λ u. closed_by n (received_is.receivers u) (alert_fails u) (x.is_alert u))
+        ∙ (λ u. closed_by n (received_is.receivers u) (alert_fails u) t.alert)
         ∙ closed_receivers n (fails_alert (timed_by n k c begins pingable s) t) t.alert (receiver_at n k.receivers (asks_by n k c begins pingable s) s.alerts)
 
     off_is : off ≡ wrong_by n k c begins pingable s (line_of t)

@@ -61,16 +61,16 @@ module _ (n : ℕ) (k : Links) (c : Timer) (pingable : Bool) (s : Sample) (r : P
   none : (a && (b && steady)) ≡ true → (r.fails_alert ≡ false) × (r.fails_line ≡ false) × (r.wrong ≡ false)
   none q = none_of r.fails_alert r.fails_line r.wrong (and-true b steady (and-true a (b && steady) q).1).1
 
-  pub quiet_by : QuietBy n k c pingable s (record { met = r.met; quiet = a && (b && steady) })
-  quiet_by =
+  pub quiet_by : (a && (b && steady)) ≡ true → QuietBy n k c pingable s r.met
+  quiet_by q =
       record {
         leaves = λ t. record { receivers = p.receivers t; meets = p.meets t; checked = p.checked t; right = p.right t };
         no_event =
-            λ q i l. rule_none r.events (sym y ∙ (and-true a (b && steady) q).0) (happens_at n k.receivers (asks_by n k c false pingable s) s.alerts) p.happened i l;
+            λ i l. rule_none r.events (sym y ∙ (and-true a (b && steady) q).0) (happens_at n k.receivers (asks_by n k c false pingable s) s.alerts) p.happened i l;
         none_equal =
-            λ q i l. rule_none r.equal (sym z ∙ (and-true b steady (and-true a (b && steady) q).1).0)
+            λ i l. rule_none r.equal (sym z ∙ (and-true b steady (and-true a (b && steady) q).1).0)
             (equal_at n k.receivers (asks_by n k c false pingable s) s.alerts) p.equals i l;
-        no_alert_fails = λ q. sym p.alert_fails ∙ (none q).0;
-        no_line_fails = λ q. sym p.line_fails_law ∙ (none q).1;
-        none_wrong = λ q. sym p.any_wrong ∙ (none q).2;
+        no_alert_fails = sym p.alert_fails ∙ (none q).0;
+        no_line_fails = sym p.line_fails_law ∙ (none q).1;
+        none_wrong = sym p.any_wrong ∙ (none q).2;
       }

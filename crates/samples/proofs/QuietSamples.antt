@@ -26,7 +26,6 @@ use Rattle.laws.proofs.Samples.Raises.{none_occurs}
 use Rattle.samples.specs.Linked.{linked_by}
 use Rattle.samples.specs.Quiet.{QuietBy}
 use Rattle.samples.specs.Sampled.{SampledBy}
-use Rattle.samples.specs.declared.links.Quiet.{Quiet}
 use Rattle.samples.specs.declared.pace.Met.{Met}
 
 -- ── the state after step 2 ──
@@ -47,8 +46,7 @@ unfailed false line a b = refl
 abbrev pub still : Effects
 still = record { clears = 0; raises = 0; begins = false }
 
-module _ (g : Handler) (x : Sample) (r : Quiet) (small : g.n ≤ most) (s : QuietBy g.n g.links g.timer (pingable g) x r)
-    (q : r.quiet ≡ true) where
+module _ (g : Handler) (x : Sample) (r : Met) (small : g.n ≤ most) (s : QuietBy g.n g.links g.timer (pingable g) x r) where
   abbrev fx : Effects
   fx = still
 
@@ -57,20 +55,20 @@ module _ (g : Handler) (x : Sample) (r : Quiet) (small : g.n ≤ most) (s : Quie
 
   none_broken : (i : ℕ) → i < most → alert_broken g x.alerts i ≡ false
   unfolding alert_broken
-  none_broken i l = and_none (ltb i g.n) (equal (positive x.alerts i) (negative x.alerts i)) (alert_enabled g i) (s.none_equal q i l)
+  none_broken i l = and_none (ltb i g.n) (equal (positive x.alerts i) (negative x.alerts i)) (alert_enabled g i) (s.none_equal i l)
 
   none_fails : fails (timed g x fx) g.links.turn ≡ false
   unfolding answered line_wrong
-  none_fails = unfailed (fails (timed g x fx) g.links.turn) (is_line g.links.turn) (s.no_alert_fails q) (s.no_line_fails q)
+  none_fails = unfailed (fails (timed g x fx) g.links.turn) (is_line g.links.turn) s.no_alert_fails s.no_line_fails
 
   none_wrong : any_to (line_wrong g x) line_count ≡ false
   unfolding line_wrong
-  none_wrong = s.none_wrong q
+  none_wrong = s.none_wrong
 
   -- nothing comes of what step 2 hears
   silent : Silent g v
   unfolding happened
-  silent = record { alerts = λ i l. unheard g x fx i l (s.no_event q i l); locals = none_occurs g x fx small refl none_fails none_broken none_wrong }
+  silent = record { alerts = λ i l. unheard g x fx i l (s.no_event i l); locals = none_occurs g x fx small refl none_fails none_broken none_wrong }
 
   -- no cause is set
   alerts_same : length g.alerts.cause ≡ most → g.alerts.cause ≡ each most (λ i. marked (alert_event g v i) (alert g Field.Cause i))
@@ -92,7 +90,7 @@ module _ (g : Handler) (x : Sample) (r : Quiet) (small : g.n ≤ most) (s : Quie
 
   -- and what is left for the links is what was heard
   pub quiet_links : (lit : ℕ)
-      → linked_by g.links r.met lit
+      → linked_by g.links r lit
       ≡ linked_by g.links (record { receivers = v.receivers; meets = v.meets; checked = v.checked; right = v.right }) lit
   unfolding heard answered receiver_after receiver_timed line_wrong
   quiet_links lit = ap (λ (m : Met). linked_by g.links m lit) s.leaves

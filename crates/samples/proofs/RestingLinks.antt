@@ -160,15 +160,15 @@ module _ (n : ℕ) (k : Links) (c : Timer) (s : Sample) (x : Parts n k c s) (pin
       ∙ x.alerts.whole
 
   -- nothing comes of it but for the links
-  quiet_by : QuietBy n k c pingable s (record { met = left_by n k c pingable s; quiet = true })
+  quiet_by : QuietBy n k c pingable s (left_by n k c pingable s)
   quiet_by =
       record {
         leaves = refl;
-        no_event = λ q i l. sym (at_alert i (omega arith)).event;
-        none_equal = λ q i l. sym (at_alert i (omega arith)).equals;
-        no_alert_fails = λ q. ap (λ (f : Bool). f && not (is_line t)) timed_fails;
-        no_line_fails = λ q. ap (λ (f : Bool). f && is_line t) timed_fails;
-        none_wrong = λ q. sym (mask_any (wrong_by n k c false pingable s)) ∙ ap (λ (w : ℕ). not (eqb w 0)) x.sound;
+        no_event = λ i l. sym (at_alert i (omega arith)).event;
+        none_equal = λ i l. sym (at_alert i (omega arith)).equals;
+        no_alert_fails = ap (λ (f : Bool). f && not (is_line t)) timed_fails;
+        no_line_fails = ap (λ (f : Bool). f && is_line t) timed_fails;
+        none_wrong = sym (mask_any (wrong_by n k c false pingable s)) ∙ ap (λ (w : ℕ). not (eqb w 0)) x.sound;
       }
 
   right_stays : num (right_by n k c false pingable s) ≡ k.right

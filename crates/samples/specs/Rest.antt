@@ -1,7 +1,7 @@
 -- A step 2 that leaves the links as they are, but for the count of a turn that waits and for what the senders send: every alert rests, no ping is open
 -- and none opens, and every receive pair is right. Where every sender rests too and no line is on, the count alone can move.
 -- Assumes nothing.
-use Rattle.std.specs.Prelude.{ℕ, ◌-◌, ◌*◌, ◌<◌, ◌≡◌, Bool, true, false, cond, not, ◌&&◌, ◌||◌, eqb, ltb}
+use Rattle.std.specs.Prelude.{ℕ, ◌-◌, ◌*◌, ◌<◌, ◌≡◌, Bool, false, cond, not, ◌&&◌, ◌||◌, eqb, ltb}
 use Rattle.bits.specs.Bits.{bit}
 use Rattle.bits.specs.Index.{place_in}
 use Rattle.link_rules.specs.Senders.{sent_all}
@@ -62,7 +62,7 @@ left_by n k c pingable s =
 
 -- nothing comes of it but for the links, whatever alert is drawn; and these only wait and send, whatever lines are on in step 5
 pub record SendsBy (n : ℕ) (k : Links) (c : Timer) (s : Sample) : Type 0 where
-  pub quiet : (pingable : Bool) → QuietBy n k c pingable s (record { met = left_by n k c pingable s; quiet = true })
+  pub quiet : (pingable : Bool) → QuietBy n k c pingable s (left_by n k c pingable s)
   pub links :
       (pingable : Bool) (lit : ℕ)
       → linked_by k (left_by n k c pingable s) lit ≡ with_sent (sent_all k.senders (driven lit)) (waited c k.turn.count) k

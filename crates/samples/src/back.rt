@@ -13,10 +13,7 @@ use senders::send::find_wrong;
 pub fn is_checked(back: Receive) -> bool
     ensures { result ≡ checks back }
 {
-    match back {
-        Receive::Pairs(_, _) => true,
-        Receive::Answers(_) => false,
-    }
+    matches!(back, Receive::Pairs(..))
 }
 
 // The lines whose receive pair is checked and wrong.

@@ -5,7 +5,7 @@ ghost use Rattle.rules.specs.Samples.{heard};
 ghost use Rattle.rules.specs.State.{most};
 
 use crate::locals::raise;
-use crate::pace::pace;
+use crate::pace::{Paced, pace};
 use events::broken::any_broken;
 use rules::{Effects, Handler, Heard, MOST, Sample};
 
@@ -15,11 +15,7 @@ pub fn is_pingable(n: usize, i: u8, regwen: &[u8; MOST], en: &[u8; MOST]) -> boo
     ensures { result ≡ (ltb i n && (eqb (get_or regwen.now i 0) 0 && eqb (get_or en.now i 0) 1)) }
 {
     let at = i as usize;
-    if at < n {
-        (regwen[at] == 0) & (en[at] == 1)
-    } else {
-        false
-    }
+    at < n && (regwen[at] == 0) & (en[at] == 1)
 }
 
 // What step 2 hears, of the state g after step 1, with the sample s and the effects fx of step 1.
@@ -27,32 +23,23 @@ pub fn hear(g: Handler, s: Sample, fx: Effects) -> Heard
     requires { g.n ≤ most }
     ensures { result ≡ heard g s fx }
 {
-    let n = g.n;
-    let before = g.links;
-    let regwen = g.alerts.regwen;
-    let en = g.alerts.en;
-    let pingable = is_pingable(n, before.turn.alert, &regwen, &en);
-    let paced = pace(n, before, g.timer, fx.begins, pingable, s);
-    let met = paced.met;
-    let events = paced.events;
-    let answers = paced.answers;
-    let equal = paced.equal;
-    let broken = any_broken(n, &equal, &en);
-    let raises = raise(
-        broken,
-        paced.wrong,
-        paced.fails_alert,
-        paced.fails_line,
-        fx.raises,
-    );
-    let receivers = met.receivers;
-    let meets = met.meets;
-    Heard {
-        receivers,
+    let pingable = is_pingable(g.n, g.links.turn.alert, &g.alerts.regwen, &g.alerts.en);
+    let Paced {
+        met,
         events,
         answers,
-        raises,
-        meets,
+        equal,
+        wrong,
+        fails_alert,
+        fails_line,
+    } = pace(g.n, g.links, g.timer, fx.begins, pingable, s);
+    let broken = any_broken(g.n, &equal, &g.alerts.en);
+    Heard {
+        receivers: met.receivers,
+        events,
+        answers,
+        raises: raise(broken, wrong, fails_alert, fails_line, fx.raises),
+        meets: met.meets,
         checked: met.checked,
         right: met.right,
     }

@@ -14,8 +14,9 @@ ghost use Rattle.std.specs.Prelude.{◌≤◌};
 ghost use Rattle.rules.specs.State.{most};
 ghost use Rattle.samples.specs.Sampled.{SampledBy};
 
-use events::gather::gather;
-use rules::{Handler, Heard};
+use crate::locals::occur;
+use events::gather::{Gathered, gather};
+use rules::{Alerts, Handler, Heard, Locals};
 
 // The state after step 2, and the classes that something is assigned to, class 0 at the lowest bit.
 #[derive(Clone, Copy)]
@@ -29,28 +30,23 @@ pub fn sample(g: Handler, v: Heard) -> Sampled
     requires { g.n ≤ most }
     ensures { SampledBy g v result }
 {
-    let n = g.n;
-    let mut alerts = g.alerts;
-    let mut local_alerts = g.locals;
-
-    let events = v.events;
-    let en = alerts.en;
-    let class = alerts.class;
-    let before = alerts.cause;
-    let gathered = gather(n, &events, &en, &class, before);
-    let cause = gathered.cause;
-    alerts.cause = cause;
-    let local_en = local_alerts.en;
-    let local_class = local_alerts.class;
-    let local_before = local_alerts.cause;
-    let occurred = locals::occur(v.raises, &local_en, &local_class, local_before);
-    let local_cause = occurred.cause;
-    local_alerts.cause = local_cause;
-    let mut handler = g;
-    handler.alerts = alerts;
-    handler.locals = local_alerts;
+    let Gathered { cause, hits } = gather(
+        g.n,
+        &v.events,
+        &g.alerts.en,
+        &g.alerts.class,
+        g.alerts.cause,
+    );
+    let alerts = Alerts { cause, ..g.alerts };
+    let occurred = occur(v.raises, &g.locals.en, &g.locals.class, g.locals.cause);
+    let cause = occurred.cause;
+    let locals = Locals { cause, ..g.locals };
     Sampled {
-        handler: handler,
-        assigned: gathered.hits | occurred.hits,
+        handler: Handler {
+            alerts,
+            locals,
+            ..g
+        },
+        assigned: hits | occurred.hits,
     }
 }

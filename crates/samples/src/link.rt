@@ -1,12 +1,10 @@
 // The links after a tick, once the lines of step 5 are known: the turn, the lines' pings and the senders.
 ghost use Rattle.std.specs.Prelude.{ℕ, ◌<◌, ◌≡◌, ◌&&◌, eqb};
 ghost use Rattle.bits.specs.Bits.{bit};
-ghost use Rattle.link_rules.specs.LinePing.{closing};
 ghost use Rattle.samples.specs.Linked.{lines_by, linked_by};
 
 use crate::pace::{Met, is_line_set, line_of};
 use link_rules::Meets;
-use masks::num;
 use rules::Links;
 use senders::send::send;
 use timer::line::is_closed;
@@ -17,8 +15,7 @@ fn lines_after(lines: u32, line: bool, e: u8, pend: bool) -> u32
     requires { e < 4 }
     ensures { result ≡ lines_by line e pend lines }
 {
-    let one: u32 = 1;
-    let mark = one << e;
+    let mark = 1 << e;
     if line {
         if pend { lines | mark } else { lines & !mark }
     } else {
@@ -31,24 +28,7 @@ fn ping_mask(opens: bool, e: u8) -> u32
     requires { e < 4 }
     ensures { (l : ℕ) → bit result l ≡ (opens && eqb l e) }
 {
-    let one: u32 = 1;
-    if opens { one << e } else { 0 }
-}
-
-// What the timer met, with what closes the turn's ping.
-fn close_by(closed: bool, m: Meets) -> Meets
-    ensures { result ≡ closing closed m }
-{
-    Meets {
-        runs: m.runs,
-        begins: m.begins,
-        timeout: m.timeout,
-        word: m.word,
-        pingable: m.pingable,
-        pending: m.pending,
-        answered: m.answered,
-        closed,
-    }
+    u32::from(opens) << e
 }
 
 // The links k before the tick, what step 2 leaves for them, and the lines that are on in step 5.
@@ -56,7 +36,6 @@ pub fn link(k: Links, v: Met, lit: u32) -> Links
     ensures { result ≡ linked_by k v lit }
 {
     let t = k.turn;
-    let senders = k.senders;
     let m = v.meets;
     let e = line_of(t);
     let line = is_line(t);
@@ -65,17 +44,16 @@ pub fn link(k: Links, v: Met, lit: u32) -> Links
         m,
         t,
         is_line_set(lit, e),
-        is_line_set(senders.last, e),
+        is_line_set(k.senders.last, e),
     );
-    let met = close_by(closed, m);
+    let met = Meets { closed, ..m };
     let left = is_open(met, t) & !does_end(met, t);
     let pings = ping_mask(does_open(m, t) & line, e);
-    let receivers = v.receivers;
     Links {
-        receivers,
+        receivers: v.receivers,
         turn: turn(met, t),
         lines: lines_after(k.lines, line, e, left),
-        senders: send(senders, lit, pings),
-        right: num(v.right) as u32,
+        senders: send(k.senders, lit, pings),
+        right: u32::from(v.right),
     }
 }

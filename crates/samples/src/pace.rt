@@ -8,10 +8,11 @@ ghost use Rattle.rules.specs.State.{words, receiver_in};
 ghost use Rattle.samples.specs.Paced.{ask_word, closed_word, closed_by, met_by, line_answer, BegunBy, PacedBy};
 
 use crate::back::{is_checked, said_answered, wrong_lines};
-use crate::receive::receive_all;
+use crate::receive::{Received, receive_all};
 use link_rules::{Meets, Turn};
-use masks::places::live;
+use masks::places::{live, only};
 use rules::{Links, Receive, Receivers, Sample, Timer, WORDS};
+use std::array::from_fn;
 use timer::line::{is_answered_by_wires, stays_right};
 use timer::turn::{does_fail, does_open, is_line, is_open};
 
@@ -42,8 +43,7 @@ pub struct Paced {
 fn is_at(w: [u64; WORDS], i: u8) -> bool
     ensures { result ≡ place_in w i }
 {
-    let v = (i / 64) as usize;
-    (w[v] >> (63 - i % 64)) % 2 == 1
+    (w[(i / 64) as usize] >> (63 - i % 64)) % 2 == 1
 }
 
 // Line e of a mask, line 0 at the lowest bit.
@@ -61,13 +61,6 @@ pub fn line_of(t: Turn) -> u8
     t.number / 2 % 4
 }
 
-// The alert of an alert's turn.
-fn alert_of(t: Turn) -> u8
-    ensures { (result ≡ t.alert) × (result < 256) }
-{
-    t.alert
-}
-
 // The turn's ping is open before the tick.
 fn turn_pending(n: usize, k: Links) -> bool
     ensures { result ≡ pending n k.turn (λ i. (receiver_in k.receivers i).pending) (bit k.lines) }
@@ -76,9 +69,7 @@ fn turn_pending(n: usize, k: Links) -> bool
     if is_line(t) {
         is_line_set(k.lines, line_of(t))
     } else {
-        let r = k.receivers;
-        let pends = r.pending;
-        ((t.alert as usize) < n) & is_at(pends, t.alert)
+        ((t.alert as usize) < n) & is_at(k.receivers.pending, t.alert)
     }
 }
 
@@ -87,23 +78,15 @@ fn ask_word(opens: bool, line: bool, i: u8, v: usize) -> u64
     requires { v < words }
     ensures { result ≡ ask_word opens line i v }
 {
-    if opens & !line {
-        let at = i as usize;
-        live(at + 1, v * 64) ^ live(at, v * 64)
-    } else {
-        0
-    }
+    if opens & !line { only(i, v * 64) } else { 0 }
 }
 
 // The alerts whose ping is asked for: the turn's, if its ping opens.
+#[tactic(auto, unfolding(bits::specs::Index::each_from))]
 fn asks_for(opens: bool, line: bool, i: u8) -> [u64; WORDS]
     ensures { result ≡ words_by words (λ j. opens && (not line && eqb j i)) }
 {
-    let a = ask_word(opens, line, i, 0);
-    let b = ask_word(opens, line, i, 1);
-    let c = ask_word(opens, line, i, 2);
-    let d = ask_word(opens, line, i, 3);
-    [a, b, c, d]
+    from_fn(|v| ask_word(opens, line, i, v))
 }
 
 // Word v of the open pings without the one that fails.
@@ -114,30 +97,14 @@ fn close_word(n: usize, pends: [u64; WORDS], fails: bool, i: u8, v: usize) -> u6
     pends[v] & !(live(n, v * 64) & ask_word(fails, false, i, v))
 }
 
-// The open pings of n alerts without that of alert i, if it fails.
-fn close(n: usize, pends: [u64; WORDS], fails: bool, i: u8) -> [u64; WORDS]
-    ensures { result ≡ words_by words (λ j. place_in pends j && not (ltb j n && (fails && eqb j i))) }
-{
-    let a = close_word(n, pends, fails, i, 0);
-    let b = close_word(n, pends, fails, i, 1);
-    let c = close_word(n, pends, fails, i, 2);
-    let d = close_word(n, pends, fails, i, 3);
-    [a, b, c, d]
-}
-
 // The receivers of n alerts without the open ping of alert i, if it fails.
+#[tactic(auto, unfolding(bits::specs::Index::each_from))]
 fn closed(n: usize, r: Receivers, fails: bool, i: u8) -> Receivers
     ensures { result ≡ closed_by n r fails i }
 {
-    let pends = r.pending;
-    let pausing = r.pausing;
-    let busy = r.busy;
-    let level = r.level;
     Receivers {
-        pausing,
-        busy,
-        level,
-        pending: close(n, pends, fails, i),
+        pending: from_fn(|v| close_word(n, r.pending, fails, i, v)),
+        ..r
     }
 }
 
@@ -185,8 +152,7 @@ fn is_line_answered(m: Meets, t: Turn, right: bool, wrong: u32, back: Receive) -
     if is_checked(back) {
         is_answered_by_wires(m, t, right, is_line_set(wrong, e))
     } else {
-        let said = said_answered(back);
-        is_open(m, t) & is_line_set(said, e)
+        is_open(m, t) & is_line_set(said_answered(back), e)
     }
 }
 
@@ -206,33 +172,31 @@ pub fn pace(n: usize, k: Links, c: Timer, begins: bool, pingable: bool, s: Sampl
     ensures { PacedBy n k c begins pingable s result }
 {
     let t = k.turn;
-    let before = k.receivers;
-    let senders = k.senders;
-    let back = s.receive;
-    let wires = s.alerts;
     let right = k.right % 2 == 1;
     let begun = begin(n, k, c, begins, pingable, s.word);
-    let early = begun.meets;
-    let asks = begun.asks;
-    let received = receive_all(n, before, asks, wires);
-    let answers = received.answers;
-    let wrong = wrong_lines(senders, back);
-    let told_line = is_line_answered(early, t, right, wrong, back);
+    let Received {
+        receivers,
+        events,
+        answers,
+        equal,
+    } = receive_all(n, k.receivers, begun.asks, s.alerts);
+    let wrong = wrong_lines(k.senders, s.receive);
+    let told_line = is_line_answered(begun.meets, t, right, wrong, s.receive);
     let answered = is_answered(t, told_line, answers);
-    let meets = meet(c, begins, pingable, early.pending, s.word, answered);
+    let meets = Meets {
+        answered,
+        ..begun.meets
+    };
     let fails = does_fail(meets, t);
     let line = is_line(t);
-    let i = alert_of(t);
-    let checked = is_checked(back);
-    let told = received.receivers;
-    let events = received.events;
-    let equal = received.equal;
+    let checked = is_checked(s.receive);
+    let off = is_line_set(wrong, line_of(t));
     Paced {
         met: Met {
-            receivers: closed(n, told, fails & !line, i),
+            receivers: closed(n, receivers, fails & !line, t.alert),
             meets,
             checked,
-            right: stays_right(checked, early, t, right, is_line_set(wrong, line_of(t))),
+            right: stays_right(checked, begun.meets, t, right, off),
         },
         events,
         answers,

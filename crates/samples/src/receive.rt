@@ -5,6 +5,7 @@ ghost use Rattle.samples.specs.Received.{ReceivedWord, ToldWord, ReceivedAll};
 
 use masks::places::live;
 use rules::{Receivers, WORDS, Wires};
+use std::array::from_fn;
 
 // 64 receivers, a bit of each in every word: where they stand, the level of the ping pair, the open pings.
 #[derive(Clone, Copy)]
@@ -85,32 +86,20 @@ fn receive_word(n: usize, r: Receivers, asks: [u64; WORDS], w: Wires, v: usize) 
 }
 
 // The n alerts meet what is asked for and the wires w, word by word.
+#[tactic(auto, unfolding(bits::specs::Index::each_from))]
 pub fn receive_all(n: usize, r: Receivers, asks: [u64; WORDS], w: Wires) -> Received
     ensures { ReceivedAll n r asks w result }
 {
-    let a = receive_word(n, r, asks, w, 0);
-    let b = receive_word(n, r, asks, w, 1);
-    let c = receive_word(n, r, asks, w, 2);
-    let d = receive_word(n, r, asks, w, 3);
+    let told: [Told; WORDS] = from_fn(|v| receive_word(n, r, asks, w, v));
     Received {
         receivers: Receivers {
-            pausing: [
-                a.word.pausing,
-                b.word.pausing,
-                c.word.pausing,
-                d.word.pausing,
-            ],
-            busy: [a.word.busy, b.word.busy, c.word.busy, d.word.busy],
-            level: [a.word.level, b.word.level, c.word.level, d.word.level],
-            pending: [
-                a.word.pending,
-                b.word.pending,
-                c.word.pending,
-                d.word.pending,
-            ],
+            pausing: told.map(|t| t.word.pausing),
+            busy: told.map(|t| t.word.busy),
+            level: told.map(|t| t.word.level),
+            pending: told.map(|t| t.word.pending),
         },
-        events: [a.events, b.events, c.events, d.events],
-        answers: [a.answers, b.answers, c.answers, d.answers],
-        equal: [a.equal, b.equal, c.equal, d.equal],
+        events: told.map(|t| t.events),
+        answers: told.map(|t| t.answers),
+        equal: told.map(|t| t.equal),
     }
 }

@@ -8,7 +8,7 @@ use crate::back::wrong_lines;
 use crate::links::none_set;
 use link_rules::{Senders, Turn};
 use masks::places::live;
-use rules::{Links, Receivers, Sample, Timer, Wires};
+use rules::{Links, Receivers, Sample, Timer, WORDS, Wires};
 use timer::turn::next_count;
 
 // No alert of word v stirs, of the receivers r of n alerts and the wires w.
@@ -23,11 +23,7 @@ fn is_word_still(n: usize, r: Receivers, w: Wires, v: usize) -> bool
 fn are_still(n: usize, r: Receivers, w: Wires) -> bool
     ensures { result ≡ true → AlertsRest n r w }
 {
-    let a = is_word_still(n, r, w, 0);
-    let b = is_word_still(n, r, w, 1);
-    let c = is_word_still(n, r, w, 2);
-    let d = is_word_still(n, r, w, 3);
-    a & (b & (c & d))
+    (0..WORDS).fold(true, |still, v| still & is_word_still(n, r, w, v))
 }
 
 // Every sender is as a new one.
@@ -41,7 +37,7 @@ pub fn are_new(s: Senders) -> bool
 fn does_wait(c: Timer, t: Turn) -> bool
     ensures { result ≡ (not (eqb c.enable 1) || not (eqb t.count 0)) }
 {
-    !(c.enable == 1) | !(t.count == 0)
+    (c.enable != 1) | (t.count != 0)
 }
 
 // The count of a turn that waits, after the tick.
@@ -59,13 +55,8 @@ pub fn wait(c: Timer, count: u16) -> u16
 pub fn does_only_send(n: usize, k: Links, c: Timer, s: Sample) -> bool
     ensures { result ≡ true → SendsBy n k c s }
 {
-    let r = k.receivers;
-    let senders = k.senders;
-    let back = s.receive;
-    let wires = s.alerts;
-    let still = are_still(n, r, wires);
-    let pends = r.pending;
-    let closed = none_set(pends) & ((k.lines == 0) & (k.right == 0));
-    let sound = wrong_lines(senders, back) == 0;
+    let still = are_still(n, k.receivers, s.alerts);
+    let closed = none_set(k.receivers.pending) & ((k.lines == 0) & (k.right == 0));
+    let sound = wrong_lines(k.senders, s.receive) == 0;
     still & (closed & (sound & does_wait(c, k.turn)))
 }

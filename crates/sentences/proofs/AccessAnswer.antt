@@ -6,15 +6,15 @@ use mathlib.Core.Logic.Iff
 use mathlib.Core.Logic.{◌↔◌}
 use native.Mathlib.Omega.{arith}
 use lib.IntN.{pos, neg_ℤ, neg_ℤ-neg_ℤ}
+use Rattle.std.specs.Prelude.{Ok, Err}
 use Rattle.laws.proofs.Access.Step1.{answer_accepted}
 use Rattle.rules.specs.Access.{value, verdict, given, accessed_by, accessed, answer_to}
-use Rattle.rules.specs.Answer.{refusal_number, number}
+use Rattle.rules.specs.Answer.{refusal_number, number, Verdict}
 use Rattle.rules.specs.Map.{decode}
 use Rattle.rules.specs.declared.Access.{Access}
 use Rattle.rules.specs.declared.Access.TheVariants.{Nothing, Read, Write}
 use Rattle.rules.specs.declared.Handler.{Handler}
 use Rattle.rules.specs.declared.Register.{Register}
-use Rattle.rules.specs.declared.Verdict.{Verdict}
 use Rattle.sentences.specs.Access.{Answered}
 use Rattle.sentences.specs.Raw.{held}
 use Rattle.sentences.specs.AccessRefusals.{Reads, Accepted}
@@ -51,8 +51,8 @@ module _ (h : Handler) (x : Access) where
   refusal_is m l = go (verdict h x)
     where
       go : (t : Verdict) → (number (accessed_by t h x).answer ≡ neg_ℤ (pos m)) ↔ (refusal_of t ≡ m)
-      go Verdict.Accepted = (λ e. absurd (given_not m l e), λ e. absurd (omega arith))
-      go (Verdict.Refused r) = (minus_eq (refusal_number r) m, λ e. ap (λ (k : ℕ). neg_ℤ (pos k)) e)
+      go (Ok tt) = (λ e. absurd (given_not m l e), λ e. absurd (omega arith))
+      go (Err r) = (minus_eq (refusal_number r) m, λ e. ap (λ (k : ℕ). neg_ℤ (pos k)) e)
 
   module _ (m : h.n ≤ 248) where
     accepted_answer : Accepted h x → number (answer_to h x) ≡ number (given h x)

@@ -7,6 +7,7 @@ use mathlib.Core.Bool.{Bool, true, false, cond, ◌&&◌}
 use native.Mathlib.Omega.{arith}
 use borrow.Author.Tests.{eqb-true, eq-eqb, ltb-true}
 use lib.Dec.{eqb, ltb}
+use Rattle.std.specs.Prelude.{Ok, Err}
 use Rattle.bits.proofs.BitLaws.{bit_none, bits_of_lt}
 use Rattle.bits.proofs.IndexLaws.{and-true, true_and}
 use Rattle.bits.specs.Bits.{bit}
@@ -14,7 +15,7 @@ use Rattle.laws.proofs.Map.Cases.{never}
 use Rattle.laws.proofs.Access.Clears.{is_clr}
 use Rattle.laws.proofs.Access.Step1.{clears_if, cleared_lt}
 use Rattle.rules.specs.Access.{verdict, accepts, accepted, is_clr_of, writes_clr, writes_enable, accessed_by, accessed, effects, clears}
-use Rattle.rules.specs.Answer.{refusal_number}
+use Rattle.rules.specs.Answer.{refusal_number, Verdict}
 use Rattle.rules.specs.Map.{decode, number_of, is_register, bits}
 use Rattle.rules.specs.declared.Access.{Access}
 use Rattle.rules.specs.declared.Access.TheVariants.{Nothing, Read, Write}
@@ -23,7 +24,6 @@ use Rattle.rules.specs.declared.Register.{Register}
 use Rattle.rules.specs.declared.Register.TheVariants.{Only, Block}
 use Rattle.rules.specs.declared.Setting.TheVariants.{Clr}
 use Rattle.rules.specs.declared.Single.TheVariants.{PingEnable}
-use Rattle.rules.specs.declared.Verdict.{Verdict}
 use Rattle.sentences.specs.Access.{Handed}
 use Rattle.sentences.specs.AccessMap.{Row}
 use Rattle.sentences.specs.AccessRefusals.{Writes, Accepted}
@@ -71,8 +71,8 @@ module _ (h : Handler) (x : Access) (m : h.n ≤ 248) where
   clears_width = go (verdict h x)
     where
       go : (t : Verdict) → (accessed_by t h x).effects.clears < 16
-      go Verdict.Accepted = bits_of_lt 4 (writes_clr h x)
-      go (Verdict.Refused r) = omega arith
+      go (Ok tt) = bits_of_lt 4 (writes_clr h x)
+      go (Err r) = omega arith
 
   -- ── register 6 becomes 1 ──
 
@@ -100,8 +100,8 @@ module _ (h : Handler) (x : Access) (m : h.n ≤ 248) where
   begins_if = go (verdict h x)
     where
       go : (t : Verdict) → (accessed_by t h x).effects.begins ≡ (accepts t && writes_enable h x)
-      go Verdict.Accepted = refl
-      go (Verdict.Refused r) = refl
+      go (Ok tt) = refl
+      go (Err r) = refl
 
   begins_is : ((effects h x).begins ≡ true) ↔ (Accepted h x × Writes h x (Only PingEnable) 1 × (h.timer.enable ≡ 0))
   begins_is =
@@ -132,8 +132,8 @@ module _ (h : Handler) (x : Access) (m : h.n ≤ 248) where
       by false c f = (λ e. never (sym (bit_none j) ∙ e), λ s. never (f.1 s.1))
 
       go : (t : Verdict) → (bit (accessed_by t h x).effects.raises j ≡ true) ↔ ((j ≡ 5) × (refusal_of t ≡ 12))
-      go Verdict.Accepted = (λ e. never (sym (bit_none j) ∙ e), λ s. absurd (omega (arith, s.1)))
-      go (Verdict.Refused r) = by (eqb (refusal_number r) 12) (refusal_number r) (eqb-true (refusal_number r) 12, eq-eqb (refusal_number r) 12)
+      go (Ok tt) = (λ e. never (sym (bit_none j) ∙ e), λ s. absurd (omega (arith, s.1)))
+      go (Err r) = by (eqb (refusal_number r) 12) (refusal_number r) (eqb-true (refusal_number r) 12, eq-eqb (refusal_number r) 12)
 
   raises_width : (effects h x).raises < 128
   unfolding effects accessed
@@ -144,8 +144,8 @@ module _ (h : Handler) (x : Access) (m : h.n ≤ 248) where
       by false = omega arith
 
       go : (t : Verdict) → (accessed_by t h x).effects.raises < 128
-      go Verdict.Accepted = omega arith
-      go (Verdict.Refused r) = by (eqb (refusal_number r) 12)
+      go (Ok tt) = omega arith
+      go (Err r) = by (eqb (refusal_number r) 12)
 
   pub holds_effects : Handed h x (effects h x)
   holds_effects =

@@ -2,10 +2,10 @@
 -- Assumes nothing.
 use mathlib.Core.Path.{◌≡◌, ap}
 use mathlib.Core.Logic.{◌↔◌}
+use Rattle.std.specs.Prelude.{Ok, Err}
 use Rattle.rules.specs.Access.{verdict, acted, answer_to, effects, clears}
-use Rattle.rules.specs.Answer.{number}
+use Rattle.rules.specs.Answer.{number, Verdict}
 use Rattle.rules.specs.declared.Refusal.{Refusal}
-use Rattle.rules.specs.declared.Verdict.{Verdict}
 use Rattle.sentences.specs.Access.{AccessStep, AccessVerdict, AcceptedClear}
 use Rattle.sentences.proofs.AccessAnswer.{holds_answer}
 use Rattle.sentences.proofs.AccessArrays.{holds_arrays}
@@ -30,14 +30,14 @@ holds_clear h x k m = clears_hold h x m k
 pub holds_verdict : AccessVerdict verdict
 holds_verdict h x m =
     record {
-      five = by (Verdict.Refused Refusal.BadRecord) (is_5 h x m);
-      one = by (Verdict.Refused Refusal.NoRegister) (is_1 h x m);
-      two = by (Verdict.Refused Refusal.WrongWay) (is_2 h x m);
-      four = by (Verdict.Refused Refusal.TooWide) (is_4 h x m);
-      fourteen = by (Verdict.Refused Refusal.SillyThreshold) (is_14 h x m);
-      three = by (Verdict.Refused Refusal.Locked) (is_3 h x m);
-      twelve = by (Verdict.Refused Refusal.Differs) (is_12 h x m);
-      accepted = by Verdict.Accepted (is_0 h x m);
+      five = by (Err Refusal.BadRecord) (is_5 h x m);
+      one = by (Err Refusal.NoRegister) (is_1 h x m);
+      two = by (Err Refusal.WrongWay) (is_2 h x m);
+      four = by (Err Refusal.TooWide) (is_4 h x m);
+      fourteen = by (Err Refusal.SillyThreshold) (is_14 h x m);
+      three = by (Err Refusal.Locked) (is_3 h x m);
+      twelve = by (Err Refusal.Differs) (is_12 h x m);
+      accepted = by (Ok tt) (is_0 h x m);
     }
   where
     -- a verdict and its number

@@ -8,7 +8,7 @@ use lib.IntN.{ℤ}
 use Rattle.rules.specs.declared.Access.{Access}
 use Rattle.rules.specs.declared.Effects.{Effects}
 use Rattle.rules.specs.declared.Handler.{Handler}
-use Rattle.rules.specs.declared.Verdict.{Verdict}
+use Rattle.rules.specs.Answer.{Verdict}
 use Rattle.sentences.specs.Access.{AccessStep, AccessVerdict, AcceptedClear}
 use Rattle.sentences.specs.AccessArrays.{Sized}
 use Rattle.sentences.proofs.AccessOnlyAnswer.{same_answer, same_effects, same_verdict}

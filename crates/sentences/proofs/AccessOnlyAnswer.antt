@@ -4,6 +4,7 @@ use mathlib.Core.Path.{◌≡◌, refl, sym, ap, ◌∙◌}
 use mathlib.Core.Logic.{inl}
 use mathlib.Core.Bool.{Bool, true, false, false≢true}
 use lib.IntN.{ℤ, ℤ_discrete}
+use Rattle.std.specs.Prelude.{Ok, Err}
 use Rattle.bits.proofs.BitLaws.{bit_ext}
 use Rattle.bits.specs.Bits.{bit}
 use Rattle.rules.specs.declared.Access.{Access}
@@ -12,7 +13,7 @@ use Rattle.rules.specs.declared.Effects.{Effects}
 use Rattle.rules.specs.declared.Handler.{Handler}
 use Rattle.rules.specs.declared.Refusal.{Refusal}
 use Rattle.rules.specs.declared.Register.{Register}
-use Rattle.rules.specs.declared.Verdict.{Verdict}
+use Rattle.rules.specs.Answer.{Verdict}
 use Rattle.sentences.specs.Access.{Answered, Handed, Judged}
 use Rattle.sentences.specs.AccessMap.{Names}
 use Rattle.sentences.specs.AccessRefusals.{Reads, Malformed, NoRegister, WrongWay, TooWide, SillyThreshold, Locked, Differs, Accepted}
@@ -56,20 +57,20 @@ module _ (h : Handler) (x : Access) (d e : Effects) (a : Handed h x d) (b : Hand
 
 -- one of those that the sentences speak of
 abbrev is_said : Verdict → Bool
-is_said Verdict.Accepted = true
-is_said (Verdict.Refused Refusal.NoRegister) = true
-is_said (Verdict.Refused Refusal.WrongWay) = true
-is_said (Verdict.Refused Refusal.Locked) = true
-is_said (Verdict.Refused Refusal.TooWide) = true
-is_said (Verdict.Refused Refusal.BadRecord) = true
-is_said (Verdict.Refused Refusal.BadCount) = false
-is_said (Verdict.Refused Refusal.BadState) = false
-is_said (Verdict.Refused Refusal.BadLength) = false
-is_said (Verdict.Refused Refusal.ShortList) = false
-is_said (Verdict.Refused Refusal.NoRecord) = false
-is_said (Verdict.Refused Refusal.ShortBuffer) = false
-is_said (Verdict.Refused Refusal.Differs) = true
-is_said (Verdict.Refused Refusal.SillyThreshold) = true
+is_said (Ok tt) = true
+is_said (Err Refusal.NoRegister) = true
+is_said (Err Refusal.WrongWay) = true
+is_said (Err Refusal.Locked) = true
+is_said (Err Refusal.TooWide) = true
+is_said (Err Refusal.BadRecord) = true
+is_said (Err Refusal.BadCount) = false
+is_said (Err Refusal.BadState) = false
+is_said (Err Refusal.BadLength) = false
+is_said (Err Refusal.ShortList) = false
+is_said (Err Refusal.NoRecord) = false
+is_said (Err Refusal.ShortBuffer) = false
+is_said (Err Refusal.Differs) = true
+is_said (Err Refusal.SillyThreshold) = true
 
 module _ (h : Handler) (x : Access) (t u : Verdict) (a : Judged h x t) (b : Judged h x u) where
   -- it is one of them
@@ -91,17 +92,17 @@ module _ (h : Handler) (x : Access) (t u : Verdict) (a : Judged h x t) (b : Judg
   same_verdict = go t refl
     where
       go : (s : Verdict) → t ≡ s → t ≡ u
-      go Verdict.Accepted e = both_are a.accepted b.accepted e
-      go (Verdict.Refused Refusal.NoRegister) e = both_are a.one b.one e
-      go (Verdict.Refused Refusal.WrongWay) e = both_are a.two b.two e
-      go (Verdict.Refused Refusal.Locked) e = both_are a.three b.three e
-      go (Verdict.Refused Refusal.TooWide) e = both_are a.four b.four e
-      go (Verdict.Refused Refusal.BadRecord) e = both_are a.five b.five e
-      go (Verdict.Refused Refusal.BadCount) e = absurd (said _ e refl)
-      go (Verdict.Refused Refusal.BadState) e = absurd (said _ e refl)
-      go (Verdict.Refused Refusal.BadLength) e = absurd (said _ e refl)
-      go (Verdict.Refused Refusal.ShortList) e = absurd (said _ e refl)
-      go (Verdict.Refused Refusal.NoRecord) e = absurd (said _ e refl)
-      go (Verdict.Refused Refusal.ShortBuffer) e = absurd (said _ e refl)
-      go (Verdict.Refused Refusal.Differs) e = both_are a.twelve b.twelve e
-      go (Verdict.Refused Refusal.SillyThreshold) e = both_are a.fourteen b.fourteen e
+      go (Ok tt) e = both_are a.accepted b.accepted e
+      go (Err Refusal.NoRegister) e = both_are a.one b.one e
+      go (Err Refusal.WrongWay) e = both_are a.two b.two e
+      go (Err Refusal.Locked) e = both_are a.three b.three e
+      go (Err Refusal.TooWide) e = both_are a.four b.four e
+      go (Err Refusal.BadRecord) e = both_are a.five b.five e
+      go (Err Refusal.BadCount) e = absurd (said _ e refl)
+      go (Err Refusal.BadState) e = absurd (said _ e refl)
+      go (Err Refusal.BadLength) e = absurd (said _ e refl)
+      go (Err Refusal.ShortList) e = absurd (said _ e refl)
+      go (Err Refusal.NoRecord) e = absurd (said _ e refl)
+      go (Err Refusal.ShortBuffer) e = absurd (said _ e refl)
+      go (Err Refusal.Differs) e = both_are a.twelve b.twelve e
+      go (Err Refusal.SillyThreshold) e = both_are a.fourteen b.fourteen e

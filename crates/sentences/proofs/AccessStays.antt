@@ -7,6 +7,7 @@ use native.Mathlib.Omega.{arith}
 use borrow.Author.Tests.{eqb-true, ltb-true}
 use lib.Dec.{eqb}
 use lib.ListN.{get_or}
+use Rattle.std.specs.Prelude.{Err}
 use Rattle.bits.proofs.IndexLaws.{and-true}
 use Rattle.laws.specs.Columns.{same_field}
 use Rattle.laws.specs.InMap.{in_map}
@@ -26,7 +27,6 @@ use Rattle.rules.specs.declared.Field.{Field}
 use Rattle.rules.specs.declared.Handler.{Handler}
 use Rattle.rules.specs.declared.Refusal.{Refusal}
 use Rattle.rules.specs.declared.Register.{Register}
-use Rattle.rules.specs.declared.Verdict.{Verdict}
 use Rattle.sentences.specs.Raw.{alert_list}
 use Rattle.sentences.specs.AccessWrites.{Written}
 use Rattle.sentences.proofs.AccessVerdict.{refusal_of, verdict_of, is_5, is_1, is_2, is_4, is_14}
@@ -63,8 +63,8 @@ list_is h f i = by_field (λ f. alert h f i ≡ get_or (alert_list h f) i 0) ref
 
 module _ (h : Handler) (x : Access) (m : h.n ≤ 248) where
   -- a refusal that drops no stage
-  untouched : (r : Refusal) → drops r ≡ false → refusal_of (verdict h x) ≡ refusal_of (Verdict.Refused r) → acted h x ≡ h
-  untouched r d e = refused_keeps h x r (verdict_of (verdict h x) (Verdict.Refused r) e) d
+  untouched : (r : Refusal) → drops r ≡ false → refusal_of (verdict h x) ≡ refusal_of (Err r) → acted h x ≡ h
+  untouched r d e = refused_keeps h x r (verdict_of (verdict h x) (Err r) e) d
 
   pub holds_written : Written h x (acted h x)
   holds_written =

@@ -7,53 +7,53 @@ use mathlib.Core.Bool.{Bool, true, false, false≢true, cond}
 use native.Mathlib.Omega.{arith}
 use borrow.Author.Tests.{eqb-false}
 use lib.Dec.{eqb}
+use Rattle.std.specs.Prelude.{Ok, Err}
 use Rattle.rules.specs.Access.{malformed, no_register, wrong_way, too_wide, silly_threshold, barred, differs, in_order, verdict, accepts, accepted}
-use Rattle.rules.specs.Answer.{refusal_number, first_of}
+use Rattle.rules.specs.Answer.{refusal_number, first_of, Verdict}
 use Rattle.rules.specs.declared.Access.{Access}
 use Rattle.rules.specs.declared.Handler.{Handler}
 use Rattle.rules.specs.declared.Refusal.{Refusal}
-use Rattle.rules.specs.declared.Verdict.{Verdict}
 use Rattle.sentences.specs.AccessRefusals.{Malformed, NoRegister, WrongWay, TooWide, SillyThreshold, Locked, Given5, Given1, Given2, Given4, Given14, Given3, Given12, Accepted}
 use Rattle.sentences.proofs.AccessCases.{here, later, last, away}
 use Rattle.sentences.proofs.AccessRefusals.{malformed_is, no_register_is, wrong_way_is, too_wide_is, silly_is, locked_is, differs_is}
 
 -- the refusal's number, and 0 where none is given
 abbrev pub refusal_of : Verdict → ℕ
-refusal_of Verdict.Accepted = 0
-refusal_of (Verdict.Refused m) = refusal_number m
+refusal_of (Ok tt) = 0
+refusal_of (Err m) = refusal_number m
 
 -- and back, of the refusals of an access
 abbrev back : ℕ → Verdict
 back c =
-    cond (eqb c 1) (Verdict.Refused Refusal.NoRegister)
-    (cond (eqb c 2) (Verdict.Refused Refusal.WrongWay)
-    (cond (eqb c 3) (Verdict.Refused Refusal.Locked)
-    (cond (eqb c 4) (Verdict.Refused Refusal.TooWide)
-    (cond (eqb c 5) (Verdict.Refused Refusal.BadRecord)
-    (cond (eqb c 6) (Verdict.Refused Refusal.BadCount)
-    (cond (eqb c 7) (Verdict.Refused Refusal.BadState)
-    (cond (eqb c 8) (Verdict.Refused Refusal.BadLength)
-    (cond (eqb c 9) (Verdict.Refused Refusal.ShortList)
-    (cond (eqb c 10) (Verdict.Refused Refusal.NoRecord)
-    (cond (eqb c 11) (Verdict.Refused Refusal.ShortBuffer)
-    (cond (eqb c 12) (Verdict.Refused Refusal.Differs)
-    (cond (eqb c 14) (Verdict.Refused Refusal.SillyThreshold) Verdict.Accepted))))))))))))
+    cond (eqb c 1) (Err Refusal.NoRegister)
+    (cond (eqb c 2) (Err Refusal.WrongWay)
+    (cond (eqb c 3) (Err Refusal.Locked)
+    (cond (eqb c 4) (Err Refusal.TooWide)
+    (cond (eqb c 5) (Err Refusal.BadRecord)
+    (cond (eqb c 6) (Err Refusal.BadCount)
+    (cond (eqb c 7) (Err Refusal.BadState)
+    (cond (eqb c 8) (Err Refusal.BadLength)
+    (cond (eqb c 9) (Err Refusal.ShortList)
+    (cond (eqb c 10) (Err Refusal.NoRecord)
+    (cond (eqb c 11) (Err Refusal.ShortBuffer)
+    (cond (eqb c 12) (Err Refusal.Differs)
+    (cond (eqb c 14) (Err Refusal.SillyThreshold) (Ok tt)))))))))))))
 
 back_is : (t : Verdict) → back (refusal_of t) ≡ t
-back_is Verdict.Accepted = refl
-back_is (Verdict.Refused Refusal.NoRegister) = refl
-back_is (Verdict.Refused Refusal.WrongWay) = refl
-back_is (Verdict.Refused Refusal.Locked) = refl
-back_is (Verdict.Refused Refusal.TooWide) = refl
-back_is (Verdict.Refused Refusal.BadRecord) = refl
-back_is (Verdict.Refused Refusal.BadCount) = refl
-back_is (Verdict.Refused Refusal.BadState) = refl
-back_is (Verdict.Refused Refusal.BadLength) = refl
-back_is (Verdict.Refused Refusal.ShortList) = refl
-back_is (Verdict.Refused Refusal.NoRecord) = refl
-back_is (Verdict.Refused Refusal.ShortBuffer) = refl
-back_is (Verdict.Refused Refusal.Differs) = refl
-back_is (Verdict.Refused Refusal.SillyThreshold) = refl
+back_is (Ok tt) = refl
+back_is (Err Refusal.NoRegister) = refl
+back_is (Err Refusal.WrongWay) = refl
+back_is (Err Refusal.Locked) = refl
+back_is (Err Refusal.TooWide) = refl
+back_is (Err Refusal.BadRecord) = refl
+back_is (Err Refusal.BadCount) = refl
+back_is (Err Refusal.BadState) = refl
+back_is (Err Refusal.BadLength) = refl
+back_is (Err Refusal.ShortList) = refl
+back_is (Err Refusal.NoRecord) = refl
+back_is (Err Refusal.ShortBuffer) = refl
+back_is (Err Refusal.Differs) = refl
+back_is (Err Refusal.SillyThreshold) = refl
 
 -- a verdict is what its number says
 pub verdict_of : (t u : Verdict) → refusal_of t ≡ refusal_of u → t ≡ u
@@ -192,8 +192,8 @@ module _ (h : Handler) (x : Access) (m : h.n ≤ 248) where
   accepted_is = (λ e. is_0.0 (to (verdict h x) e), λ p. from (verdict h x) (is_0.1 p))
     where
       to : (t : Verdict) → accepts t ≡ true → refusal_of t ≡ 0
-      to Verdict.Accepted e = refl
-      to (Verdict.Refused r) e = absurd (false≢true e)
+      to (Ok tt) e = refl
+      to (Err r) e = absurd (false≢true e)
 
       from : (t : Verdict) → refusal_of t ≡ 0 → accepts t ≡ true
-      from t e = ap accepts (verdict_of t Verdict.Accepted e)
+      from t e = ap accepts (verdict_of t (Ok tt) e)

@@ -5,10 +5,11 @@ use mathlib.Core.Path.{◌≡◌, refl, sym, ap, ap₂, ◌∙◌, subst}
 use mathlib.Core.Logic.{◌⊎◌, inl, inr}
 use mathlib.Core.Bool.{true, false, ◌&&◌}
 use lib.Dec.{eqb, ltb}
+use Rattle.std.specs.Prelude.{Ok, Err}
 use Rattle.bits.specs.Bits.{bits_of}
 use Rattle.link_rules.specs.Receiver.{acknowledges}
 use Rattle.rules.specs.Access.{verdict, accessed_by, accessed, acted, answer_to, effects}
-use Rattle.rules.specs.Answer.{refusal_number, number}
+use Rattle.rules.specs.Answer.{refusal_number, number, Verdict}
 use Rattle.rules.specs.State.{receiver_in}
 use Rattle.rules.specs.Tick.{interrupts, lines, pairs, acknowledge_pairs, ping_pairs, escalation_pairs, output_of, hears, reached, after, tick, ticked}
 use Rattle.rules.specs.Valid.{valid}
@@ -17,7 +18,6 @@ use Rattle.rules.specs.declared.Handler.{Handler}
 use Rattle.rules.specs.declared.Input.{Input}
 use Rattle.rules.specs.declared.Links.{Links}
 use Rattle.rules.specs.declared.Ticked.{Ticked}
-use Rattle.rules.specs.declared.Verdict.{Verdict}
 use Rattle.laws.proofs.Access.RegisterFile.{acted_n}
 use Rattle.laws.proofs.Map.Cases.{pick}
 use Rattle.laws.proofs.Samples.Receivers.{acted_links}
@@ -40,8 +40,8 @@ use Rattle.sentences.proofs.HoldsValid.{holds_valid}
 -- ── step 1 ──
 
 raises_by : (v : Verdict) (h : Handler) (x : Access) → RaisesFiveOrNone (accessed_by v h x).effects
-raises_by Verdict.Accepted h x = inl refl
-raises_by (Verdict.Refused m) h x = pick (λ (n : ℕ). (n ≡ 0) ⊎ (n ≡ 32)) (eqb (refusal_number m) 12) 32 0 (λ _. inr refl) (λ _. inl refl)
+raises_by (Ok tt) h x = inl refl
+raises_by (Err m) h x = pick (λ (n : ℕ). (n ≡ 0) ⊎ (n ≡ 32)) (eqb (refusal_number m) 12) 32 0 (λ _. inr refl) (λ _. inl refl)
 
 pub holds_step1 : Step1 accessed
 unfolding accessed acted

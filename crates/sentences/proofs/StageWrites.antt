@@ -5,6 +5,7 @@ use mathlib.Core.Path.{◌≡◌, refl, sym, ap, ◌∙◌, subst}
 use mathlib.Core.Bool.{Bool, true, false, false≢true, cond, not}
 use native.Mathlib.Omega.{arith}
 use borrow.Author.Tests.{eq-eqb, ne_eqb, ltb-true, lt-ltb}
+use Rattle.std.specs.Prelude.{Ok, Err}
 use Rattle.bits.proofs.IndexLaws.{true_and}
 use Rattle.laws.specs.InMap.{in_map}
 use Rattle.laws.specs.StageFile.{stage_by}
@@ -22,7 +23,7 @@ use Rattle.rules.specs.declared.Handler.{Handler}
 use Rattle.rules.specs.declared.Refusal.{Refusal}
 use Rattle.rules.specs.declared.Register.{Register}
 use Rattle.rules.specs.declared.Register.TheVariants.{Alert}
-use Rattle.rules.specs.declared.Verdict.{Verdict}
+use Rattle.rules.specs.Answer.{Verdict}
 use Rattle.sentences.specs.AccessMap.{Row, Names, Shadowed}
 use Rattle.sentences.specs.Raw.{code}
 use Rattle.sentences.specs.AccessRefusals.{Reads, Writes, Accepted}
@@ -58,8 +59,8 @@ module _ (h : Handler) (x : Access) (m : h.n ≤ 248) where
     -- an accepted write stages its value if it is the first, and leaves no stage otherwise
     accepted_write : (b : Bool) → is_first h q ≡ b → Accepted h x → code (acted h x) q ≡ cond b (v + 1) 0
     accepted_write b f c =
-        sym (code_is (acted h x) q) ∙ by_verdict q Verdict.Accepted (in_map_law w.number q w.names) write_names (met Verdict.Accepted ((is_0 h x m).1 c))
-        ∙ ap (λ (y : Access). stage_by Verdict.Accepted h y (stage h q)) w.access
+        sym (code_is (acted h x) q) ∙ by_verdict q (Ok tt) (in_map_law w.number q w.names) write_names (met (Ok tt) ((is_0 h x m).1 c))
+        ∙ ap (λ (y : Access). stage_by (Ok tt) h y (stage h q)) w.access
         ∙ ap (λ (p : Register). cond (is_first h p) (v + 1) 0) (written_is h m x q v w) ∙ ap (λ (b : Bool). cond b (v + 1) 0) f
 
     -- a first write
@@ -73,8 +74,8 @@ module _ (h : Handler) (x : Access) (m : h.n ≤ 248) where
   read_drops : (q : Register) → Accepted h x → Reads h x q → code (acted h x) q ≡ 0
   read_drops q c w =
       sym (code_is (acted h x) q)
-      ∙ by_verdict q Verdict.Accepted (in_map_law w.number q w.names) (ap (named h) w.access ∙ read_is h m x q w) (met Verdict.Accepted ((is_0 h x m).1 c))
-      ∙ ap (λ (y : Access). stage_by Verdict.Accepted h y (stage h q)) w.access
+      ∙ by_verdict q (Ok tt) (in_map_law w.number q w.names) (ap (named h) w.access ∙ read_is h m x q w) (met (Ok tt) ((is_0 h x m).1 c))
+      ∙ ap (λ (y : Access). stage_by (Ok tt) h y (stage h q)) w.access
 
   -- ── every other stage ──
 
@@ -112,8 +113,8 @@ module _ (h : Handler) (x : Access) (m : h.n ≤ 248) where
         first = λ q v c w s z. accepted_write q v w true (is_first_law q v w s z) c;
         second = λ q v s c. accepted_write q v c.writes false (not_first h m q v c.second) c.accepted;
         read = read_drops;
-        locked = λ q v c w. refused_write q v w (Verdict.Refused Refusal.Locked) ((is_3 h x m).1 c) refl;
-        differs = λ q v c w. refused_write q v w (Verdict.Refused Refusal.Differs) ((is_12 h x m).1 c) refl;
+        locked = λ q v c w. refused_write q v w (Err Refusal.Locked) ((is_3 h x m).1 c) refl;
+        differs = λ q v c w. refused_write q v w (Err Refusal.Differs) ((is_12 h x m).1 c) refl;
         stays = stage_stays;
         above_en = stage_above Field.En;
         above_class = stage_above Field.Class;

@@ -1,7 +1,7 @@
 -- Step 1 of "One tick", the access on the state before any event of the tick, in sentences: what it answers, what it leaves and what it hands to the
 -- later steps. Raw fields and plain comparisons, and no definition of the rules.
 -- Assumes nothing.
-use Rattle.std.specs.Prelude.{ℕ, ◌≤◌, ◌<◌, ◌≡◌, ◌↔◌, ◌≢◌, Bool, true, ℤ, pos, neg_ℤ}
+use Rattle.std.specs.Prelude.{ℕ, ◌≤◌, ◌<◌, ◌≡◌, ◌↔◌, ◌≢◌, Bool, true, ℤ, pos, neg_ℤ, Ok, Err}
 use Rattle.bits.specs.Bits.{bit}
 use Rattle.rules.specs.declared.Access.{Access}
 use Rattle.rules.specs.declared.Access.TheVariants.{Read}
@@ -12,7 +12,7 @@ use Rattle.rules.specs.declared.Register.{Register}
 use Rattle.rules.specs.declared.Register.TheVariants.{Only, Block}
 use Rattle.rules.specs.declared.Setting.TheVariants.{Clr}
 use Rattle.rules.specs.declared.Single.TheVariants.{PingEnable}
-use Rattle.rules.specs.declared.Verdict.{Verdict}
+use Rattle.rules.specs.Answer.{Verdict}
 use Rattle.sentences.specs.AccessArrays.{Sized}
 use Rattle.sentences.specs.AccessRefusals.{Reads, Writes, Given5, Given1, Given2, Given4, Given14, Given3, Given12, Accepted}
 use Rattle.sentences.specs.AccessWrites.{Written}
@@ -74,14 +74,14 @@ AccessStep state answer effects = (h : Handler) (x : Access) → h.n ≤ 248 →
 
 -- the verdict t: each refusal exactly in its case, and accepted exactly in none
 pub record Judged (h : Handler) (x : Access) (t : Verdict) : Type 0 where
-  pub five : (t ≡ Verdict.Refused Refusal.BadRecord) ↔ Given5 h x
-  pub one : (t ≡ Verdict.Refused Refusal.NoRegister) ↔ Given1 h x
-  pub two : (t ≡ Verdict.Refused Refusal.WrongWay) ↔ Given2 h x
-  pub four : (t ≡ Verdict.Refused Refusal.TooWide) ↔ Given4 h x
-  pub fourteen : (t ≡ Verdict.Refused Refusal.SillyThreshold) ↔ Given14 h x
-  pub three : (t ≡ Verdict.Refused Refusal.Locked) ↔ Given3 h x
-  pub twelve : (t ≡ Verdict.Refused Refusal.Differs) ↔ Given12 h x
-  pub accepted : (t ≡ Verdict.Accepted) ↔ Accepted h x
+  pub five : (t ≡ Err Refusal.BadRecord) ↔ Given5 h x
+  pub one : (t ≡ Err Refusal.NoRegister) ↔ Given1 h x
+  pub two : (t ≡ Err Refusal.WrongWay) ↔ Given2 h x
+  pub four : (t ≡ Err Refusal.TooWide) ↔ Given4 h x
+  pub fourteen : (t ≡ Err Refusal.SillyThreshold) ↔ Given14 h x
+  pub three : (t ≡ Err Refusal.Locked) ↔ Given3 h x
+  pub twelve : (t ≡ Err Refusal.Differs) ↔ Given12 h x
+  pub accepted : (t ≡ (Ok tt)) ↔ Accepted h x
 
 abbrev pub AccessVerdict : (Handler → Access → Verdict) → Type 0
 AccessVerdict verdict = (h : Handler) (x : Access) → h.n ≤ 248 → Judged h x (verdict h x)

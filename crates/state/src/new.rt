@@ -32,9 +32,8 @@ fn reset_class() -> Class
 fn reset(n: usize) -> Handler
     ensures { result ≡ new_handler n }
 {
-    let class = reset_class();
     Handler {
-        n: n,
+        n,
         links: Links {
             receivers: Receivers {
                 pausing: [0; WORDS],
@@ -57,7 +56,7 @@ fn reset(n: usize) -> Handler
             },
             right: 0,
         },
-        classes: [class; 4],
+        classes: [reset_class(); 4],
         alerts: Alerts {
             regwen: [1; MOST],
             en: [0; MOST],

@@ -34,11 +34,7 @@ fn alerts_own(n: usize, pends: [u64; WORDS], own: bool, i: u8) -> bool
     requires { n ≤ most }
     ensures { result ≡ all_to (λ j. not (place_in pends j) || (own && eqb j i)) n }
 {
-    let a = stray(n, pends, own, i, 0);
-    let b = stray(n, pends, own, i, 1);
-    let c = stray(n, pends, own, i, 2);
-    let d = stray(n, pends, own, i, 3);
-    (a == 0) & ((b == 0) & ((c == 0) & (d == 0)))
+    (0..WORDS).all(|v| stray(n, pends, own, i, v) == 0)
 }
 
 // The ping of line l is not open, or it is line e's, which may be.
@@ -46,18 +42,14 @@ fn line_owns(lines: u32, own: bool, e: u8, l: u8) -> bool
     requires { l < 4 }
     ensures { result ≡ (not (bit lines l) || (own && eqb l e)) }
 {
-    !((lines >> l) % 2 == 1) | (own & (l == e))
+    ((lines >> l) % 2 != 1) | (own & (l == e))
 }
 
 // The same of the four lines.
 fn lines_own(lines: u32, own: bool, e: u8) -> bool
     ensures { result ≡ all_to (λ l. not (bit lines l) || (own && eqb l e)) 4 }
 {
-    let a = line_owns(lines, own, e, 0);
-    let b = line_owns(lines, own, e, 1);
-    let c = line_owns(lines, own, e, 2);
-    let d = line_owns(lines, own, e, 3);
-    ((a & b) & c) & d
+    (0..4).all(|l| line_owns(lines, own, e, l))
 }
 
 // No ping is open but the turn's, of n alerts and the four lines; on says whether the timer is on.
@@ -65,11 +57,7 @@ pub fn pings_fit(n: usize, k: Links, on: bool) -> bool
     requires { n ≤ most }
     ensures { result ≡ pings_owned n k on }
 {
-    let t = k.turn;
-    let r = k.receivers;
-    let pends = r.pending;
-    let line = t.number % 2 == 1;
-    let a = alerts_own(n, pends, on & !line, t.alert);
-    let e = lines_own(k.lines, on & line, t.number / 2 % 4);
-    a & e
+    let line = k.turn.number % 2 == 1;
+    alerts_own(n, k.receivers.pending, on & !line, k.turn.alert)
+        & lines_own(k.lines, on & line, k.turn.number / 2 % 4)
 }

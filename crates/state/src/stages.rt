@@ -54,18 +54,14 @@ fn largest(xs: &[u8], n: usize) -> u8
 fn within(xs: [u32; 7], code: u32) -> bool
     ensures { result ≡ all_to (λ j. leb (get_or xs j 0) code) local_count }
 {
-    ((((((xs[0] <= code) & (xs[1] <= code)) & (xs[2] <= code)) & (xs[3] <= code)) & (xs[4] <= code))
-        & (xs[5] <= code))
-        & (xs[6] <= code)
+    xs.iter().all(|x| *x <= code)
 }
 
-// EN and CLASS of the local alerts.
+// EN and CLASS of the local alerts. Apart from those of the alerts: codes of 32 bits here and of 8 there are C structs of their own.
 fn locals_fit(l: LocalStages) -> bool
     ensures { result ≡ field_stages_fit (λ f. local_stages f l) local_count }
 {
-    let en = l.en;
-    let class = l.class;
-    within(en, 2) & within(class, 4)
+    within(l.en, 2) & within(l.class, 4)
 }
 
 // EN and CLASS of the alerts below n; entries at n and above are not looked at.
@@ -73,35 +69,27 @@ fn alerts_fit(a: AlertStages, n: usize) -> bool
     requires { n ≤ most }
     ensures { result ≡ field_stages_fit (λ f. alert_stages f a) n }
 {
-    let en = a.en;
-    let class = a.class;
-    (largest(&en, n) <= 2) & (largest(&class, n) <= 4)
+    (largest(&a.en, n) <= 2) & (largest(&a.class, n) <= 4)
 }
 
 // The four lengths of a class.
 fn lengths_fit(l: [u64; 4]) -> bool
     ensures { result ≡ codes_fit 32 l 4 }
 {
-    (((l[0] <= 4294967296) & (l[1] <= 4294967296)) & (l[2] <= 4294967296)) & (l[3] <= 4294967296)
+    l.iter().all(|length| *length <= 4294967296)
 }
 
 // The stages of a class's block.
 fn class_fits(c: ClassStages) -> bool
     ensures { result ≡ class_stages_fit c }
 {
-    let lengths = c.lengths;
-    (c.ctrl <= 16384) & ((c.thresh <= 65536) & ((c.timeout <= 4294967296) & lengths_fit(lengths)))
+    (c.ctrl <= 16384) & ((c.thresh <= 65536) & ((c.timeout <= 4294967296) & lengths_fit(c.lengths)))
 }
 
 fn classes_fit(c: [ClassStages; 4]) -> bool
     ensures { result ≡ all_to (λ k. class_stages_fit (get_or c k no_class_stages)) class_count }
 {
-    let mut ok = true;
-    for k in 0..4 {
-        let x = c[k];
-        ok = ok & class_fits(x);
-    }
-    ok
+    c.iter().all(|stages| class_fits(*stages))
 }
 
 // No staged value is over its field.
@@ -109,8 +97,6 @@ pub fn fit(s: Stages, n: usize) -> bool
     requires { n ≤ most }
     ensures { result ≡ stages_fit n s }
 {
-    let classes = s.classes;
-    let l = locals_fit(s.locals);
-    let a = alerts_fit(s.alerts, n);
-    l & (a & (classes_fit(classes) & (s.timeout <= 65536)))
+    locals_fit(s.locals)
+        & (alerts_fit(s.alerts, n) & (classes_fit(s.classes) & (s.timeout <= 65536)))
 }

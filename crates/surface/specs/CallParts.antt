@@ -1,11 +1,11 @@
 -- The parts of what the boundary's calls give back, each said by itself.
 -- Assumes nothing.
-use Rattle.std.specs.Prelude.{ℕ, ◌*◌, ◌≤◌, ◌<◌, ◌≡◌, true, List, ◌++◌, map, get_or, length, take, drop}
+use Rattle.std.specs.Prelude.{ℕ, ◌*◌, ◌≤◌, ◌<◌, ◌≡◌, true, List, ◌++◌, map, get_or, length, take, drop, Ok}
 use Rattle.calm_rules.specs.Call.{call_words}
 use Rattle.rules.specs.Run.{ticks}
 use Rattle.rules.specs.declared.Handler.{Handler}
 use Rattle.rules.specs.declared.Input.{Input}
-use Rattle.rules.specs.declared.Verdict.{Verdict}
+use Rattle.rules.specs.Answer.{Verdict}
 use Rattle.rules.specs.declared.Wires.{Wires}
 use Rattle.trace_rules.specs.Batch.{batch_verdict, batch_inputs}
 use Rattle.trace_rules.specs.Edition.{newest, record_bytes}
@@ -41,12 +41,12 @@ CalmLater h w n list left = drop (length (call_words h w n list)) left ≡ drop 
 -- "Reading what was written gives the same accesses and samples", and the accesses have the numbers that were lent
 abbrev pub SameInputs : Lent → List ℕ → List ℕ → Type 0
 SameInputs l out left =
-    even l ≡ true → write_verdict newest (list_of l) out ≡ Verdict.Accepted
+    even l ≡ true → write_verdict newest (list_of l) out ≡ Ok tt
     → AllSame newest (list_of l) (inputs_of newest (take (length l.kinds * record_bytes newest) left))
 
 abbrev pub SameNumbers : Lent → List ℕ → Type 0
 SameNumbers l out =
-    even l ≡ true → write_verdict newest (list_of l) out ≡ Verdict.Accepted → (i : ℕ) → i < length l.kinds
+    even l ≡ true → write_verdict newest (list_of l) out ≡ Ok tt → (i : ℕ) → i < length l.kinds
     → (kind_of (input_at l i).access ≡ get_or l.kinds i 0)
     × (register_of (input_at l i).access ≡ get_or l.registers i 0)
     × (value_of (input_at l i).access ≡ get_or l.values i 0)

@@ -6,7 +6,7 @@ use mathlib.Core.List.{List, [], ◌∷◌, ◌++◌, map, append_assoc, append-
 use native.Mathlib.Nat.{le_of_suc-le-suc, not-suc-le-zero}
 use native.Mathlib.Numerals.{add-one}
 use native.Mathlib.Omega.{arith}
-use lib.ListN.{length, get_or, set, take, drop, replicate, length-append, get_or-append, get_or-map}
+use lib.ListN.{length, get_or, set, take, drop, replicate, drop_of_length-le, length-append, get_or-append, get_or-map}
 use lib.Seq.{get_or-append-add, paste, paste-suc, take-suc, take_all, take_at, drop_at, drop-drop, length-take-le}
 use Rattle.bits.specs.Fields.{total, unpack}
 use Rattle.text.specs.HexLines.{digit_of, line_of, lines_of}
@@ -24,7 +24,7 @@ field_at_law zero b w j i e = absurd (omega arith)
 field_at_law (suc n) b w zero i e = let d : n ≡ i = omega arith in ap (λ (s : ℕ). w / 2 ^ s % 2 ^ b) (total_fields n b ∙ ap (λ (x : ℕ). x * b) d)
 field_at_law (suc n) b w (suc j) i e = field_at_law n b w j i (omega arith)
 
-length_line : (w : ℕ) → length (line_of w) ≡ 17
+pub length_line : (w : ℕ) → length (line_of w) ≡ 17
 unfolding line_of unpack
 length_line w = refl
 
@@ -49,10 +49,24 @@ pub put_digit : (d : List ℕ) (at w j : ℕ) → at + 16 ≤ length d → j < 1
 put_digit d at w j h l =
     rw (add-one, ← digit_at w j l) (paste-suc d at (line_of w) j 48 (omega arith) (omega (arith, length_line w)))
 
+-- the same where the line has its own list
+pub put_own_digit : (d : List ℕ) (w j : ℕ) → length d ≡ 17 → j < 16
+    → set (paste d 0 (line_of w) j) j (digit_of (w / 2 ^ (60 - 4 * j) % 16)) ≡ paste d 0 (line_of w) (j + 1)
+put_own_digit d w j h l =
+    let e : 0 + j ≡ j = omega arith in
+    ap (λ (k : ℕ). set (paste d 0 (line_of w) j) k (digit_of (w / 2 ^ (60 - 4 * j) % 16))) (sym e) ∙ put_digit d 0 w j (omega arith) l
+
 -- the store of the newline
 pub put_newline : (d : List ℕ) (at w : ℕ) → at + 17 ≤ length d → set (paste d at (line_of w) 16) (at + 16) 10 ≡ paste d at (line_of w) 17
 unfolding line_of unpack
 put_newline d at w h = paste-suc d at (line_of w) 16 0 (omega arith) (omega arith)
+
+-- the newline behind the digits makes the line whole
+pub own_line : (d : List ℕ) (w : ℕ) → length d ≡ 17 → set (paste d 0 (line_of w) 16) 16 10 ≡ line_of w
+own_line d w h =
+    let e : length (line_of w) ≤ 17 = omega (arith, length_line w) in
+    let n : length d ≤ 0 + 17 = omega arith in
+    put_newline d 0 w (omega arith) ∙ rw (drop_of_length-le d n, append-nil, take_all 17 (line_of w) e) refl
 
 -- ── lines ──
 

@@ -14,27 +14,26 @@ fn was_right(m: Meets, t: Turn, right: bool) -> bool
 }
 
 // The open ping is answered in this tick, whose answer is wrong or not.
+#[tactic(auto, unfolding(link_rules::specs::LinePing::answered_by_wires))]
 pub fn is_answered_by_wires(m: Meets, t: Turn, right: bool, wrong: bool) -> bool
     ensures { result ≡ answered_by_wires m t right wrong }
 {
     let age = age_of(m.pending, t.count);
-    let before = was_right(m, t, right);
-    is_open(m, t) & ((age == 4) & (before & ((age == 0) | !wrong)))
+    is_open(m, t) & ((age == 4) & (was_right(m, t, right) & ((age == 0) | !wrong)))
 }
 
 // All answers to it were right, up to this tick's.
+#[tactic(auto, unfolding(link_rules::specs::LinePing::right_after))]
 pub fn stays_right(checked: bool, m: Meets, t: Turn, right: bool, wrong: bool) -> bool
     ensures { result ≡ right_after checked m t right wrong }
 {
     let age = age_of(m.pending, t.count);
-    let before = was_right(m, t, right);
-    checked & (is_line(t) & (is_open(m, t) & (before & ((age == 0) | !wrong))))
+    checked & (is_line(t) & (is_open(m, t) & (was_right(m, t, right) & ((age == 0) | !wrong))))
 }
 
 // An escalation closes the ping of the turn's line, or keeps it from the wire: the line is on, or its pair was on in the last tick.
 pub fn is_closed(checked: bool, m: Meets, t: Turn, on: bool, last: bool) -> bool
     ensures { result ≡ (checked && (is_line t && (open_now m t && (on || (opens m t && not (opens m t && (not on && not last))))))) }
 {
-    let opening = does_open(m, t);
-    checked & (is_line(t) & (is_open(m, t) & (on | (opening & last))))
+    checked & (is_line(t) & (is_open(m, t) & (on | (does_open(m, t) & last))))
 }

@@ -1,4 +1,4 @@
-// One tick of the ping timer's turn.
+// One tick of the ping timer's turn. What is met and the turn stay two parameters: they are types of the rules, each with definitions of the two.
 ghost use Rattle.std.specs.Prelude.{◌≡◌, cond, ◌+◌, ◌-◌, ◌%◌, ltb};
 ghost use Rattle.link_rules.specs.Timer.{is_line, is_due, opens, open_now, fails, ends, drawn, next_turn, goes_on, turned};
 
@@ -19,6 +19,7 @@ pub fn is_due(m: Meets, t: Turn) -> bool
 }
 
 // It opens in this tick.
+#[tactic(auto, unfolding(link_rules::specs::Timer::opens))]
 pub fn does_open(m: Meets, t: Turn) -> bool
     ensures { result ≡ opens m t }
 {
@@ -26,6 +27,7 @@ pub fn does_open(m: Meets, t: Turn) -> bool
 }
 
 // It is open in this tick, up to its answer.
+#[tactic(auto, unfolding(link_rules::specs::Timer::open_now))]
 pub fn is_open(m: Meets, t: Turn) -> bool
     ensures { result ≡ open_now m t }
 {
@@ -36,28 +38,25 @@ pub fn is_open(m: Meets, t: Turn) -> bool
 pub fn age_of(pending: bool, count: u16) -> u16
     ensures { result ≡ cond pending (cond (ltb count 65535) (count + 1) 65535) 0 }
 {
-    if pending {
-        if count < 65535 { count + 1 } else { 65535 }
-    } else {
-        0
-    }
+    if pending { count.saturating_add(1) } else { 0 }
 }
 
 // It fails in this tick.
+#[tactic(auto, unfolding(link_rules::specs::Timer::fails))]
 pub fn does_fail(m: Meets, t: Turn) -> bool
     ensures { result ≡ fails m t }
 {
-    let a = age_of(m.pending, t.count);
-    is_open(m, t) & (!m.answered & ((0 < m.timeout) & (m.timeout <= a as u32)))
+    let age = age_of(m.pending, t.count) as u32;
+    is_open(m, t) & (!m.answered & ((0 < m.timeout) & (m.timeout <= age)))
 }
 
 // The turn ends in this tick.
+#[tactic(auto, unfolding(link_rules::specs::Timer::ends))]
 pub fn does_end(m: Meets, t: Turn) -> bool
     ensures { result ≡ ends m t }
 {
-    let due = is_due(m, t);
-    let opening = does_open(m, t);
-    (due & !opening) | (is_open(m, t) & (m.answered | (does_fail(m, t) | m.closed)))
+    (is_due(m, t) & !does_open(m, t))
+        | (is_open(m, t) & (m.answered | (does_fail(m, t) | m.closed)))
 }
 
 // The turn that a word sets.
@@ -65,7 +64,7 @@ pub fn draw(number: u8, word: u32) -> Turn
     ensures { result ≡ drawn number word }
 {
     Turn {
-        number: number,
+        number,
         alert: (word / 65536 % 256) as u8,
         count: (word % 65536) as u16,
     }
@@ -84,10 +83,8 @@ pub fn next_count(opened: bool, pending: bool, count: u16) -> u16
 {
     if opened {
         age_of(pending, count)
-    } else if 0 < count {
-        count - 1
     } else {
-        0
+        count.saturating_sub(1)
     }
 }
 
@@ -95,11 +92,9 @@ pub fn next_count(opened: bool, pending: bool, count: u16) -> u16
 pub fn go_on(m: Meets, t: Turn) -> Turn
     ensures { result ≡ goes_on m t }
 {
-    let opened = is_open(m, t);
     Turn {
-        number: t.number,
-        alert: t.alert,
-        count: next_count(opened, m.pending, t.count),
+        count: next_count(is_open(m, t), m.pending, t.count),
+        ..t
     }
 }
 
@@ -108,14 +103,14 @@ pub fn run_on(m: Meets, t: Turn) -> Turn
     ensures { result ≡ cond (ends m t) (next_turn t m.word) (goes_on m t) }
 {
     if does_end(m, t) {
-        let number = next_number(t.number);
-        draw(number, m.word)
+        draw(next_number(t.number), m.word)
     } else {
         go_on(m, t)
     }
 }
 
 // The turn after the tick.
+#[tactic(auto, unfolding(link_rules::specs::Timer::turned))]
 pub fn turn(m: Meets, t: Turn) -> Turn
     ensures { result ≡ turned m t }
 {

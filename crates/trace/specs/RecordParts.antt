@@ -1,6 +1,6 @@
 -- The parts of a record that the code reads one after another.
 -- Assumes nothing.
-use Rattle.std.specs.Prelude.{ℕ, ◌+◌, ◌/◌, List, [], ◌∷◌, get_or, take, drop}
+use Rattle.std.specs.Prelude.{ℕ, ◌+◌, ◌-◌, ◌/◌, ◌%◌, ◌^◌, List, [], ◌∷◌, get_or, take, drop}
 use Rattle.bits.specs.Fields.{total, unpack, of_bytes}
 use Rattle.trace_rules.specs.Edition.{alerts, tail}
 use Rattle.rules.specs.declared.Wires.{Wires}
@@ -21,7 +21,11 @@ wires_from n m at xs = record { pos = wire_words n (of_bytes (take m (drop at xs
 abbrev pub tail_bytes : Edition → ℕ
 tail_bytes e = total (tail e) / 8
 
--- the head in a record's first 64 bits: kind, register, zero bits, value; and its fields
+-- the head in a record's first 64 bits, where the register field begins at bit at: kind, register, zero bits, value
+abbrev pub head_at : ℕ → ℕ → Head
+head_at at first = record { kind = first / 2 ^ 62; register = first / 2 ^ at % 2 ^ (62 - at); zeros = first / 2 ^ 32 % 2 ^ (at - 32); value = first % 2 ^ 32 }
+
+-- the same by the edition's layout; and its fields
 abbrev pub head_of : Edition → ℕ → Head
 head_of e first =
     let fs = unpack (head e) first in

@@ -10,9 +10,10 @@ use borrow.Author.Tests.{not-true, eq-eqb, le-leb, le-ltb}
 use lib.Dec.{leb}
 use lib.ListN.{length, get_or, take, drop, length-append, length-drop, length-map, get_or-append}
 use lib.Seq.{take-append-le, drop-append-le, drop-append-add, get_or-append-add, take_at, drop_at, drop-drop}
+use Rattle.std.specs.Prelude.{Ok, Err}
 use Rattle.bits.proofs.IndexLaws.{and-true, true_and, at_each, length_each, is_each}
 use Rattle.bits.specs.Index.{each}
-use Rattle.rules.specs.Answer.{first_of, number}
+use Rattle.rules.specs.Answer.{first_of, number, Verdict}
 use Rattle.trace_rules.specs.Batch.{Batched, admits, batch, batch_of, batch_inputs, batch_verdict}
 use Rattle.trace_rules.specs.Edition.{newest, record_bytes, alerts, has_timer}
 use Rattle.trace_rules.specs.Record.{input_of, inputs_of, record_at, record_count}
@@ -25,7 +26,6 @@ use Rattle.rules.specs.declared.Handler.{Handler}
 use Rattle.rules.specs.declared.Input.{Input}
 use Rattle.rules.specs.declared.Refusal.{Refusal}
 use Rattle.rules.specs.declared.Refusal.TheVariants.{BadState}
-use Rattle.rules.specs.declared.Verdict.{Verdict}
 use Rattle.trace_rules.specs.Word.{word_of}
 use Rattle.trace_laws.specs.Batches.{of_ticks, behind, followed}
 use Rattle.laws.specs.Above.{SameAbove}
@@ -82,13 +82,13 @@ batch_above e h bytes out = run_above h (batch_inputs e (batch_verdict e h bytes
 -- ── a refused batch ──
 
 -- it leaves the state and the list as they were
-pub batch_refused : (e : Edition) (h : Handler) (bytes out : List ℕ) (m : Refusal) → batch_verdict e h bytes out ≡ Verdict.Refused m
+pub batch_refused : (e : Edition) (h : Handler) (bytes out : List ℕ) (m : Refusal) → batch_verdict e h bytes out ≡ Err m
     → batch e h bytes out ≡ record { handler = h; answer = number (Answer.Refused m); out = out }
 unfolding batch batch_of run ticks
 batch_refused e h bytes out m r = ap (λ (v : Verdict). batch_of e v h bytes out) r
 
 -- request (ix): "an older batch answers 7 where the timer is on", before 8 and 9
-pub older_refused : (e : Edition) (h : Handler) (bytes out : List ℕ) → has_timer e ≡ false → is_on h ≡ true → batch_verdict e h bytes out ≡ Verdict.Refused BadState
+pub older_refused : (e : Edition) (h : Handler) (bytes out : List ℕ) → has_timer e ≡ false → is_on h ≡ true → batch_verdict e h bytes out ≡ Err BadState
 unfolding batch_verdict first_of admits
 older_refused e h bytes out o t = rw (o, t, and-false (leb h.n (alerts e)), and-false (valid h))
 
@@ -98,8 +98,8 @@ unfolding batch batch_of run
 older_batch e h bytes out o = go (is_on h) refl
   where
     by : (v : Verdict) → is_on h ≡ false → is_on (run h (batch_inputs e v bytes)) ≡ is_on h
-    by Verdict.Accepted t = older_off e o h bytes t ∙ sym t
-    by (Verdict.Refused m) t = refl
+    by (Ok tt) t = older_off e o h bytes t ∙ sym t
+    by (Err m) t = refl
 
     go : (b : Bool) → is_on h ≡ b → is_on (batch e h bytes out).handler ≡ is_on h
     go true t = ap (λ (s : Batched). is_on s.handler) (batch_refused e h bytes out BadState (older_refused e h bytes out o t))
@@ -108,7 +108,7 @@ older_batch e h bytes out o = go (is_on h) refl
 -- ── any other ──
 
 module _ (e : Edition) (h : Handler) (bytes out : List ℕ) where
-  verdict_good : admits e h ≡ true → length bytes % record_bytes e ≡ 0 → record_count e bytes ≤ length out → batch_verdict e h bytes out ≡ Verdict.Accepted
+  verdict_good : admits e h ≡ true → length bytes % record_bytes e ≡ 0 → record_count e bytes ≤ length out → batch_verdict e h bytes out ≡ Ok tt
   unfolding batch_verdict first_of
   verdict_good v w r = rw (v, eq-eqb (length bytes % record_bytes e) 0 w, le-ltb (length out) (record_count e bytes) r)
 

@@ -12,9 +12,10 @@ use lib.Dec.{ltb}
 use lib.IntN.{pos}
 use lib.ListN.{length, take, drop, length-append}
 use lib.Seq.{take_at}
+use Rattle.std.specs.Prelude.{Ok, Err}
 use Rattle.bits.proofs.IndexLaws.{length_each}
 use Rattle.bits.specs.Index.{each, each_from}
-use Rattle.rules.specs.Answer.{first_of, number}
+use Rattle.rules.specs.Answer.{first_of, number, Verdict}
 use Rattle.trace_rules.specs.Edition.{newest, record_bytes}
 use Rattle.trace_rules.specs.Record.{carried, held_in, input_of, record_of, recordable, inputs_of, record_at, record_count}
 use Rattle.trace_rules.specs.Writer.{WellFormed, Wired, AllWired, none, one, AllSame, no_more, and, records_of, any_unrecordable, write_cases, write_verdict, write_of, write}
@@ -25,7 +26,6 @@ use Rattle.trace_rules.specs.declared.Edition.{Edition}
 use Rattle.rules.specs.declared.Input.{Input}
 use Rattle.rules.specs.declared.Refusal.{Refusal}
 use Rattle.rules.specs.declared.Refusal.TheVariants.{NoRecord, ShortBuffer}
-use Rattle.rules.specs.declared.Verdict.{Verdict}
 use Rattle.trace_laws.proofs.RecordLaws.{record_length, input_record, record_input}
 use Rattle.trace_laws.proofs.Recordable.{read_recordable, record_formed}
 use Rattle.laws.proofs.Access.Refusals.{first_accepts}
@@ -50,44 +50,44 @@ records_append e (x ∷ xs) ys =
 
 -- ── what writing gives ──
 
-pub write_refused : (e : Edition) (xs : List Input) (buffer : List ℕ) (m : Refusal) → write_verdict e xs buffer ≡ Verdict.Refused m
+pub write_refused : (e : Edition) (xs : List Input) (buffer : List ℕ) (m : Refusal) → write_verdict e xs buffer ≡ Err m
     → write e xs buffer ≡ record { answer = number (Answer.Refused m); buffer = buffer }
 unfolding write write_of
 write_refused e xs buffer m r = ap (λ (v : Verdict). write_of e v xs buffer) r
 
-pub write_accepted : (e : Edition) (xs : List Input) (buffer : List ℕ) → write_verdict e xs buffer ≡ Verdict.Accepted
+pub write_accepted : (e : Edition) (xs : List Input) (buffer : List ℕ) → write_verdict e xs buffer ≡ Ok tt
     → (write e xs buffer).buffer ≡ records_of e xs ++ drop (length xs * record_bytes e) buffer
 unfolding write write_of
 write_accepted e xs buffer a = ap (λ (v : Verdict). (write_of e v xs buffer).buffer) a
 
-pub write_answer : (e : Edition) (xs : List Input) (buffer : List ℕ) → write_verdict e xs buffer ≡ Verdict.Accepted → (write e xs buffer).answer ≡ pos (length xs * record_bytes e)
+pub write_answer : (e : Edition) (xs : List Input) (buffer : List ℕ) → write_verdict e xs buffer ≡ Ok tt → (write e xs buffer).answer ≡ pos (length xs * record_bytes e)
 unfolding write write_of
 write_answer e xs buffer a = ap (λ (v : Verdict). (write_of e v xs buffer).answer) a
 
 -- 10 is given exactly where an access is not recordable
-pub ten_is : (e : Edition) (xs : List Input) (buffer : List ℕ) → (write_verdict e xs buffer ≡ Verdict.Refused NoRecord) ↔ (any_unrecordable e xs ≡ true)
+pub ten_is : (e : Edition) (xs : List Input) (buffer : List ℕ) → (write_verdict e xs buffer ≡ Err NoRecord) ↔ (any_unrecordable e xs ≡ true)
 unfolding write_verdict first_of
 ten_is e xs buffer = go (any_unrecordable e xs) (ltb (length buffer) (length xs * record_bytes e))
   where
-    go : (a b : Bool) → (cond a (Verdict.Refused NoRecord) (cond b (Verdict.Refused ShortBuffer) Verdict.Accepted) ≡ Verdict.Refused NoRecord) ↔ (a ≡ true)
+    go : (a b : Bool) → (◌≡◌ {A = Verdict} (cond a (Err NoRecord) (cond b (Err ShortBuffer) (Ok tt))) (Err NoRecord)) ↔ (a ≡ true)
     go true b = (λ e. refl, λ e. refl)
     go false true = (λ e. let z : ◌≡◌ {A = ℕ} 0 1 = cc in absurd (omega arith), λ e. absurd (false≢true e))
     go false false = (λ e. let z : ◌≡◌ {A = ℕ} 0 1 = cc in absurd (omega arith), λ e. absurd (false≢true e))
 
 -- and 11 exactly where all are and the buffer is too short
 pub eleven_is : (e : Edition) (xs : List Input) (buffer : List ℕ)
-    → (write_verdict e xs buffer ≡ Verdict.Refused ShortBuffer) ↔ ((any_unrecordable e xs ≡ false) × (ltb (length buffer) (length xs * record_bytes e) ≡ true))
+    → (write_verdict e xs buffer ≡ Err ShortBuffer) ↔ ((any_unrecordable e xs ≡ false) × (ltb (length buffer) (length xs * record_bytes e) ≡ true))
 unfolding write_verdict first_of
 eleven_is e xs buffer = go (any_unrecordable e xs) (ltb (length buffer) (length xs * record_bytes e))
   where
     go : (a b : Bool)
-        → (cond a (Verdict.Refused NoRecord) (cond b (Verdict.Refused ShortBuffer) Verdict.Accepted) ≡ Verdict.Refused ShortBuffer) ↔ ((a ≡ false) × (b ≡ true))
+        → (◌≡◌ {A = Verdict} (cond a (Err NoRecord) (cond b (Err ShortBuffer) (Ok tt))) (Err ShortBuffer)) ↔ ((a ≡ false) × (b ≡ true))
     go true b = (λ e. let z : ◌≡◌ {A = ℕ} 0 1 = cc in absurd (omega arith), λ e. absurd (false≢true (sym e.0)))
     go false true = (λ e. (refl, refl), λ e. refl)
     go false false = (λ e. let z : ◌≡◌ {A = ℕ} 0 1 = cc in absurd (omega arith), λ e. absurd (false≢true e.1))
 
 -- accepted: every access is recordable
-pub accepted_recordable : (e : Edition) (xs : List Input) (buffer : List ℕ) → write_verdict e xs buffer ≡ Verdict.Accepted → any_unrecordable e xs ≡ false
+pub accepted_recordable : (e : Edition) (xs : List Input) (buffer : List ℕ) → write_verdict e xs buffer ≡ Ok tt → any_unrecordable e xs ≡ false
 unfolding write_verdict
 accepted_recordable e xs buffer a = (first_accepts (write_cases e xs buffer) (record { refusal = NoRecord; holds = false })).0 a 0 (omega arith)
 
@@ -136,7 +136,7 @@ written_formed (x ∷ xs) (one v w) e =
     let p = or-false (not (recordable newest x.access)) (any_unrecordable newest xs) e in
     well_formed_append newest (record_of newest x) (records_of newest xs) (record_formed newest x v (not-false (recordable newest x.access) p.0)) (written_formed xs w p.1)
 
-read_shown : (xs : List Input) (buffer : List ℕ) → AllWired xs → write_verdict newest xs buffer ≡ Verdict.Accepted
+read_shown : (xs : List Input) (buffer : List ℕ) → AllWired xs → write_verdict newest xs buffer ≡ Ok tt
     → inputs_of newest (take (length xs * record_bytes newest) (write newest xs buffer).buffer) ≡ map (shown newest) xs
 read_shown xs buffer w e =
     ap (λ (bs : List ℕ). inputs_of newest (take (length xs * record_bytes newest) bs)) (write_accepted newest xs buffer e)
@@ -147,7 +147,7 @@ all_same : (xs : List Input) → AllWired xs → AllSame newest xs (map (shown n
 all_same [] w = no_more
 all_same (x ∷ xs) (one v w) = and (same_shown newest x v) (all_same xs w)
 
-pub read_written : (xs : List Input) (buffer : List ℕ) → AllWired xs → write_verdict newest xs buffer ≡ Verdict.Accepted
+pub read_written : (xs : List Input) (buffer : List ℕ) → AllWired xs → write_verdict newest xs buffer ≡ Ok tt
     → AllSame newest xs (inputs_of newest (take (length xs * record_bytes newest) (write newest xs buffer).buffer))
 read_written xs buffer w e =
     subst (AllSame newest xs) (sym (read_shown xs buffer w e)) (all_same xs w)
@@ -166,7 +166,7 @@ read_all_recordable =
     by_records newest (λ bytes. any_unrecordable newest (inputs_of newest bytes) ≡ false) (ap (any_unrecordable newest) (inputs_none newest))
     (λ r rest n w e. ap (any_unrecordable newest) (inputs_cons newest r rest n) ∙ ap₂ (λ (a b : Bool). not a || b) (ap (λ (x : Input). recordable newest x.access) (own_numbers r) ∙ read_recordable newest r (formed_one newest r n w)) e)
 
-pub well_formed_accepted : (bytes buffer : List ℕ) → WellFormed newest bytes → length bytes ≤ length buffer → write_verdict newest (inputs_of newest bytes) buffer ≡ Verdict.Accepted
+pub well_formed_accepted : (bytes buffer : List ℕ) → WellFormed newest bytes → length bytes ≤ length buffer → write_verdict newest (inputs_of newest bytes) buffer ≡ Ok tt
 unfolding write_verdict first_of inputs_of
 well_formed_accepted bytes buffer w l =
     let n : length (inputs_of newest bytes) ≡ record_count newest bytes = length_each (record_count newest bytes) (λ i. input_of newest (record_at newest bytes i)) in

@@ -1,7 +1,7 @@
 -- "Traces": a batch fills a lent list of 64-bit words, one per record. Its refusals are of "Numbers that come back".
 -- Assumes nothing.
-use Rattle.std.specs.Prelude.{ℕ, ◌%◌, Bool, not, ◌&&◌, ◌||◌, List, [], ◌∷◌, ◌++◌, map, eqb, leb, ltb, ℤ, length, drop}
-use Rattle.rules.specs.Answer.{Case, first_of, number}
+use Rattle.std.specs.Prelude.{ℕ, ◌%◌, Bool, not, ◌&&◌, ◌||◌, List, [], ◌∷◌, ◌++◌, map, eqb, leb, ltb, ℤ, length, drop, Ok, Err}
+use Rattle.rules.specs.Answer.{Case, first_of, number, Verdict}
 use Rattle.trace_rules.specs.Edition.{record_bytes, alerts, has_timer}
 use Rattle.trace_rules.specs.Record.{record_count, inputs_of}
 use Rattle.rules.specs.Run.{run, ticks}
@@ -13,7 +13,6 @@ use Rattle.trace_rules.specs.declared.Edition.{Edition}
 use Rattle.rules.specs.declared.Handler.{Handler}
 use Rattle.rules.specs.declared.Input.{Input}
 use Rattle.rules.specs.declared.Refusal.TheVariants.{BadState, BadLength, ShortList}
-use Rattle.rules.specs.declared.Verdict.{Verdict}
 
 -- a state that the ticks of an edition's batch may start from; request (iii): "an old batch answers 7 to a handler of more than 64 alerts";
 -- request (ix): "an older batch answers 7 where the timer is on"
@@ -33,13 +32,13 @@ batch_verdict e h bytes out = first_of (batch_cases e h bytes out)
 
 -- the ticks of a batch: those of its records, and none if it is refused
 abbrev pub batch_inputs : Edition → Verdict → List ℕ → List Input
-batch_inputs e Verdict.Accepted bytes = inputs_of e bytes
-batch_inputs e (Verdict.Refused m) bytes = []
+batch_inputs e (Ok tt) bytes = inputs_of e bytes
+batch_inputs e (Err m) bytes = []
 
 -- a batch that isn't refused answers 0
 abbrev pub batch_answer : Verdict → ℤ
-batch_answer Verdict.Accepted = number Answer.Done
-batch_answer (Verdict.Refused m) = number (Answer.Refused m)
+batch_answer (Ok tt) = number Answer.Done
+batch_answer (Err m) = number (Answer.Refused m)
 
 -- what a batch gives: the answer, the state, and the lent list, of which later words stay as they were
 pub record Batched : Type 0 where

@@ -1,10 +1,10 @@
 -- Request (ii): a trace writer for a list of accesses and samples, with a record for each, into a lent buffer.
 -- Assumes nothing.
-use Rattle.std.specs.Prelude.{ℕ, ◌*◌, ◌%◌, ◌^◌, ◌<◌, ◌≡◌, Bool, false, cond, not, ◌||◌, List, [], ◌∷◌, ◌++◌, ltb, ℤ, pos, get_or, length, drop, replicate}
+use Rattle.std.specs.Prelude.{ℕ, ◌*◌, ◌%◌, ◌^◌, ◌<◌, ◌≡◌, Bool, false, cond, not, ◌||◌, List, [], ◌∷◌, ◌++◌, ltb, ℤ, pos, get_or, length, drop, replicate, Ok, Err}
 use Rattle.bits.specs.Bits.{bits_of}
 use Rattle.bits.specs.Fields.{Fit}
 use Rattle.bits.specs.Index.{place_in}
-use Rattle.rules.specs.Answer.{Case, first_of, number}
+use Rattle.rules.specs.Answer.{Case, first_of, number, Verdict}
 use Rattle.rules.specs.Access.{malformed}
 use Rattle.trace_rules.specs.Edition.{record_bytes, alerts, has_timer}
 use Rattle.trace_rules.specs.Record.{held_in, record_of, recordable, record_count, record_at}
@@ -18,7 +18,6 @@ use Rattle.rules.specs.declared.Input.{Input}
 use Rattle.rules.specs.declared.Receive.{Receive}
 use Rattle.rules.specs.declared.Receive.TheVariants.{Pairs, Answers}
 use Rattle.rules.specs.declared.Refusal.TheVariants.{NoRecord, ShortBuffer}
-use Rattle.rules.specs.declared.Verdict.{Verdict}
 
 -- a record for each
 unfoldable pub records_of : Edition → List Input → List ℕ
@@ -47,12 +46,12 @@ pub record Written : Type 0 where
 
 -- success answers the bytes written, and later bytes stay; refused, the lent buffer keeps its bytes
 unfoldable pub write_of : Edition → Verdict → List Input → List ℕ → Written
-write_of e Verdict.Accepted xs buffer =
+write_of e (Ok tt) xs buffer =
     record {
       answer = pos (length xs * record_bytes e);
       buffer = records_of e xs ++ drop (length xs * record_bytes e) buffer;
     }
-write_of e (Verdict.Refused m) xs buffer = record { answer = number (Answer.Refused m); buffer = buffer }
+write_of e (Err m) xs buffer = record { answer = number (Answer.Refused m); buffer = buffer }
 
 unfoldable pub write : Edition → List Input → List ℕ → Written
 write e xs buffer = write_of e (write_verdict e xs buffer) xs buffer

@@ -13,8 +13,9 @@ use lib.Dec.{leb}
 use lib.IntN.{pos, neg_ℤ}
 use lib.ListN.{get_or, length, take, drop, length-append, length-drop, length-map, get_or-append}
 use lib.Seq.{take_all, get_or-append-add, get_or-drop}
+use Rattle.std.specs.Prelude.{Err}
 use Rattle.bits.proofs.IndexLaws.{at_each, length_each, true_and}
-use Rattle.rules.specs.Answer.{first_of, number}
+use Rattle.rules.specs.Answer.{first_of, number, Verdict}
 use Rattle.trace_rules.specs.Batch.{Batched, admits, batch, batch_verdict}
 use Rattle.trace_rules.specs.Edition.{record_bytes, alerts, has_timer}
 use Rattle.trace_rules.specs.Record.{input_of, inputs_of, record_at, record_count}
@@ -30,7 +31,6 @@ use Rattle.rules.specs.declared.Handler.{Handler}
 use Rattle.rules.specs.declared.Input.{Input}
 use Rattle.rules.specs.declared.Refusal.{Refusal}
 use Rattle.rules.specs.declared.Refusal.TheVariants.{BadState, BadLength, ShortList}
-use Rattle.rules.specs.declared.Verdict.{Verdict}
 use Rattle.trace_laws.proofs.BatchLaws.{batch_refused, batch_good}
 use Rattle.laws.proofs.Tick.Runs.{run_next, ticks_at, length_ticks}
 use Rattle.sentences.specs.Valid.{Valid}
@@ -127,19 +127,19 @@ module _ (e : Edition) (h : Handler) (bytes out : List ℕ) where
       go (yes z) = z
       go (no g) = absurd (f g)
 
-  seven : Seven → batch_verdict e h bytes out ≡ Verdict.Refused BadState
+  seven : Seven → batch_verdict e h bytes out ≡ Err BadState
   unfolding batch_verdict first_of
   seven s = rw (not_admitted s)
 
-  eight : ¬ Seven → Eight → batch_verdict e h bytes out ≡ Verdict.Refused BadLength
+  eight : ¬ Seven → Eight → batch_verdict e h bytes out ≡ Err BadLength
   unfolding batch_verdict first_of
   eight f s = rw (admitted f, ne_eqb (length bytes % record_bytes e) 0 s)
 
-  nine : ¬ Seven → ¬ Eight → Nine → batch_verdict e h bytes out ≡ Verdict.Refused ShortList
+  nine : ¬ Seven → ¬ Eight → Nine → batch_verdict e h bytes out ≡ Err ShortList
   unfolding batch_verdict first_of
   nine f g s = rw (admitted f, eq-eqb (length bytes % record_bytes e) 0 (whole g), lt-ltb (length out) (record_count e bytes) s)
 
-  refuses : (m : Refusal) (n : ℕ) → number (Answer.Refused m) ≡ neg_ℤ (pos n) → batch_verdict e h bytes out ≡ Verdict.Refused m
+  refuses : (m : Refusal) (n : ℕ) → number (Answer.Refused m) ≡ neg_ℤ (pos n) → batch_verdict e h bytes out ≡ Err m
       → Refuses n h out (batch e h bytes out).handler (batch e h bytes out).answer (batch e h bytes out).out
   refuses m n z v =
       let b = batch_refused e h bytes out m v in

@@ -12,13 +12,14 @@ use lib.IntN.{ℤ, pos, neg_ℤ}
 use lib.ListN.{get_or, length, take, drop, replicate, length-append, length-drop}
 use lib.Seq.{take_at, drop-append-add, get_or-append-add, get_or-drop}
 use lib.Pow.{pow_pos}
+use Rattle.std.specs.Prelude.{Ok, Err}
 use Rattle.bits.specs.Bits.{bit, bits_of}
 use Rattle.bits.specs.Fields.{Fit, none, one}
 use Rattle.bits.specs.Index.{place_in}
 use Rattle.bits.proofs.BitLaws.{bit_bits_of}
 use Rattle.bits.proofs.FieldLaws.{unpack_fits}
 use Rattle.rules.specs.Access.{malformed}
-use Rattle.rules.specs.Answer.{first_of, number}
+use Rattle.rules.specs.Answer.{first_of, number, Verdict}
 use Rattle.rules.specs.Samples.{receive_positive, receive_negative}
 use Rattle.trace_rules.specs.Edition.{newest}
 use Rattle.trace_rules.specs.Record.{input_of, held_in, record_of, recordable, wire_words}
@@ -31,7 +32,6 @@ use Rattle.rules.specs.declared.Input.{Input}
 use Rattle.rules.specs.declared.Receive.{Receive}
 use Rattle.rules.specs.declared.Refusal.{Refusal}
 use Rattle.rules.specs.declared.Refusal.TheVariants.{NoRecord, ShortBuffer}
-use Rattle.rules.specs.declared.Verdict.{Verdict}
 use Rattle.trace_laws.specs.Wires.{shown}
 use Rattle.trace_laws.proofs.RecordLaws.{record_length, record_byte, input_record}
 use Rattle.trace_laws.proofs.Recordable.{read_recordable}
@@ -198,21 +198,21 @@ module _ where
 -- ── the writer ──
 
 module _ (xs : List Input) (buffer : List ℕ) where
-  refuses : (m : Refusal) (n : ℕ) → number (Answer.Refused m) ≡ neg_ℤ (pos n) → write_verdict newest xs buffer ≡ Verdict.Refused m
+  refuses : (m : Refusal) (n : ℕ) → number (Answer.Refused m) ≡ neg_ℤ (pos n) → write_verdict newest xs buffer ≡ Err m
       → Refuses n buffer (write newest xs buffer).answer (write newest xs buffer).buffer
   refuses m n z v =
       let b = write_refused newest xs buffer m v in
       record { answer = ap (λ (s : Written). s.answer) b ∙ z; bytes = ap (λ (s : Written). s.buffer) b }
 
-  verdict_10 : Case10 xs → write_verdict newest xs buffer ≡ Verdict.Refused NoRecord
+  verdict_10 : Case10 xs → write_verdict newest xs buffer ≡ Err NoRecord
   unfolding write_verdict first_of
   verdict_10 c = rw (is_ten xs c)
 
-  verdict_11 : ¬ Case10 xs → Case11 xs buffer → write_verdict newest xs buffer ≡ Verdict.Refused ShortBuffer
+  verdict_11 : ¬ Case10 xs → Case11 xs buffer → write_verdict newest xs buffer ≡ Err ShortBuffer
   unfolding write_verdict first_of
   verdict_11 f c = rw (none_ten xs f, lt-ltb (length buffer) (length xs * 75) c)
 
-  accepted : ¬ Case10 xs → ¬ Case11 xs buffer → write_verdict newest xs buffer ≡ Verdict.Accepted
+  accepted : ¬ Case10 xs → ¬ Case11 xs buffer → write_verdict newest xs buffer ≡ Ok tt
   unfolding write_verdict first_of
   accepted f g = let l : length xs * 75 ≤ length buffer = omega arith in rw (none_ten xs f, le-ltb (length buffer) (length xs * 75) l)
 

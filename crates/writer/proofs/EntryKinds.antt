@@ -4,7 +4,7 @@ use Prim.Native.Nat.{ℕ, zero, suc, ◌+◌, ◌*◌, ◌^◌, ◌≤◌, ◌<�
 use mathlib.Core.Path.{◌≡◌, refl, sym, ap, ◌∙◌}
 use mathlib.Core.Bool.{Bool, true, false, false≢true, cond, ◌&&◌}
 use native.Mathlib.Omega.{arith}
-use borrow.Author.Tests.{eqb-true, ltb-true, lt-ltb}
+use borrow.Author.Tests.{eqb-true, ltb-true}
 use lib.Dec.{eqb}
 use Rattle.bits.specs.Bits.{fits}
 use Rattle.bits.specs.Fields.{pack}
@@ -16,7 +16,7 @@ use Rattle.trace_laws.proofs.RecordLaws.{kind_over}
 use Rattle.writer.specs.EntryParts.{access_word}
 
 -- kind 0: neither register nor value
-pub none_recordable : (r v : ℕ) → recordable newest (access_of 0 r v) ≡ (eqb r 0 && eqb v 0)
+none_recordable : (r v : ℕ) → recordable newest (access_of 0 r v) ≡ (eqb r 0 && eqb v 0)
 unfolding recordable access_of
 none_recordable r v = go (eqb r 0 && eqb v 0)
   where
@@ -31,7 +31,7 @@ and_comm false true = refl
 and_comm false false = refl
 
 -- kind 1: no value
-pub read_recordable : (r v : ℕ) → recordable newest (access_of 1 r v) ≡ (fits (register_bits newest) r && eqb v 0)
+read_recordable : (r v : ℕ) → recordable newest (access_of 1 r v) ≡ (fits (register_bits newest) r && eqb v 0)
 unfolding recordable access_of
 read_recordable r v = go (eqb v 0) ∙ and_comm (eqb v 0) (fits (register_bits newest) r)
   where
@@ -39,13 +39,8 @@ read_recordable r v = go (eqb v 0) ∙ and_comm (eqb v 0) (fits (register_bits n
     go true = refl
     go false = refl
 
--- kind 2
-pub write_recordable : (r v : ℕ) → v < 2 ^ value_bits → recordable newest (access_of 2 r v) ≡ fits (register_bits newest) r
-unfolding recordable access_of
-write_recordable r v h = rw (lt-ltb v (2 ^ value_bits) h) (and_comm (fits (register_bits newest) r) true)
-
 -- no other kind
-pub other_recordable : (k r v : ℕ) → 3 ≤ k → recordable newest (access_of k r v) ≡ false
+other_recordable : (k r v : ℕ) → 3 ≤ k → recordable newest (access_of k r v) ≡ false
 unfolding recordable
 other_recordable k r v h = ap (recordable newest) (kind_over k r v h)
 

@@ -32,11 +32,10 @@ any_from b (suc n) f =
     ∙ sym (any_first (λ i. g (b + i)) n)
 
 module _ (l : Lent) where
-  pub any_in_list : any_unrecordable newest (list_of l) ≡ any_to (unrecordable_at l.kinds l.registers l.values) (length l.kinds)
+  pub any_in_list : any_unrecordable newest (list_of l) ≡ any_to (unrecordable_at l) (length l.kinds)
   unfolding list_of
   any_in_list =
-      let n = length l.kinds in
-      any_from 0 n (input_at l) ∙ any_ext _ (unrecordable_at l.kinds l.registers l.values) n (λ i h. ap (unrecordable_at l.kinds l.registers l.values) (zero-add i))
+      any_from 0 (length l.kinds) (input_at l) ∙ any_ext _ (unrecordable_at l) (length l.kinds) (λ i h. ap (unrecordable_at l) (zero-add i))
 
   -- ── the records of all entries ──
 

@@ -1,13 +1,16 @@
--- Runs of stores: the bytes of a number, of its halves, of words, and of a record.
+-- Runs of stores: the bytes of a number, of words, and of a record.
 -- Assumes nothing.
-use Prim.Native.Nat.{ℕ, zero, suc, ◌+◌, ◌*◌, ◌/◌, ◌%◌, ◌^◌, ◌<◌}
+use Prim.Native.Nat.{ℕ, zero, suc, ◌+◌, ◌*◌, ◌/◌, ◌%◌, ◌^◌, ◌≤◌, ◌<◌}
 use mathlib.Core.Path.{◌≡◌, refl, sym, ap, ap₂, subst, ◌∙◌}
 use mathlib.Core.List.{List, [], ◌∷◌, ◌++◌}
 use native.Mathlib.Nat.{add-zero, add-suc, suc-add, zero-add, mul-add-div_right}
 use native.Mathlib.Omega.{arith}
-use lib.ListN.{length, replicate, set, length-replicate, replicate-append-replicate}
+use lib.ListN.{length, replicate, set, take, drop, length-replicate, replicate-append-replicate}
 use lib.Pow.{pow_pos}
-use lib.Seq.{sets}
+use lib.Seq.{sets, sets-eq, take_all}
+use borrow.Rule.Slice.PartMut.{put_mid}
+use Rattle.std.specs.Int.{bytes_high_first}
+use Rattle.std.proofs.lemmas.Slice.{put_mid-paste}
 use Rattle.bits.specs.Fields.{total, pack, unpack, to_bytes, Fit, none, one}
 use Rattle.bits.specs.Index.{each, each_from}
 use Rattle.bits.proofs.ByteLaws.{length_bytes}
@@ -29,31 +32,35 @@ sets_append l i [] ys = ap (λ (n : ℕ). sets l n ys) (add-zero i)
 sets_append l i (x ∷ xs) ys =
     ap (λ (n : ℕ). sets (sets l i (x ∷ xs)) n ys) (add-suc i (length xs) ∙ sym (suc-add i (length xs))) ∙ sets_append (set l i x) (suc i) xs ys
 
--- ── four bytes ──
+-- ── the bytes of a number ──
 
-pub put_bytes : (l : List ℕ) (i x : ℕ)
-    → set (set (set (set l i (x / 2 ^ 24 % 2 ^ 8)) (i + 1) (x / 2 ^ 16 % 2 ^ 8)) (i + 2) (x / 2 ^ 8 % 2 ^ 8)) (i + 3) (x % 2 ^ 8) ≡ sets l i (to_bytes 4 x)
+-- a part of k entries written over
+pub put_part : (l ys zs : List ℕ) (at k : ℕ) → ys ≡ zs → length zs ≡ k → at + length zs ≤ length l → put_mid at k l ys ≡ sets l at zs
+put_part l ys zs at k e p h =
+    put_mid-paste at k l ys zs (length zs) e p refl
+    ∙ ap (λ (m : List ℕ). take at l ++ m ++ drop (at + length zs) l) (take_all (length zs) zs (omega arith))
+    ∙ sym (sets-eq zs l at h)
+
+-- the bytes of std are those of the layout
+pub four_bytes : (x : ℕ) → bytes_high_first 4 x ≡ to_bytes 4 x
 unfolding unpack
-put_bytes l i x =
-    let p : i + 1 ≡ suc i = omega arith in
-    let q : i + 2 ≡ suc (suc i) = omega arith in
-    let r : i + 3 ≡ suc (suc (suc i)) = omega arith in
-    let d : x % 2 ^ 8 ≡ x / 2 ^ 0 % 2 ^ 8 = omega arith in
-    rw (p, q, r, d)
+four_bytes x = let d : x % 2 ^ 8 ≡ x / 2 ^ 0 % 2 ^ 8 = omega arith in rw d
 
--- ── two halves ──
-
-word_halves : (w : ℕ) → w < 2 ^ 64 → to_bytes 8 w ≡ to_bytes 4 (w / 2 ^ 32) ++ to_bytes 4 (w % 2 ^ 32)
-word_halves w h =
-    let e : w ≡ w / 2 ^ 32 * 2 ^ 32 + w % 2 ^ 32 = omega arith in
-    ap (to_bytes 8) e ∙ unpack_parts (replicate 4 8) (replicate 4 8) (w / 2 ^ 32) (w % 2 ^ 32) (omega arith) (omega arith)
-
-pub put_halves : (l m n : List ℕ) (i w : ℕ) → w < 2 ^ 64 → m ≡ sets l i (to_bytes 4 (w / 2 ^ 32)) → n ≡ sets m (i + 4) (to_bytes 4 (w % 2 ^ 32)) → n ≡ sets l i (to_bytes 8 w)
+pub eight_bytes : (w : ℕ) → bytes_high_first 8 w ≡ to_bytes 8 w
 unfolding unpack
-put_halves l m n i w h p q =
-    let a = to_bytes 4 (w / 2 ^ 32) in
-    let b = to_bytes 4 (w % 2 ^ 32) in
-    q ∙ ap (λ (k : List ℕ). sets k (i + 4) b) p ∙ sets_append l i a b ∙ ap (sets l i) (sym (word_halves w h))
+eight_bytes w = let d : w % 2 ^ 8 ≡ w / 2 ^ 0 % 2 ^ 8 = omega arith in rw d
+
+pub seven_bytes : (w : ℕ) → take 7 (bytes_high_first 8 w) ≡ to_bytes 7 (w / 2 ^ 8)
+unfolding unpack
+seven_bytes w =
+    let a : w / 2 ^ 56 % 2 ^ 8 ≡ w / 2 ^ 8 / 2 ^ 48 % 2 ^ 8 = omega arith in
+    let b : w / 2 ^ 48 % 2 ^ 8 ≡ w / 2 ^ 8 / 2 ^ 40 % 2 ^ 8 = omega arith in
+    let c : w / 2 ^ 40 % 2 ^ 8 ≡ w / 2 ^ 8 / 2 ^ 32 % 2 ^ 8 = omega arith in
+    let d : w / 2 ^ 32 % 2 ^ 8 ≡ w / 2 ^ 8 / 2 ^ 24 % 2 ^ 8 = omega arith in
+    let e : w / 2 ^ 24 % 2 ^ 8 ≡ w / 2 ^ 8 / 2 ^ 16 % 2 ^ 8 = omega arith in
+    let f : w / 2 ^ 16 % 2 ^ 8 ≡ w / 2 ^ 8 / 2 ^ 8 % 2 ^ 8 = omega arith in
+    let g : w / 2 ^ 8 % 2 ^ 8 ≡ w / 2 ^ 8 / 2 ^ 0 % 2 ^ 8 = omega arith in
+    rw (a, b, c, d, e, f, g)
 
 -- ── words one after another ──
 
@@ -109,30 +116,6 @@ pub put_word_next : (l out next : List ℕ) (at v : ℕ) (f : ℕ → ℕ) → (
 unfolding word_bytes
 put_word_next l out next at v f h p q =
     q ∙ ap₂ (λ (o : List ℕ) (n : ℕ). sets o (at + n) (to_bytes 8 (f v))) p (sym (length_words f h v)) ∙ sets_append l at (word_bytes v f) (to_bytes 8 (f v))
-
--- ── seven bytes ──
-
-seven_parts : (w : ℕ) → w < 2 ^ 64 → to_bytes 7 (w / 2 ^ 8) ≡ to_bytes 4 (w / 2 ^ 32) ++ (w / 2 ^ 24 % 2 ^ 8 ∷ w / 2 ^ 16 % 2 ^ 8 ∷ w / 2 ^ 8 % 2 ^ 8 ∷ [])
-unfolding unpack
-seven_parts w h =
-    let z : ℕ = w / 2 ^ 8 in
-    let e : z ≡ z / 2 ^ 24 * 2 ^ 24 + z % 2 ^ 24 = omega arith in
-    let d : z / 2 ^ 24 ≡ w / 2 ^ 32 = omega arith in
-    let p : z % 2 ^ 24 / 2 ^ 16 % 2 ^ 8 ≡ w / 2 ^ 24 % 2 ^ 8 = omega arith in
-    let q : z % 2 ^ 24 / 2 ^ 8 % 2 ^ 8 ≡ w / 2 ^ 16 % 2 ^ 8 = omega arith in
-    let r : z % 2 ^ 24 / 2 ^ 0 % 2 ^ 8 ≡ w / 2 ^ 8 % 2 ^ 8 = omega arith in
-    ap (to_bytes 7) e ∙ unpack_parts (replicate 4 8) (replicate 3 8) (z / 2 ^ 24) (z % 2 ^ 24) (omega arith) (omega arith)
-    ∙ ap₂ (λ (m : ℕ) (bs : List ℕ). to_bytes 4 m ++ bs) d (ap₂ (λ (x : ℕ) (bs : List ℕ). x ∷ bs) p (ap₂ (λ (x : ℕ) (bs : List ℕ). x ∷ bs) q (ap (λ (x : ℕ). x ∷ []) r)))
-
-pub put_seven_law : (l m : List ℕ) (i w : ℕ) → w < 2 ^ 64 → m ≡ sets l i (to_bytes 4 (w / 2 ^ 32))
-    → set (set (set m (i + 4) (w / 2 ^ 24 % 2 ^ 8)) (i + 5) (w / 2 ^ 16 % 2 ^ 8)) (i + 6) (w / 2 ^ 8 % 2 ^ 8) ≡ sets l i (to_bytes 7 (w / 2 ^ 8))
-unfolding unpack
-put_seven_law l m i w h e =
-    let a : List ℕ = to_bytes 4 (w / 2 ^ 32) in
-    let b : List ℕ = w / 2 ^ 24 % 2 ^ 8 ∷ w / 2 ^ 16 % 2 ^ 8 ∷ w / 2 ^ 8 % 2 ^ 8 ∷ [] in
-    let p : i + 5 ≡ suc (i + 4) = omega arith in
-    let q : i + 6 ≡ suc (suc (i + 4)) = omega arith in
-    rw (p, q) (ap (λ (k : List ℕ). sets k (i + 4) b) e ∙ sets_append l i a b ∙ ap (sets l i) (sym (seven_parts w h)))
 
 -- ── a wire set ──
 

@@ -10,18 +10,18 @@ use native.Mathlib.Omega.{arith}
 use borrow.Author.Tests.{eq-eqb}
 use lib.IntN.{ℤ, negsuc}
 use lib.ListN.{get_or, length, take, drop}
+use Rattle.std.specs.Prelude.{Ok, Err}
 use Rattle.bits.proofs.IndexLaws.{true_and, length_each, at_each}
 use Rattle.bits.specs.Bits.{place}
 use Rattle.bits.specs.Index.{each, place_in}
 use Rattle.rules.specs.Access.{malformed}
-use Rattle.rules.specs.Answer.{number}
+use Rattle.rules.specs.Answer.{number, Verdict}
 use Rattle.trace_rules.specs.Record.{access_of, held_in, kind_of, register_of, value_of, inputs_of}
 use Rattle.trace_rules.specs.Writer.{SameRead, AllSame, no_more, and, write_verdict, write_of, write}
 use Rattle.trace_rules.specs.declared.Edition.{Edition}
 use Rattle.rules.specs.declared.Input.{Input}
 use Rattle.rules.specs.declared.Receive.{Receive}
 use Rattle.rules.specs.declared.Refusal.TheVariants.{NoRecord}
-use Rattle.rules.specs.declared.Verdict.{Verdict}
 use Rattle.trace_laws.proofs.LineBits.{four_bits}
 use Rattle.writer.specs.Lent.{Lent, list_of, even, write_lent, Wrote, ReadBack, WrittenBack}
 
@@ -64,17 +64,17 @@ module _ (l : Lent) (buffer left : List ℕ) (r : ℤ) (w : Wrote l buffer r lef
   unfolding write_lent list_of
   written e = (
     w.answer
-        ∙ ap (λ (b : Bool). (cond b (write Edition.Wires (entries l) buffer) (write_of Edition.Wires (Verdict.Refused NoRecord) [] buffer)).answer) (is_even l e),
+        ∙ ap (λ (b : Bool). (cond b (write Edition.Wires (entries l) buffer) (write_of Edition.Wires (Err NoRecord) [] buffer)).answer) (is_even l e),
     w.bytes
-        ∙ ap (λ (b : Bool). (cond b (write Edition.Wires (entries l) buffer) (write_of Edition.Wires (Verdict.Refused NoRecord) [] buffer)).buffer) (is_even l e),
+        ∙ ap (λ (b : Bool). (cond b (write Edition.Wires (entries l) buffer) (write_of Edition.Wires (Err NoRecord) [] buffer)).buffer) (is_even l e),
   )
 
   -- lists of unequal lengths: 10, and the buffer keeps its bytes
   uneven : even l ≡ false → (r ≡ negsuc 9) × (left ≡ buffer)
   unfolding write_lent write_of number
   uneven e = (
-    w.answer ∙ ap (λ (b : Bool). (cond b (write Edition.Wires (list_of l) buffer) (write_of Edition.Wires (Verdict.Refused NoRecord) [] buffer)).answer) e,
-    w.bytes ∙ ap (λ (b : Bool). (cond b (write Edition.Wires (list_of l) buffer) (write_of Edition.Wires (Verdict.Refused NoRecord) [] buffer)).buffer) e,
+    w.answer ∙ ap (λ (b : Bool). (cond b (write Edition.Wires (list_of l) buffer) (write_of Edition.Wires (Err NoRecord) [] buffer)).answer) e,
+    w.bytes ∙ ap (λ (b : Bool). (cond b (write Edition.Wires (list_of l) buffer) (write_of Edition.Wires (Err NoRecord) [] buffer)).buffer) e,
   )
 
 -- ── reading what was written gives the same accesses, the same 248 pairs of wires, the same words and receive pairs ──
@@ -89,12 +89,12 @@ same_at d no_more i l = absurd (not-suc-le-zero l)
 same_at d (and s r) zero l = s
 same_at d (and s r) (suc i) l = same_at d r i (le_of_suc-le-suc l)
 
-module _ (l : Lent) (buffer left : List ℕ) (back : ReadBack l buffer left) (e : Even l) (a : write_verdict Edition.Wires (entries l) buffer ≡ Verdict.Accepted) where
+module _ (l : Lent) (buffer left : List ℕ) (back : ReadBack l buffer left) (e : Even l) (a : write_verdict Edition.Wires (entries l) buffer ≡ (Ok tt)) where
   -- what the 75 bytes of each entry hold
   abbrev again : List Input
   again = inputs_of Edition.Wires (take (length l.kinds * 75) left)
 
-  accepted : write_verdict Edition.Wires (list_of l) buffer ≡ Verdict.Accepted
+  accepted : write_verdict Edition.Wires (list_of l) buffer ≡ Ok tt
   unfolding list_of
   accepted = a
 

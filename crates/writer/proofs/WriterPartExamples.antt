@@ -7,19 +7,19 @@ use mathlib.Core.List.{List, [], ◌∷◌, ◌++◌}
 use native.Mathlib.Omega.{arith}
 use lib.IntN.{ℤ, pos, negsuc}
 use lib.ListN.{get_or, length, take, drop, replicate}
+use Rattle.std.specs.Prelude.{Ok}
 use Rattle.bits.specs.Bits.{bit, bits_of, word_of}
 use Rattle.bits.specs.Fields.{pack, unpack}
 use Rattle.bits.specs.Index.{each_from, place_in}
 use Rattle.trace_laws.proofs.RecordLaws.{held_wired}
 use Rattle.trace_laws.proofs.Recordable.{record_formed}
-use Rattle.rules.specs.Answer.{first_of}
+use Rattle.rules.specs.Answer.{first_of, Verdict}
 use Rattle.trace_rules.specs.Edition.{newest}
 use Rattle.trace_rules.specs.Record.{access_of, positives_of, negatives_of, pair_bits, held_in, input_of, kind_of, register_of, value_of, record_of, recordable, inputs_of}
 use Rattle.trace_rules.specs.Writer.{SameRead, AllSame, no_more, and, WellFormed, Written, any_unrecordable, write_verdict}
 use Rattle.rules.specs.declared.Access.TheVariants.{Read, Write}
 use Rattle.rules.specs.declared.Input.{Input}
 use Rattle.rules.specs.declared.Receive.TheVariants.{Pairs}
-use Rattle.rules.specs.declared.Verdict.{Verdict}
 use Rattle.writer.specs.Lent.{Lent, lent, input_at, list_of, even, Wrote, ReadBack, WrittenBack}
 use Rattle.writer.proofs.WriteCallExamples.{entry, room, kind_3, read_1293}
 
@@ -86,7 +86,7 @@ module _ (left : List ℕ) (back : ReadBack two (replicate 151 1) left) where
   pairs = (both.1.word, both.1.receive, both.2.word, both.2.receive)
 
 -- the numbers that were lent, whatever they are: entry i of any lists that are not refused
-lent_numbers : (l : Lent) (buffer left : List ℕ) → ReadBack l buffer left → even l ≡ true → write_verdict newest (list_of l) buffer ≡ Verdict.Accepted
+lent_numbers : (l : Lent) (buffer left : List ℕ) → ReadBack l buffer left → even l ≡ true → write_verdict newest (list_of l) buffer ≡ Ok tt
     → (i k g v : ℕ) → i < length l.kinds → get_or l.kinds i 0 ≡ k → get_or l.registers i 0 ≡ g → get_or l.values i 0 ≡ v
     → (kind_of (input_at l i).access ≡ k) × (register_of (input_at l i).access ≡ g) × (value_of (input_at l i).access ≡ v)
 lent_numbers l buffer left back e a i k g v h p q r = let n = (back e a).1 i h in (n.0 ∙ p, n.1 ∙ q, n.2 ∙ r)

@@ -1,18 +1,14 @@
 -- What the writer's functions put together: an entry's access and sample, a record's first word, and what all entries need.
 -- Assumes nothing.
-use Rattle.std.specs.Prelude.{ℕ, zero, suc, ◌*◌, ◌/◌, ◌^◌, ◌≤◌, ◌≡◌, Bool, false, not, List, [], ◌∷◌, ◌++◌, get_or, length}
+use Rattle.std.specs.Prelude.{ℕ, zero, suc, ◌*◌, ◌/◌, ◌^◌, ◌≤◌, ◌≡◌, Bool, false, not, List, [], ◌∷◌, ◌++◌, length}
 use Rattle.bits.specs.Fields.{pack, to_bytes}
 use Rattle.bits.specs.Index.{any_to}
-use Rattle.rules.specs.Answer.{first_of}
 use Rattle.trace_rules.specs.Edition.{newest, record_bytes}
 use Rattle.trace_rules.specs.Record.{head, access_of, pair_bits, head_fields, recordable}
-use Rattle.rules.specs.State.{words}
 use Rattle.rules.specs.declared.Access.{Access}
 use Rattle.rules.specs.declared.Input.{Input}
 use Rattle.rules.specs.declared.Receive.{Receive}
-use Rattle.rules.specs.declared.Refusal.TheVariants.{NoRecord, ShortBuffer}
-use Rattle.rules.specs.declared.Verdict.{Verdict}
-use Rattle.writer.specs.Lent.{Lent}
+use Rattle.writer.specs.Lent.{Lent, input_at}
 
 -- the access and sample of an entry's numbers and its words of wires, of which p and m are the receive pairs'
 abbrev pub input_in : ℕ → ℕ → ℕ → List ℕ → List ℕ → ℕ → ℕ → ℕ → Input
@@ -40,22 +36,10 @@ abbrev pub last_bytes : ℕ → ℕ → ℕ → List ℕ
 last_bytes word p m = to_bytes 4 word ++ (pair_bits (Receive.Pairs p m) ∷ [])
 
 -- entry i has an access that no well-formed record holds
-abbrev pub unrecordable_at : List ℕ → List ℕ → List ℕ → ℕ → Bool
-unrecordable_at kinds registers values i = not (recordable newest (access_of (get_or kinds i 0) (get_or registers i 0) (get_or values i 0)))
+abbrev pub unrecordable_at : Lent → ℕ → Bool
+unrecordable_at l i = not (recordable newest (input_at l i).access)
 
--- the refusal, where some entry has no record or the buffer is too short: 10 comes before 11
-abbrev pub in_order : Bool → Bool → Verdict
-in_order unrecordable short =
-    first_of (record { refusal = NoRecord; holds = unrecordable } ∷ record { refusal = ShortBuffer; holds = short } ∷ [])
-
--- all entries have their parts, a record holds each, and the buffer has room for them
+-- a record holds each entry's access, and the buffer has room for all of them
 pub record Ready (l : Lent) (buffer : List ℕ) : Type 0 where
-  pub registers_long : length l.kinds ≤ length l.registers
-  pub values_long : length l.kinds ≤ length l.values
-  pub positive_long : length l.kinds * words ≤ length l.positive
-  pub negative_long : length l.kinds * words ≤ length l.negative
-  pub entropy_long : length l.kinds ≤ length l.entropy
-  pub receive_positive_long : length l.kinds ≤ length l.receive_positive_law
-  pub receive_negative_long : length l.kinds ≤ length l.receive_negative_law
-  pub each_recordable : any_to (unrecordable_at l.kinds l.registers l.values) (length l.kinds) ≡ false
+  pub each_recordable : any_to (unrecordable_at l) (length l.kinds) ≡ false
   pub room : length l.kinds * record_bytes newest ≤ length buffer

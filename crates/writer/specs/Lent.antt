@@ -1,6 +1,6 @@
 -- How a list of accesses and samples is lent: eight lists of numbers, of which entry i is tick i's.
 -- Assumes nothing.
-use Rattle.std.specs.Prelude.{ℕ, ◌+◌, ◌*◌, ◌≤◌, ◌<◌, ◌≡◌, Bool, true, cond, ◌&&◌, List, [], ◌++◌, eqb, ℤ, get_or, length, take, drop}
+use Rattle.std.specs.Prelude.{ℕ, ◌+◌, ◌*◌, ◌≤◌, ◌<◌, ◌≡◌, Bool, true, cond, ◌&&◌, List, [], ◌++◌, eqb, ℤ, get_or, length, take, drop, Ok, Err}
 use Rattle.bits.specs.Index.{each}
 use Rattle.trace_rules.specs.Edition.{newest, record_bytes}
 use Rattle.trace_rules.specs.Record.{access_of, kind_of, register_of, value_of, inputs_of}
@@ -9,7 +9,7 @@ use Rattle.trace_rules.specs.Writer.{Written, WellFormed, AllSame, write_verdict
 use Rattle.rules.specs.declared.Input.{Input}
 use Rattle.rules.specs.declared.Receive.{Receive}
 use Rattle.rules.specs.declared.Refusal.TheVariants.{NoRecord}
-use Rattle.rules.specs.declared.Verdict.{Verdict}
+use Rattle.rules.specs.Answer.{Verdict}
 
 pub record Lent : Type 0 where
   pub kinds : List ℕ
@@ -70,7 +70,7 @@ even l =
 
 -- lists of unequal lengths name a tick that lacks a part, which no record holds: 10
 unfoldable pub write_lent : Lent → List ℕ → Written
-write_lent l buffer = cond (even l) (write newest (list_of l) buffer) (write_of newest (Verdict.Refused NoRecord) [] buffer)
+write_lent l buffer = cond (even l) (write newest (list_of l) buffer) (write_of newest (Err NoRecord) [] buffer)
 
 -- what a call gives: the answer r and the buffer that it leaves
 pub record Wrote (l : Lent) (buffer : List ℕ) (r : ℤ) (left : List ℕ) : Type 0 where
@@ -89,7 +89,7 @@ Numbers l =
 -- that is not refused
 abbrev pub ReadBack : Lent → List ℕ → List ℕ → Type 0
 ReadBack l buffer left =
-    even l ≡ true → write_verdict newest (list_of l) buffer ≡ Verdict.Accepted
+    even l ≡ true → write_verdict newest (list_of l) buffer ≡ Ok tt
     → AllSame newest (list_of l) (inputs_of newest (take (length l.kinds * record_bytes newest) left)) × Numbers l
 
 -- writing what was read gives the same bytes, for all well-formed records

@@ -3,34 +3,38 @@
 #![tactic(auto)]
 
 mod bytes;
-mod recordable;
+mod entries;
+mod lists;
 mod records;
 
-ghost use Rattle.std.specs.Prelude.{◌≡◌};
+ghost use Rattle.std.specs.Prelude.{◌≤◌, pos, length, MatchResult};
+ghost use Rattle.rules.specs.Answer.{number};
 ghost use Rattle.writer.specs.Lent.{lent, Wrote, ReadBack, WrittenBack};
-ghost use Rattle.writer.specs.EntryParts.{in_order};
 
-use crate::recordable::{any_unrecordable, are_uneven};
-use crate::records::put_all;
+use crate::entries::Entries;
+use crate::lists::Lists;
 use answers::signed;
-use rules::{Answer, Refusal, Verdict};
+use rules::{Answer, Refusal};
 use trace::edition::WIRES_BYTES;
 
-// 10 comes before 11.
-fn verdict_of(unrecordable: bool, short: bool) -> Verdict
-    ensures { result ≡ in_order unrecordable short }
+// The bytes written, or the refusal: 10 comes before 11.
+fn put(lists: Lists, out: &mut [u8]) -> Result<usize, Refusal>
+    ensures { MatchResult result (λ bytes. (bytes ≤ length out.old) × Wrote lists.entry out.old (pos bytes) out.new) (λ m. Wrote lists.entry out.old (number (Answer.Refused m)) out.new) }
 {
-    if unrecordable {
-        Verdict::Refused(Refusal::NoRecord)
-    } else if short {
-        Verdict::Refused(Refusal::ShortBuffer)
-    } else {
-        Verdict::Accepted
+    let entries = Entries::of(lists)?;
+    if entries.any_unrecordable() {
+        return Err(Refusal::NoRecord);
     }
+    if out.len() / WIRES_BYTES < entries.count() {
+        return Err(Refusal::ShortBuffer);
+    }
+    entries.put_all(out);
+    Ok(entries.count() * WIRES_BYTES)
 }
 
 // Refused by 10 for lists of unequal lengths or an access that no well-formed record holds, and by 11 for a buffer too short.
 // Else a record for each entry stands at the start of the buffer, and the answer is the number of bytes written.
+// Kept: eight lists, as C lends them to `tarravane_record`.
 pub fn write(
     kinds: &[u8],
     registers: &[u16],
@@ -46,7 +50,7 @@ pub fn write(
     ensures readback { ReadBack (lent kinds.now registers.now values.now positive.now negative.now entropy.now receive_positive.now receive_negative.now) out.old out.new }
     ensures writtenback { WrittenBack (lent kinds.now registers.now values.now positive.now negative.now entropy.now receive_positive.now receive_negative.now) out.old out.new }
 {
-    if are_uneven(
+    let lists = Lists {
         kinds,
         registers,
         values,
@@ -55,27 +59,9 @@ pub fn write(
         entropy,
         receive_positive,
         receive_negative,
-    ) {
-        signed(Answer::Refused(Refusal::NoRecord))
-    } else {
-        let count = kinds.len();
-        let short = out.len() / WIRES_BYTES < count;
-        match verdict_of(any_unrecordable(kinds, registers, values), short) {
-            Verdict::Accepted => {
-                put_all(
-                    kinds,
-                    registers,
-                    values,
-                    positive,
-                    negative,
-                    entropy,
-                    receive_positive,
-                    receive_negative,
-                    out,
-                );
-                (count * WIRES_BYTES) as i64
-            }
-            Verdict::Refused(m) => signed(Answer::Refused(m)),
-        }
+    };
+    match put(lists, out) {
+        Ok(bytes) => bytes as i64,
+        Err(refusal) => signed(Answer::Refused(refusal)),
     }
 }

@@ -5,4 +5,4 @@ use Rattle.batch.proofs.is_admitted.Goals as goal
 
 pub returns : goal.returns
 unfolding admits
-returns c = simp (c.is_valid.ensures, c.has_timer-timer.ensures, c.alerts-most.ensures)
+returns c = simp (c.is_valid.ensures, c.has_timer.ensures, c.alerts.ensures)

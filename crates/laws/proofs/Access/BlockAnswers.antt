@@ -5,10 +5,11 @@ use mathlib.Core.Path.{◌≡◌, refl, sym, ap, ◌∙◌}
 use mathlib.Core.Bool.{Bool, true, false, not, ◌&&◌}
 use borrow.Author.Tests.{eqb-true}
 use lib.Dec.{eqb}
+use Rattle.std.specs.Prelude.{Ok, Err}
 use Rattle.bits.specs.Bits.{fits}
 use Rattle.class_rules.specs.declared.Class.{Class}
 use Rattle.rules.specs.Access.{setting_value, value, locks_silly, silly, bars, unlike, in_order, verdict, accessed_by, accessed, answer_to}
-use Rattle.rules.specs.Answer.{first_of}
+use Rattle.rules.specs.Answer.{first_of, Verdict}
 use Rattle.rules.specs.Map.{decode, number_of, is_register, setting_bits, setting_row, bits, only_written, only_read, write_only, read_only, is_lock}
 use Rattle.rules.specs.Stages.{setting_stage, class_stages, stage_in}
 use Rattle.rules.specs.State.{most, class_at}
@@ -19,7 +20,6 @@ use Rattle.rules.specs.declared.Handler.{Handler}
 use Rattle.rules.specs.declared.Register.{Register}
 use Rattle.rules.specs.declared.Register.TheVariants.{Block}
 use Rattle.rules.specs.declared.Setting.{Setting}
-use Rattle.rules.specs.declared.Verdict.{Verdict}
 use Rattle.laws.specs.Block.{setting_locked, of_block}
 use Rattle.laws.specs.Refusals.{answer_by}
 use Rattle.laws.specs.InMap.{in_map}
@@ -59,16 +59,16 @@ unfolding answer_to accessed
 read_by h r = go (verdict h (Read r))
   where
     go : (t : Verdict) → (accessed_by t h (Read r)).answer ≡ answer_by t (Answer.Value (value h (decode h.n r)))
-    go Verdict.Accepted = refl
-    go (Verdict.Refused m) = refl
+    go (Ok tt) = refl
+    go (Err m) = refl
 
 write_by : (h : Handler) (r v : ℕ) → answer_to h (Write r v) ≡ answer_by (verdict h (Write r v)) Answer.Done
 unfolding answer_to accessed
 write_by h r v = go (verdict h (Write r v))
   where
     go : (t : Verdict) → (accessed_by t h (Write r v)).answer ≡ answer_by t Answer.Done
-    go Verdict.Accepted = refl
-    go (Verdict.Refused m) = refl
+    go (Ok tt) = refl
+    go (Err m) = refl
 
 module _ (h : Handler) (r k : ℕ) (s : Setting) (e : decode h.n r ≡ Block s k) where
   -- a read of the block

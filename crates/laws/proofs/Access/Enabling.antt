@@ -6,6 +6,7 @@ use mathlib.Core.Bool.{Bool, true, false, true≢false, or-true, or-false, cond,
 use native.Mathlib.Omega.{arith}
 use borrow.Author.Tests.{eqb-true, ltb-true, ne_eqb, not-false}
 use lib.Dec.{eqb}
+use Rattle.std.specs.Prelude.{Ok, Err}
 use Rattle.bits.proofs.IndexLaws.{and-true}
 use Rattle.rules.specs.Access.{store, verdict, accepts, accepted, is_first, accessed_by, accessed, acted, effects}
 use Rattle.rules.specs.Map.{stride, class_base, offset, decode, number_of, single_number, bits, is_register, is_shadowed}
@@ -17,7 +18,7 @@ use Rattle.rules.specs.declared.Handler.{Handler}
 use Rattle.rules.specs.declared.Register.{Register}
 use Rattle.rules.specs.declared.Register.TheVariants.{Only}
 use Rattle.rules.specs.declared.Single.TheVariants.{PingEnable}
-use Rattle.rules.specs.declared.Verdict.{Verdict}
+use Rattle.rules.specs.Answer.{Verdict}
 use Rattle.laws.specs.Pinging.{enables}
 use Rattle.laws.specs.RegisterFile.{stored_by}
 use Rattle.laws.proofs.Map.Cases.{pick, by_kind, by_single, never}
@@ -151,17 +152,17 @@ module _ (h : Handler) (x : Access) where
       both false c = refl
 
       go : (y : Access) (t : Verdict) → verdict h y ≡ t → (accessed_by t h y).effects.begins ≡ (enables h y && eqb h.timer.enable 0)
-      go Nothing Verdict.Accepted e = refl
-      go (Read r) Verdict.Accepted e = refl
-      go (Write r v) Verdict.Accepted e =
+      go Nothing (Ok tt) e = refl
+      go (Read r) (Ok tt) e = refl
+      go (Write r v) (Ok tt) e =
           both (eqb r (single_number PingEnable)) (eqb v 1)
           ∙ ap (λ (t : Verdict). (accepts t && (eqb r (single_number PingEnable) && eqb v 1)) && eqb h.timer.enable 0) (sym e)
-      go Malformed Verdict.Accepted e = refl
-      go Nothing (Verdict.Refused m) e = refl
-      go (Read r) (Verdict.Refused m) e = refl
-      go (Write r v) (Verdict.Refused m) e =
+      go Malformed (Ok tt) e = refl
+      go Nothing (Err m) e = refl
+      go (Read r) (Err m) e = refl
+      go (Write r v) (Err m) e =
           ap (λ (t : Verdict). (accepts t && (eqb r (single_number PingEnable) && eqb v 1)) && eqb h.timer.enable 0) (sym e)
-      go Malformed (Verdict.Refused m) e = refl
+      go Malformed (Err m) e = refl
 
   -- where it can only be 0 or 1, it is 1 after step 1 if it was or becomes 1 ..
   pub on_is : h.timer.enable < 2 → is_on (acted h x) ≡ (is_on h || (effects h x).begins)

@@ -6,6 +6,7 @@ use mathlib.Core.Logic.{◌⊎◌, inl, inr, ⊎_elim}
 use mathlib.Core.Bool.{Bool, true, false, cond, not, ◌&&◌}
 use borrow.Author.Tests.{eqb-true, ltb-true, not-false}
 use lib.Dec.{eqb, ltb}
+use Rattle.std.specs.Prelude.{Ok, Err}
 use Rattle.bits.proofs.IndexLaws.{and-true, true_and}
 use Rattle.rules.specs.Access.{value, locked, bars, verdict, accepts, accepted, is_first, drops, acted, effects}
 use Rattle.rules.specs.Map.{decode, number_of, is_register, guard, is_lock, is_shadowed}
@@ -20,7 +21,7 @@ use Rattle.rules.specs.declared.Input.{Input}
 use Rattle.rules.specs.declared.Register.{Register}
 use Rattle.rules.specs.declared.Register.TheVariants.{Only, Local, Alert, Block}
 use Rattle.rules.specs.declared.Setting.TheVariants.{ClrRegwen}
-use Rattle.rules.specs.declared.Verdict.{Verdict}
+use Rattle.rules.specs.Answer.{Verdict}
 use Rattle.laws.specs.InMap.{in_map}
 use Rattle.laws.specs.Frame.{moves_itself}
 use Rattle.laws.specs.StageFile.{names, stage_given, stage_by}
@@ -189,8 +190,8 @@ module _ (h : Handler) (q : Register) (m : h.n ≤ most) (a : in_map h.n q ≡ t
       (pick (StageLeft (stage h q)) (names h x q) _ _ (λ d. go d (verdict h x) refl) (λ _. inl refl))
     where
       go : names h x q ≡ true → (t : Verdict) → verdict h x ≡ t → StageLeft (stage h q) (stage_by t h x (stage h q))
-      go d Verdict.Accepted c = given_left x d (ap accepts c)
-      go d (Verdict.Refused n) c = pick (StageLeft (stage h q)) (drops n) 0 (stage h q) (λ _. inr refl) (λ _. inl refl)
+      go d (Ok tt) c = given_left x d (ap accepts c)
+      go d (Err n) c = pick (StageLeft (stage h q)) (drops n) 0 (stage h q) (λ _. inr refl) (λ _. inl refl)
 
 -- ── steps 2 to 4 ──
 

@@ -9,9 +9,10 @@ use native.Mathlib.Omega.{arith}
 use lib.Dec.{eqb}
 use lib.IntN.{pos, neg_ℤ, neg_ℤ-neg_ℤ}
 use lib.ListN.{get_or, length}
+use Rattle.std.specs.Prelude.{Ok, Err}
 use Rattle.bits.specs.Bits.{bits_of, fits}
 use Rattle.rules.specs.Access.{value, silly, bars, unlike, access_cases, verdict, accepts, accepted, named, drops, kept, raised_by, accessed_by, accessed, acted, answer_to, effects}
-use Rattle.rules.specs.Answer.{refusal_number, number, Case, first_of}
+use Rattle.rules.specs.Answer.{refusal_number, number, Case, first_of, Verdict}
 use Rattle.rules.specs.Map.{decode, is_register, bits, read_only}
 use Rattle.rules.specs.Stages.{dropped}
 use Rattle.rules.specs.State.{with_stages, with_links}
@@ -25,7 +26,6 @@ use Rattle.rules.specs.declared.Handler.{Handler}
 use Rattle.rules.specs.declared.Refusal.{Refusal}
 use Rattle.rules.specs.declared.Sample.{Sample}
 use Rattle.rules.specs.declared.Ticked.{Ticked}
-use Rattle.rules.specs.declared.Verdict.{Verdict}
 use Rattle.laws.specs.Refusals.{First, Unrefused, AccessRefusal, AccessNumber}
 use Rattle.laws.proofs.Access.Step1.{drops_by}
 
@@ -33,7 +33,7 @@ use Rattle.laws.proofs.Access.Step1.{drops_by}
 
 module _ (d : Case) (m : Refusal) where
   -- from the refusal to its case, and back
-  to_first : (cs : List Case) → first_of cs ≡ Verdict.Refused m → First cs d m
+  to_first : (cs : List Case) → first_of cs ≡ Err m → First cs d m
   unfolding first_of
   to_first [] e = absurd (let z : ◌≡◌ {A = ℕ} 0 1 = cc in omega arith)
   to_first (c ∷ cs) e = go c.holds refl e (to_first cs)
@@ -42,50 +42,50 @@ module _ (d : Case) (m : Refusal) where
       later p f zero l = p
       later p f (suc j) l = f.alone j (omega arith)
 
-      go : (b : Bool) → c.holds ≡ b → cond b (Verdict.Refused c.refusal) (first_of cs) ≡ Verdict.Refused m
-          → (first_of cs ≡ Verdict.Refused m → First cs d m) → First (c ∷ cs) d m
+      go : (b : Bool) → c.holds ≡ b → cond b (Err c.refusal) (first_of cs) ≡ Err m
+          → (first_of cs ≡ Err m → First cs d m) → First (c ∷ cs) d m
       go true p e g = record { place = 0; inside = omega arith; names = cc; occurs = p; alone = λ j l. absurd (omega arith) }
       go false p e g =
           let f = g e in
           record { place = suc f.place; inside = omega (arith, f.inside); names = f.names; occurs = f.occurs; alone = later p f }
 
-  from_first : (cs : List Case) → First cs d m → first_of cs ≡ Verdict.Refused m
+  from_first : (cs : List Case) → First cs d m → first_of cs ≡ Err m
   unfolding first_of
   from_first [] f = absurd (omega (arith, f.inside))
   from_first (c ∷ cs) f = go f.place f.inside f.names f.occurs f.alone (from_first cs)
     where
       go : (i : ℕ) → i < length (c ∷ cs) → (get_or (c ∷ cs) i d).refusal ≡ m → (get_or (c ∷ cs) i d).holds ≡ true
-          → ((j : ℕ) → j < i → (get_or (c ∷ cs) j d).holds ≡ false) → (First cs d m → first_of cs ≡ Verdict.Refused m)
-          → first_of (c ∷ cs) ≡ Verdict.Refused m
-      go zero l n o a g = rw o (ap Verdict.Refused n)
+          → ((j : ℕ) → j < i → (get_or (c ∷ cs) j d).holds ≡ false) → (First cs d m → first_of cs ≡ Err m)
+          → first_of (c ∷ cs) ≡ Err m
+      go zero l n o a g = rw o (ap Err n)
       go (suc i) l n o a g =
           rw (a 0 (omega arith)) (g (record { place = i; inside = omega arith; names = n; occurs = o; alone = λ j k. a (suc j) (omega arith) }))
 
 -- m is given exactly where its case is the first that holds
-pub first_is : (cs : List Case) (d : Case) (m : Refusal) → first_of cs ≡ Verdict.Refused m ↔ First cs d m
+pub first_is : (cs : List Case) (d : Case) (m : Refusal) → first_of cs ≡ Err m ↔ First cs d m
 first_is cs d m = (to_first d m cs, from_first d m cs)
 
 module _ (d : Case) where
   -- from an acceptance to the cases, and back
-  none_holds : (cs : List Case) → first_of cs ≡ Verdict.Accepted → (i : ℕ) → i < length cs → (get_or cs i d).holds ≡ false
+  none_holds : (cs : List Case) → first_of cs ≡ Ok tt → (i : ℕ) → i < length cs → (get_or cs i d).holds ≡ false
   unfolding first_of
   none_holds [] e i l = absurd (omega arith)
   none_holds (c ∷ cs) e i l = go c.holds refl e i l (none_holds cs)
     where
-      go : (b : Bool) → c.holds ≡ b → cond b (Verdict.Refused c.refusal) (first_of cs) ≡ Verdict.Accepted → (i : ℕ) → i < length (c ∷ cs)
-          → (first_of cs ≡ Verdict.Accepted → (i : ℕ) → i < length cs → (get_or cs i d).holds ≡ false) → (get_or (c ∷ cs) i d).holds ≡ false
+      go : (b : Bool) → c.holds ≡ b → cond b (Err c.refusal) (first_of cs) ≡ Ok tt → (i : ℕ) → i < length (c ∷ cs)
+          → (first_of cs ≡ Ok tt → (i : ℕ) → i < length cs → (get_or cs i d).holds ≡ false) → (get_or (c ∷ cs) i d).holds ≡ false
       go true p e i l g = absurd (let z : ◌≡◌ {A = ℕ} 0 1 = cc in omega arith)
       go false p e zero l g = p
       go false p e (suc i) l g = g e i (omega arith)
 
-  none_refuses : (cs : List Case) → ((i : ℕ) → i < length cs → (get_or cs i d).holds ≡ false) → first_of cs ≡ Verdict.Accepted
+  none_refuses : (cs : List Case) → ((i : ℕ) → i < length cs → (get_or cs i d).holds ≡ false) → first_of cs ≡ Ok tt
   unfolding first_of
   none_refuses [] f = refl
   none_refuses (c ∷ cs) f = rw (f 0 (omega arith)) (none_refuses cs (λ i l. f (suc i) (omega arith)))
 
 -- accepted is what no case refuses
 pub first_accepts : (cs : List Case) (d : Case)
-    → first_of cs ≡ Verdict.Accepted ↔ ((i : ℕ) → i < length cs → (get_or cs i d).holds ≡ false)
+    → first_of cs ≡ (Ok tt) ↔ ((i : ℕ) → i < length cs → (get_or cs i d).holds ≡ false)
 first_accepts cs d = (none_holds d cs, none_refuses d cs)
 
 -- ── an access ──
@@ -95,9 +95,9 @@ none : Case
 none = record { refusal = Refusal.BadRecord; holds = false }
 
 -- accepted by the verdict
-accepts_is : (t : Verdict) → accepts t ≡ true → t ≡ Verdict.Accepted
-accepts_is Verdict.Accepted e = refl
-accepts_is (Verdict.Refused m) e = absurd (false≢true e)
+accepts_is : (t : Verdict) → accepts t ≡ true → t ≡ Ok tt
+accepts_is (Ok tt) e = refl
+accepts_is (Err m) e = absurd (false≢true e)
 
 -- an accepted access meets no case
 pub unrefused : (h : Handler) (x : Access) → accepted h x ≡ true → Unrefused h x
@@ -133,9 +133,9 @@ accepted_write h r v =
     (bars h (decode h.n r) v) (unlike h (decode h.n r) v)
   where
     go : (a b c s d e : Bool)
-        → accepts (cond (not a) (Verdict.Refused Refusal.NoRegister) (cond b (Verdict.Refused Refusal.WrongWay)
-        (cond (not c) (Verdict.Refused Refusal.TooWide) (cond s (Verdict.Refused Refusal.SillyThreshold)
-        (cond d (Verdict.Refused Refusal.Locked) (cond e (Verdict.Refused Refusal.Differs) Verdict.Accepted))))))
+        → accepts (cond (not a) (Err Refusal.NoRegister) (cond b (Err Refusal.WrongWay)
+        (cond (not c) (Err Refusal.TooWide) (cond s (Err Refusal.SillyThreshold)
+        (cond d (Err Refusal.Locked) (cond e (Err Refusal.Differs) (Ok tt)))))))
         ≡ (a && (not b && (c && (not s && (not d && not e)))))
     go false b c s d e = refl
     go true true c s d e = refl
@@ -157,9 +157,9 @@ drops_write h r v =
   where
     by : Bool → Bool → Bool → Bool → Bool → Bool → Verdict
     by a b c s d e =
-        cond (not a) (Verdict.Refused Refusal.NoRegister) (cond b (Verdict.Refused Refusal.WrongWay)
-        (cond (not c) (Verdict.Refused Refusal.TooWide) (cond s (Verdict.Refused Refusal.SillyThreshold)
-        (cond d (Verdict.Refused Refusal.Locked) (cond e (Verdict.Refused Refusal.Differs) Verdict.Accepted)))))
+        cond (not a) (Err Refusal.NoRegister) (cond b (Err Refusal.WrongWay)
+        (cond (not c) (Err Refusal.TooWide) (cond s (Err Refusal.SillyThreshold)
+        (cond d (Err Refusal.Locked) (cond e (Err Refusal.Differs) (Ok tt))))))
 
     go : (a b c s d e : Bool) → drops_by (by a b c s d e) ≡ (a && (not b && (c && (not s && not (accepts (by a b c s d e))))))
     go false b c s d e = refl
@@ -172,7 +172,7 @@ drops_write h r v =
 
 -- ── a refused access ──
 
-module _ (h : Handler) (x : Access) (m : Refusal) (e : verdict h x ≡ Verdict.Refused m) where
+module _ (h : Handler) (x : Access) (m : Refusal) (e : verdict h x ≡ Err m) where
   -- "3 and 12 are now the refusals that may change something": the stage of the register that is named, and nothing else
   pub acted_refused : acted h x ≡ kept m h (named h x)
   unfolding acted accessed
@@ -209,7 +209,7 @@ module _ (h : Handler) where
   unfolding effects accessed verdict first_of bits_of
   effects_nothing = refl
 
-  module _ (x : Access) (s : Sample) (m : Refusal) (e : verdict h x ≡ Verdict.Refused m) where
+  module _ (x : Access) (s : Sample) (m : Refusal) (e : verdict h x ≡ Err m) where
     -- a refused access is as none on the state without the stage that it drops, but for local 5
     pub refused_after : after h (record { access = x; sample = s }) ≡ steps_on (kept m h (named h x)) s (record { clears = 0; raises = raised_by m; begins = false })
     unfolding hears after
@@ -245,7 +245,7 @@ module _ (h : Handler) where
         go false = (refl, refl)
 
 -- one refused with 3 is as none on the state without the stage
-pub locked_after : (h : Handler) (x : Access) (s : Sample) → verdict h x ≡ Verdict.Refused Refusal.Locked
+pub locked_after : (h : Handler) (x : Access) (s : Sample) → verdict h x ≡ Err Refusal.Locked
     → after h (record { access = x; sample = s })
     ≡ after (with_stages (dropped (named h x) h.stages) h) (record { access = Access.Nothing; sample = s })
 unfolding hears after
@@ -257,7 +257,7 @@ locked_after h x s e =
 -- ── the numbers that come back ──
 
 -- the seven refusals of an access
-access_refusal : (h : Handler) (x : Access) (m : Refusal) → verdict h x ≡ Verdict.Refused m → AccessRefusal (refusal_number m)
+access_refusal : (h : Handler) (x : Access) (m : Refusal) → verdict h x ≡ Err m → AccessRefusal (refusal_number m)
 unfolding verdict
 access_refusal h x m e = let f = (first_is (access_cases h x) none m).0 e in subst P f.names (small f.place f.inside)
   where
@@ -280,11 +280,11 @@ unfolding answer_to accessed number
 answer_number h x w = go (verdict h x) refl x
   where
     go : (t : Verdict) → verdict h x ≡ t → (y : Access) → AccessNumber (number (accessed_by t h y).answer)
-    go Verdict.Accepted e Access.Nothing = inl (0, omega arith, refl)
-    go Verdict.Accepted e (Access.Read r) = inl (value h (decode h.n r), omega (arith, w r), refl)
-    go Verdict.Accepted e (Access.Write r v) = inl (0, omega arith, refl)
-    go Verdict.Accepted e Access.Malformed = inl (0, omega arith, refl)
-    go (Verdict.Refused m) e y = inr (refusal_number m, access_refusal h x m e, refl)
+    go (Ok tt) e Access.Nothing = inl (0, omega arith, refl)
+    go (Ok tt) e (Access.Read r) = inl (value h (decode h.n r), omega (arith, w r), refl)
+    go (Ok tt) e (Access.Write r v) = inl (0, omega arith, refl)
+    go (Ok tt) e Access.Malformed = inl (0, omega arith, refl)
+    go (Err m) e y = inr (refusal_number m, access_refusal h x m e, refl)
 
 -- so no access answers -6, which a new handler answers alone
 pub answer_refusal : (h : Handler) (x : Access) (m : ℕ) → number (answer_to h x) ≡ neg_ℤ (pos m) → (m ≤ 5) ⊎ ((m ≡ 12) ⊎ (m ≡ 14))
@@ -296,11 +296,11 @@ answer_refusal h x m = go (verdict h x) refl x
     value_least v (suc m) e = absurd (let z : ◌≡◌ {A = ℕ} 0 1 = cc in omega arith)
 
     go : (t : Verdict) → verdict h x ≡ t → (y : Access) → number (accessed_by t h y).answer ≡ neg_ℤ (pos m) → (m ≤ 5) ⊎ ((m ≡ 12) ⊎ (m ≡ 14))
-    go Verdict.Accepted e Access.Nothing d = value_least 0 m d
-    go Verdict.Accepted e (Access.Read r) d = value_least (value h (decode h.n r)) m d
-    go Verdict.Accepted e (Access.Write r v) d = value_least 0 m d
-    go Verdict.Accepted e Access.Malformed d = value_least 0 m d
-    go (Verdict.Refused r) e y d =
+    go (Ok tt) e Access.Nothing d = value_least 0 m d
+    go (Ok tt) e (Access.Read r) d = value_least (value h (decode h.n r)) m d
+    go (Ok tt) e (Access.Write r v) d = value_least 0 m d
+    go (Ok tt) e Access.Malformed d = value_least 0 m d
+    go (Err r) e y d =
         let i : pos (refusal_number r) ≡ pos m = sym (neg_ℤ-neg_ℤ (pos (refusal_number r))) ∙ ap neg_ℤ d ∙ neg_ℤ-neg_ℤ (pos m) in
         let j : refusal_number r ≡ m = cc in
         ⊎_elim (λ (b : (1 ≤ refusal_number r) × (refusal_number r ≤ 5)). inl (omega (arith, b.1)))

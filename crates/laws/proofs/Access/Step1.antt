@@ -5,6 +5,7 @@ use mathlib.Core.Path.{◌≡◌, refl, sym, ap, ◌∙◌, subst}
 use mathlib.Core.Bool.{Bool, true, false, false≢true, cond, not, ◌&&◌}
 use native.Mathlib.Omega.{arith}
 use native.Mathlib.Decide.{dec_lt}
+use Rattle.std.specs.Prelude.{Ok, Err}
 use Rattle.bits.specs.Bits.{bit, bits_of}
 use Rattle.bits.proofs.BitLaws.{bit_bits_of, bit_none, bit_above, bits_of_lt}
 use Rattle.bits.proofs.IndexLaws.{and-true}
@@ -17,14 +18,14 @@ use Rattle.rules.specs.declared.Handler.{Handler}
 use Rattle.rules.specs.declared.Refusal.{Refusal}
 use Rattle.rules.specs.declared.Register.{Register}
 use Rattle.rules.specs.declared.Stages.{Stages}
-use Rattle.rules.specs.declared.Verdict.{Verdict}
+use Rattle.rules.specs.Answer.{Verdict}
 use Rattle.laws.specs.RegisterFile.{stored_by}
 use Rattle.laws.proofs.Map.Cases.{pick}
 
 -- a stage is dropped by these verdicts: 3 and 12
 abbrev pub drops_by : Verdict → Bool
-drops_by Verdict.Accepted = false
-drops_by (Verdict.Refused m) = drops m
+drops_by (Ok tt) = false
+drops_by (Err m) = drops m
 
 module _ (h : Handler) (x : Access) where
   -- but for the stages, an access leaves what it stores
@@ -50,18 +51,18 @@ module _ (h : Handler) (x : Access) where
           at false = refl
 
       go : (y : Access) (v : Verdict) → verdict h y ≡ v → by v y
-      go Access.Nothing Verdict.Accepted d = refl
-      go (Access.Read r) Verdict.Accepted d = refl
-      go (Access.Write r v) Verdict.Accepted d =
+      go Access.Nothing (Ok tt) d = refl
+      go (Access.Read r) (Ok tt) d = refl
+      go (Access.Write r v) (Ok tt) d =
           written_is (decode h.n r) v
           ∙ ap (λ (t : Verdict). with_stages (written h (decode h.n r) v).stages (cond (accepts t && not (is_first h (decode h.n r))) (store h (decode h.n r) v) h)) (sym d)
-      go Access.Malformed Verdict.Accepted d = refl
-      go Access.Nothing (Verdict.Refused m) d = kept_is m (named h Access.Nothing)
-      go (Access.Read r) (Verdict.Refused m) d = kept_is m (decode h.n r)
-      go (Access.Write r v) (Verdict.Refused m) d =
+      go Access.Malformed (Ok tt) d = refl
+      go Access.Nothing (Err m) d = kept_is m (named h Access.Nothing)
+      go (Access.Read r) (Err m) d = kept_is m (decode h.n r)
+      go (Access.Write r v) (Err m) d =
           kept_is m (decode h.n r)
           ∙ ap (λ (t : Verdict). with_stages (kept m h (decode h.n r)).stages (cond (accepts t && not (is_first h (decode h.n r))) (store h (decode h.n r) v) h)) (sym d)
-      go Access.Malformed (Verdict.Refused m) d = kept_is m (named h Access.Malformed)
+      go Access.Malformed (Err m) d = kept_is m (named h Access.Malformed)
 
   -- so what holds of that whatever the stages holds of what the access leaves
   pub acted_but_stages : (P : Handler → Type 0) → ((s : Stages) → P (with_stages s (stored_by h x))) → P (acted h x)
@@ -73,8 +74,8 @@ module _ (h : Handler) (x : Access) where
   answer_accepted e = go (verdict h x) e
     where
       go : (v : Verdict) → accepts v ≡ true → (accessed_by v h x).answer ≡ given h x
-      go Verdict.Accepted e = refl
-      go (Verdict.Refused m) e = absurd (false≢true e)
+      go (Ok tt) e = refl
+      go (Err m) e = absurd (false≢true e)
 
   -- class k has an accepted clear if the access is accepted and writes 1 to its CLR
   pub clears_if : (k : ℕ) → k < class_count → clears h x k ≡ (accepted h x && writes_clr h x k)
@@ -82,8 +83,8 @@ module _ (h : Handler) (x : Access) where
   clears_if k l = go (verdict h x)
     where
       go : (v : Verdict) → bit (accessed_by v h x).effects.clears k ≡ (accepts v && writes_clr h x k)
-      go Verdict.Accepted = bit_bits_of 4 (writes_clr h x) k l
-      go (Verdict.Refused m) = bit_none k
+      go (Ok tt) = bit_bits_of 4 (writes_clr h x) k l
+      go (Err m) = bit_none k
 
   -- and only one of the four classes has
   pub cleared_lt : (k : ℕ) → clears h x k ≡ true → k < class_count
@@ -92,8 +93,8 @@ module _ (h : Handler) (x : Access) where
     where
       go : (v : Verdict) → Dec (k < class_count) → bit (accessed_by v h x).effects.clears k ≡ true → k < class_count
       go v (yes l) e = l
-      go Verdict.Accepted (no l) e = absurd (false≢true (sym (bit_above 4 (bits_of 4 (writes_clr h x)) k (bits_of_lt 4 (writes_clr h x)) (omega arith)) ∙ e))
-      go (Verdict.Refused m) (no l) e = absurd (false≢true (sym (bit_none k) ∙ e))
+      go (Ok tt) (no l) e = absurd (false≢true (sym (bit_above 4 (bits_of 4 (writes_clr h x)) k (bits_of_lt 4 (writes_clr h x)) (omega arith)) ∙ e))
+      go (Err m) (no l) e = absurd (false≢true (sym (bit_none k) ∙ e))
 
   pub clears_both : (k : ℕ) → clears h x k ≡ true → (accepted h x ≡ true) × (writes_clr h x k ≡ true)
   clears_both k e = and-true (accepted h x) (writes_clr h x k) (sym (clears_if k (cleared_lt k e)) ∙ e)

@@ -7,12 +7,13 @@ use native.Mathlib.Omega.{arith}
 use borrow.Author.Tests.{eq-eqb, ne_eqb, lt-ltb, le-ltb, ltb-true}
 use lib.Dec.{eqb, ltb}
 use lib.ListN.{get_or-replicate}
+use Rattle.std.specs.Prelude.{Ok, Err}
 use Rattle.bits.proofs.IndexLaws.{and-true}
 use Rattle.bits.specs.Bits.{fits}
 use Rattle.class_rules.specs.Class.{no_class}
 use Rattle.class_rules.specs.declared.Class.{Class}
 use Rattle.rules.specs.Access.{value, locked, silly, bars, verdict, accepts, accepted, is_first, unlike, in_order, accessed_by, accessed, acted, answer_to}
-use Rattle.rules.specs.Answer.{first_of}
+use Rattle.rules.specs.Answer.{first_of, Verdict}
 use Rattle.rules.specs.Map.{decode, number_of, is_register, bits, read_only, guard, is_shadowed}
 use Rattle.rules.specs.Stages.{stage}
 use Rattle.rules.specs.State.{most, local_count, class_count, local, alert, class_at, reset_class, new_handler, bad_count, made}
@@ -28,7 +29,6 @@ use Rattle.rules.specs.declared.Register.{Register}
 use Rattle.rules.specs.declared.Register.TheVariants.{Only, Local, Alert, Block}
 use Rattle.rules.specs.declared.Sample.{Sample}
 use Rattle.rules.specs.declared.Ticked.{Ticked}
-use Rattle.rules.specs.declared.Verdict.{Verdict}
 use Rattle.laws.specs.Frame.{moves_itself}
 use Rattle.laws.specs.InMap.{in_map}
 use Rattle.laws.specs.RegisterFile.{target, new_value, stores, plain}
@@ -72,9 +72,9 @@ module _ (h : Handler) (s : Sample) (r v : ℕ) (q : Register) (m : h.n ≤ most
 
       go : (t : Verdict) → accepts t ≡ true → (b : Bool) → b ≡ true
           → cond b (stage_by t h (Write r v) (stage h w)) (stage h w) ≡ cond (is_first h w) (v + 1) 0
-      go Verdict.Accepted x true y = refl
-      go (Verdict.Refused n) x b y = absurd (false≢true x)
-      go Verdict.Accepted x false y = absurd (false≢true y)
+      go (Ok tt) x true y = refl
+      go (Err n) x b y = absurd (false≢true x)
+      go (Ok tt) x false y = absurd (false≢true y)
 
       own : stage (acted h (Write r v)) w ≡ cond (is_first h w) (v + 1) 0
       own =
@@ -92,9 +92,9 @@ after_read h s r q m d a e =
     ∙ go (verdict h (Read r)) e (eqb (number_of (decode h.n r)) (number_of q)) (eq-eqb (number_of (decode h.n r)) (number_of q) (ap number_of d))
   where
     go : (t : Verdict) → accepts t ≡ true → (b : Bool) → b ≡ true → cond b (stage_by t h (Read r) (stage h q)) (stage h q) ≡ 0
-    go Verdict.Accepted x true y = refl
-    go (Verdict.Refused n) x b y = absurd (false≢true x)
-    go Verdict.Accepted x false y = absurd (false≢true y)
+    go (Ok tt) x true y = refl
+    go (Err n) x b y = absurd (false≢true x)
+    go (Ok tt) x false y = absurd (false≢true y)
 
 -- ── the write that is refused ──
 

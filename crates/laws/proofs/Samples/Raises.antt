@@ -7,6 +7,7 @@ use mathlib.Core.Logic.{◌⊎◌, inl, inr}
 use mathlib.Core.Bool.{Bool, true, false, false≢true, and-false, or-false, cond, not, ◌&&◌, ◌||◌}
 use native.Mathlib.Omega.{arith}
 use lib.Dec.{eqb}
+use Rattle.std.specs.Prelude.{Ok, Err}
 use Rattle.bits.proofs.BitLaws.{bit_none}
 use Rattle.bits.proofs.IndexLaws.{any_none}
 use Rattle.bits.specs.Bits.{bit}
@@ -14,7 +15,7 @@ use Rattle.bits.specs.Index.{any_to}
 use Rattle.link_rules.specs.Senders.{line_count}
 use Rattle.link_rules.specs.Timer.{is_line, fails, fails_alert, fails_line}
 use Rattle.rules.specs.Access.{verdict, accepts, accepted, accessed_by, accessed, effects}
-use Rattle.rules.specs.Answer.{refusal_number}
+use Rattle.rules.specs.Answer.{refusal_number, Verdict}
 use Rattle.rules.specs.Samples.{alert_broken, line_wrong, timed, raised, heard, occurs}
 use Rattle.rules.specs.State.{most, local_count, local}
 use Rattle.rules.specs.declared.Access.{Access}
@@ -23,7 +24,6 @@ use Rattle.rules.specs.declared.Field.{Field}
 use Rattle.rules.specs.declared.Handler.{Handler}
 use Rattle.rules.specs.declared.Heard.{Heard}
 use Rattle.rules.specs.declared.Sample.{Sample}
-use Rattle.rules.specs.declared.Verdict.{Verdict}
 use Rattle.laws.proofs.Samples.Heard.{heard_raise}
 
 -- an access raises local 5, or none
@@ -36,8 +36,8 @@ raises_either h x j P a b = go (verdict h x)
     at false = a
 
     go : (v : Verdict) → P (bit (accessed_by v h x).effects.raises j)
-    go Verdict.Accepted = a
-    go (Verdict.Refused m) = at (eqb (refusal_number m) 12)
+    go (Ok tt) = a
+    go (Err m) = at (eqb (refusal_number m) 12)
 
 -- an accepted one raises none
 pub accepted_raises : (h : Handler) (x : Access) → accepted h x ≡ true → (effects h x).raises ≡ 0
@@ -45,8 +45,8 @@ unfolding effects accessed
 accepted_raises h x e = go (verdict h x) e
   where
     go : (v : Verdict) → accepts v ≡ true → (accessed_by v h x).effects.raises ≡ 0
-    go Verdict.Accepted e = refl
-    go (Verdict.Refused n) e = absurd (false≢true e)
+    go (Ok tt) e = refl
+    go (Err n) e = absurd (false≢true e)
 
 -- ── no ping fails, no equal wires of an enabled alert, no wrong receive pair, and nothing raised by step 1: no local alert occurs ──
 

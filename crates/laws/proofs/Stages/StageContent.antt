@@ -5,9 +5,10 @@ use mathlib.Core.Path.{◌≡◌, refl, ap, ap₂, ◌∙◌}
 use mathlib.Core.Bool.{Bool, true, false, cond, not, ◌&&◌}
 use borrow.Author.Tests.{eq-eqb}
 use lib.Dec.{eqb}
+use Rattle.std.specs.Prelude.{Ok, Err}
 use Rattle.bits.specs.Bits.{fits}
 use Rattle.rules.specs.Access.{locks_silly, silly, verdict, accepts, accepted, is_first, written, named, drops, accessed_by, accessed, acted}
-use Rattle.rules.specs.Answer.{first_of}
+use Rattle.rules.specs.Answer.{first_of, Verdict}
 use Rattle.rules.specs.Map.{decode, is_register, bits, setting_bits, setting_row, only_read, only_written, read_only, write_only}
 use Rattle.rules.specs.Stages.{setting_stage, class_stages, stage_in, with_setting_stage, with_stage, staged, dropped}
 use Rattle.rules.specs.State.{class_count, class_at}
@@ -21,7 +22,6 @@ use Rattle.rules.specs.declared.Refusal.TheVariants.{NoRegister, WrongWay}
 use Rattle.rules.specs.declared.Setting.{Setting}
 use Rattle.rules.specs.declared.Setting.TheVariants.{Ctrl, ClrRegwen, AccumCnt, AccumThresh, TimeoutCyc, PhaseCyc, EscCnt}
 use Rattle.rules.specs.declared.Stages.{Stages}
-use Rattle.rules.specs.declared.Verdict.{Verdict}
 use Rattle.laws.specs.Block.{block_accepts, block_first, block_dropped, block_staged, of_block, names_block}
 use Rattle.laws.proofs.Map.Cases.{pick, by_kind, by_setting}
 use Rattle.laws.proofs.Tick.Content.{block_accepted, block_first_law}
@@ -66,8 +66,8 @@ write_stages h r v = go (verdict h (Write r v))
 
     go : (t : Verdict) → (accessed_by t h (Write r v)).handler.stages
         ≡ cond (accepts t) (cond (is_first h q) (staged q v h.stages) (dropped q h.stages)) (cond (drops_by t) (dropped q h.stages) h.stages)
-    go Verdict.Accepted = chosen (is_first h q) _ _
-    go (Verdict.Refused m) = chosen (drops m) _ _
+    go (Ok tt) = chosen (is_first h q) _ _
+    go (Err m) = chosen (drops m) _ _
 
 -- not refused with 2, 4 or 14, a write is accepted or drops the stage: a, b, s and c say that it can be written, fits, locks no silly threshold and is not
 -- barred, f that it is first
@@ -89,7 +89,7 @@ unfolding acted accessed verdict first_of
 read_stages h r = go (is_register (decode h.n r)) (write_only (decode h.n r))
   where
     go : (a b : Bool)
-        → (accessed_by (cond (not a) (Verdict.Refused NoRegister) (cond b (Verdict.Refused WrongWay) Verdict.Accepted)) h (Read r)).handler.stages
+        → (accessed_by (cond (not a) (Err NoRegister) (cond b (Err WrongWay) (Ok tt))) h (Read r)).handler.stages
         ≡ cond (a && not b) (dropped (decode h.n r) h.stages) h.stages
     go false b = refl
     go true true = refl

@@ -6,6 +6,7 @@ use mathlib.Core.Bool.{Bool, true, false, cond, not}
 use native.Mathlib.Omega.{arith}
 use borrow.Author.Tests.{ltb-true, lt-ltb}
 use lib.Dec.{eqb}
+use Rattle.std.specs.Prelude.{Ok, Err}
 use Rattle.bits.proofs.IndexLaws.{and-true}
 use Rattle.rules.specs.Access.{store, verdict, accepts, is_first, written, named, drops, accessed_by, accessed, acted}
 use Rattle.rules.specs.Map.{decode, number_of, is_register, is_shadowed}
@@ -16,7 +17,7 @@ use Rattle.rules.specs.declared.Access.TheVariants.{Nothing, Read, Write, Malfor
 use Rattle.rules.specs.declared.Handler.{Handler}
 use Rattle.rules.specs.declared.Register.{Register}
 use Rattle.rules.specs.declared.Stages.{Stages}
-use Rattle.rules.specs.declared.Verdict.{Verdict}
+use Rattle.rules.specs.Answer.{Verdict}
 use Rattle.laws.specs.InMap.{in_map}
 use Rattle.laws.specs.StageFile.{names, stage_by}
 use Rattle.laws.proofs.Map.Cases.{pick, by_kind, cond_same}
@@ -67,12 +68,12 @@ module _ (h : Handler) (m : h.n ≤ most) (p : Register) (b : in_map most p ≡ 
     where
       go : (y : Access) (v : Verdict) → verdict h y ≡ v
           → stage_in (accessed_by v h y).handler.stages p ≡ cond (names h y p) (stage_by v h y (stage h p)) (stage h p)
-      go Nothing Verdict.Accepted d = cond_same (names h Nothing p) (stage h p)
-      go (Read r) Verdict.Accepted d = stage_dropped h.stages (decode h.n r) p (decoded r) b
-      go (Write r v) Verdict.Accepted d =
+      go Nothing (Ok tt) d = cond_same (names h Nothing p) (stage h p)
+      go (Read r) (Ok tt) d = stage_dropped h.stages (decode h.n r) p (decoded r) b
+      go (Write r v) (Ok tt) d =
           written_stage r v (in_most h.n (decode h.n r) m (accepted_in_map h r v (ap accepts d)))
-      go Malformed Verdict.Accepted d = cond_same (names h Malformed p) (stage h p)
-      go y (Verdict.Refused c) d =
+      go Malformed (Ok tt) d = cond_same (names h Malformed p) (stage h p)
+      go y (Err c) d =
           at (drops c)
         where
           at : (t : Bool)
@@ -92,9 +93,9 @@ stages_either h x P a b c = go x (verdict h x) a b c
   where
     go : (y : Access) (t : Verdict) → P h.stages → P (dropped (named h y) h.stages) → ((v : ℕ) → P (with_stage (named h y) (v + 1) h.stages))
         → P (accessed_by t h y).handler.stages
-    go Nothing Verdict.Accepted a b c = a
-    go (Read r) Verdict.Accepted a b c = b
-    go (Write r v) Verdict.Accepted a b c =
+    go Nothing (Ok tt) a b c = a
+    go (Read r) (Ok tt) a b c = b
+    go (Write r v) (Ok tt) a b c =
         pick (λ (g : Handler). P g.stages) (is_first h (decode h.n r)) _ _ (λ _. c v) (λ _. b)
-    go Malformed Verdict.Accepted a b c = a
-    go y (Verdict.Refused m) a b c = pick (λ (g : Handler). P g.stages) (drops m) _ _ (λ _. b) (λ _. a)
+    go Malformed (Ok tt) a b c = a
+    go y (Err m) a b c = pick (λ (g : Handler). P g.stages) (drops m) _ _ (λ _. b) (λ _. a)

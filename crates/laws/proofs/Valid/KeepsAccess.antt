@@ -6,6 +6,7 @@ use mathlib.Core.Bool.{true, cond, ◌&&◌}
 use native.Mathlib.Omega.{arith}
 use borrow.Author.Tests.{eqb-true, ltb-true, not-false}
 use lib.Dec.{eqb}
+use Rattle.std.specs.Prelude.{Ok, Err}
 use Rattle.bits.proofs.BitLaws.{bits_of_lt}
 use Rattle.bits.proofs.IndexLaws.{and-true}
 use Rattle.rules.specs.Access.{accepted, accepts, verdict, is_first, store, field_stored, with_interrupt, with_ping, with_setting, drops, acted}
@@ -23,7 +24,7 @@ use Rattle.rules.specs.declared.Setting.{Setting}
 use Rattle.rules.specs.declared.Single.{Single}
 use Rattle.rules.specs.declared.Single.TheVariants.{IntrState, IntrEnable, IntrTest, PingRegwen, PingTimeout, PingEnable}
 use Rattle.rules.specs.declared.Stages.{Stages}
-use Rattle.rules.specs.declared.Verdict.{Verdict}
+use Rattle.rules.specs.Answer.{Verdict}
 use Rattle.laws.specs.Columns.{same_field}
 use Rattle.laws.specs.Facts.{ClassValid, TimerValid, PingsOwned, Valid}
 use Rattle.laws.specs.InMap.{in_map}
@@ -161,8 +162,8 @@ stage_fits : (h : Handler) (x : Access) (q : Register) → h.n ≤ most → in_m
 stage_fits h x q m a e o = go (verdict h x) refl
   where
     go : (t : Verdict) → verdict h x ≡ t → stage_by t h x (stage h q) ≤ 2 ^ bits q
-    go Verdict.Accepted d = given_fits h x q (stage h q) m a e (ap accepts d) o
-    go (Verdict.Refused c) d = pick (λ n. n ≤ 2 ^ bits q) (drops c) 0 (stage h q) (λ _. omega arith) (λ _. o)
+    go (Ok tt) d = given_fits h x q (stage h q) m a e (ap accepts d) o
+    go (Err c) d = pick (λ n. n ≤ 2 ^ bits q) (drops c) 0 (stage h q) (λ _. omega arith) (λ _. o)
 
 acted_stages : (h : Handler) (x : Access) → Valid h → (q : Register) → in_map h.n q ≡ true → stage (acted h x) q ≤ 2 ^ bits q
 acted_stages h x t q a =

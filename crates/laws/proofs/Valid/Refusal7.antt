@@ -9,9 +9,10 @@ use native.Mathlib.Omega.{arith}
 use borrow.Author.Tests.{eq-eqb, not-true}
 use lib.Dec.{eqb}
 use lib.IntN.{pos, neg_ℤ, neg_ℤ-neg_ℤ}
+use Rattle.std.specs.Prelude.{Err}
 use Rattle.bits.proofs.IndexLaws.{and-true}
 use Rattle.rules.specs.Access.{verdict, access_cases, given, accessed_by, accessed, answer_to}
-use Rattle.rules.specs.Answer.{Case, first_of, number, refusal_number}
+use Rattle.rules.specs.Answer.{Case, first_of, number, refusal_number, Verdict}
 use Rattle.rules.specs.Tick.{lines, output_of, after, tick, ticked, no_output}
 use Rattle.rules.specs.Valid.{valid}
 use Rattle.rules.specs.declared.Access.{Access}
@@ -21,7 +22,6 @@ use Rattle.rules.specs.declared.Handler.{Handler}
 use Rattle.rules.specs.declared.Input.{Input}
 use Rattle.rules.specs.declared.Refusal.TheVariants.{BadState}
 use Rattle.rules.specs.declared.Ticked.{Ticked}
-use Rattle.rules.specs.declared.Verdict.{Verdict}
 use Rattle.laws.proofs.Map.Cases.{pick}
 
 -- a valid state: the tick is run
@@ -80,7 +80,7 @@ unfolding first_of
 first_other h x [] e n = n
 first_other h x (c ∷ cs) e n =
     let b = and-true (not (is_seven (Answer.Refused c.refusal))) (no_seven cs) e in
-    pick (λ (v : Verdict). NotSeven (accessed_by v h x).answer) c.holds (Verdict.Refused c.refusal) (first_of cs)
+    pick (λ (v : Verdict). NotSeven (accessed_by v h x).answer) c.holds (Err c.refusal) (first_of cs)
     (λ _. not-true (is_seven (Answer.Refused c.refusal)) b.0)
     (λ _. first_other h x cs b.1 n)
 

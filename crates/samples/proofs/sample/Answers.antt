@@ -4,8 +4,4 @@ use Rattle.samples.proofs.SampleSteps.{sampled_by}
 use Rattle.samples.proofs.sample.Goals as goal
 
 pub returns : goal.returns
-returns c =
-    let o = c in
-    let m = o in
-    let s = m in
-    sampled_by s.args.g s.args.v _ _ m.gather-gathered.ensures o.occur-occurred.ensures
+returns c = sampled_by c.args.g c.args.v _ _ c.gather-hits.ensures c.occur-occurred.ensures

@@ -1,11 +1,8 @@
--- `text::hex_lines` meets its contract. The loop's invariant: the lines of the first i words, then what was there.
+-- `text::hex_lines` meets its contract: the line of word i behind the others.
 -- Assumes nothing.
-use native.Mathlib.Omega.{arith}
-use Rattle.text.proofs.LineLaws.{put_next}
-use borrow.Author.Rules.{rules}
-use Prim.Native.Nat.{ℕ, ◌+◌, ◌*◌, ◌≤◌, ◌<◌}
-use mathlib.Core.Path.{◌≡◌, ap}
-use lib.ListN.{length}
+use Rattle.std.proofs.Common.{arith, rules, sym, ◌≡◌, ◌+◌, ◌*◌, ◌-◌}
+use Rattle.std.proofs.lemmas.Slice.{put_mid-paste}
+use Rattle.text.proofs.LineLaws.{length_line, put_next}
 use Rattle.text.specs.HexLines.{lines_of}
 use Rattle.text.proofs.hex_lines.Goals as goal
 
@@ -16,12 +13,5 @@ loop-i-init c = search rules
 pub loop-i-preserved : goal.loop-i-preserved
 loop-i-preserved c =
     let s = c.loop-i in
-    let l : s.i < length c.args.words.now = omega arith in
-    let r : 17 * s.i + 17 ≤ length c.args.out.now = omega arith in
-    (search rules, search rules, rw (c.put_line.ensures, s.invariant.2) (put_next _ _ _ l r))
-
-pub returns : goal.returns
-returns c =
-    let e : c.loop-i.i ≡ c.least-count.result = omega arith in
-    let n = c.least-count.ensures in
-    record { bytes = ap (λ (x : ℕ). 17 * x) n; lines = rw (← n, ← e) c.loop-i.invariant.2 }
+    let k : 17 ≡ 17 * s.i + 17 - 17 * s.i = omega arith in
+    rw (put_mid-paste (17 * s.i) _ s.out _ _ 17 c.put_line.ensures k (sym (length_line _)), s.invariant) (put_next _ _ _ (omega arith) (omega arith))

@@ -1,12 +1,7 @@
-use Prim.Native.Nat.{◌*◌, ◌-◌, ◌≤◌}
-use mathlib.Core.Path.{◌≡◌}
-use mathlib.Core.List.{◌++◌}
-use lib.ListN.{length, take, drop}
+-- The lines of the first i words, then what was there.
+use Rattle.std.proofs.Common.{◌*◌, ◌≡◌, ◌++◌, take, drop}
 use Rattle.text.specs.HexLines.{lines_of}
 use Rattle.text.proofs.hex_lines.Given as goal
 
 abbrev pub invariant-loop-i : goal.invariant-loop-i
-invariant-loop-i l = (l.i ≤ l.count) × (length l.out ≡ length l.initial.out) × (l.out ≡ lines_of (take l.i l.words) ++ drop (17 * l.i) l.initial.out)
-
-abbrev pub decreases-loop-i : goal.decreases-loop-i
-decreases-loop-i l = l.count - l.i
+invariant-loop-i l = l.out ≡ lines_of (take l.i l.words) ++ drop (17 * l.i) l.initial.out

@@ -5,7 +5,8 @@ use Rattle.calm_laws.specs.Four.{met, moves_in, Running}
 use Rattle.calm.proofs.engine.advance.Given as goal
 
 abbrev pub invariant-loop-done : goal.invariant-loop-done
-invariant-loop-done l = (l.done ≤ l.n) × Running (met l.events l.interrupts) l.initial.classes l.initial.sent l.from l.first l.initial.out l.done l.classes l.sent l.written l.out
+invariant-loop-done l =
+    (l.done ≤ l.n) × Running (met l.signals.events l.signals.interrupts) l.initial.now.classes l.initial.now.senders l.from l.initial.changes l.done l.now.classes l.now.senders l.changes
 
 abbrev pub decreases-loop-done : goal.decreases-loop-done
-decreases-loop-done l = moves_in (met l.events l.interrupts) l.classes + num (ltb l.done l.n)
+decreases-loop-done l = moves_in (met l.signals.events l.signals.interrupts) l.now.classes + num (ltb l.done l.n)

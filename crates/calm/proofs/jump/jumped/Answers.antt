@@ -8,13 +8,10 @@ use Rattle.calm.proofs.jump.jumped.Goals as goal
 
 pub count_after-requires : goal.count_after-requires
 count_after-requires c =
-    let b = c in
-    rw (c.counts.ensures, c.state_of.ensures) (count_room b.args.s b.args.c b.args.n b.requires.0 (omega arith) b.requires.1)
+    rw (c.counts.ensures, c.state_of.ensures) (count_room c.args.s c.args.c c.args.n c.requires.0 (omega arith) c.requires.1)
 
 pub accum_after-requires : goal.accum_after-requires
-accum_after-requires c =
-    let b = c in
-    omega (arith, stands_most b.args.s b.args.c b.requires.0, b.requires.1)
+accum_after-requires c = omega (arith, stands_most c.args.s c.args.c c.requires.0, c.requires.1)
 
 pub returns : goal.returns
 unfolding jumped

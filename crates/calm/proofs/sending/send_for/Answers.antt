@@ -1,34 +1,26 @@
 -- `send_for` meets its contract.
 -- Assumes nothing.
 use Prim.Native.Nat.{ℕ}
-use mathlib.Core.Path.{◌≡◌, sym, ap, ◌∙◌}
+use mathlib.Core.Path.{◌≡◌, refl, sym, ap, ◌∙◌}
 use native.Mathlib.Numerals.{add-one}
 use native.Mathlib.Omega.{arith}
-use borrow.Author.Rules.{rules}
 use Rattle.calm_laws.proofs.Turning.{for_short}
 use Rattle.calm_laws.specs.Steady.{steady, senders_for}
 use Rattle.link_rules.specs.Senders.{sent_all}
 use Rattle.link_rules.specs.declared.Senders.{Senders}
 use Rattle.calm.proofs.sending.send_for.Goals as goal
 
-pub loop-i-init : goal.loop-i-init
+pub loop-init : goal.loop-init
 unfolding senders_for
-loop-i-init c = search rules
+loop-init c = refl
 
-pub loop-i-smaller : goal.loop-i-smaller
-loop-i-smaller c = omega (arith, c.loop-i-test.true)
-
-pub loop-i-preserved : goal.loop-i-preserved
+pub loop-preserved : goal.loop-preserved
 unfolding senders_for
-loop-i-preserved c =
-    let l = c in (
-      omega (arith, c.loop-i-test.true),
-      rw (add-one l.loop-i.i) (c.send_lines-now.ensures ∙ ap (λ (z : Senders). sent_all z (steady l.args.lines)) l.loop-i.invariant.1),
-    )
+loop-preserved c =
+    rw (add-one c.loop.counter) (c.send_lines-now.ensures ∙ ap (λ (z : Senders). sent_all z (steady c.args.lines)) c.loop.invariant)
 
 pub returns : goal.returns
 returns c =
-    let l = c in
-    let a = l.args in
-    let e : l.loop-i.i ≡ l.short_of-n.result = omega (arith, c.loop-i-test.false, l.loop-i.invariant.0) in
-    l.loop-i.invariant.1 ∙ ap (λ (n : ℕ). senders_for a.lines n a.s) (e ∙ l.short_of-n.ensures.0) ∙ sym (for_short a.lines a.m a.s)
+    let a = c.args in
+    let e : c.loop.counter ≡ c.short_of-end.result = omega (arith, c.loop-test.false, c.loop.auto.counter-end) in
+    c.loop.invariant ∙ ap (λ (n : ℕ). senders_for a.lines n a.s) (e ∙ c.short_of-end.ensures.0) ∙ sym (for_short a.lines a.m a.s)

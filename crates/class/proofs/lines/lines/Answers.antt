@@ -1,23 +1,13 @@
 -- `lines` is the number whose bit e says whether line e is driven.
 -- Assumes nothing.
-use native.Mathlib.Omega.{arith}
-use Rattle.bits.specs.Bits.{bits_of}
+use Rattle.std.proofs.Common.{refl, rules, ◌∙◌}
+use Rattle.std.proofs.lemmas.Iterator.{YieldsList-from_range}
+use Rattle.std.proofs.lemmas.Iterator.Consumers.{fold_from_yields_List}
+use Rattle.class_rules.specs.Class.{drives}
+use Rattle.masks.proofs.MaskFolds.{put, put4}
 use Rattle.class.proofs.lines.lines.Goals as goal
 
 pub returns : goal.returns
-unfolding bits_of
 returns c =
-    let l2 = c in
-    let l1 = l2 in
-    let l0 = l1 in
-    simp (
-      c.num-4.ensures.0,
-      c.drives-4.ensures,
-      l2.num-3.ensures.0,
-      l2.drives-3.ensures,
-      l1.num-2.ensures.0,
-      l1.drives-2.ensures,
-      l0.num.ensures.0,
-      l0.drives.ensures,
-    )
-    (omega arith)
+    fold_from_yields_List _ (put 256 (drives c.args.c)) 0 _ c.fold.ensures.ran (YieldsList-from_range 0 4 4 refl refl) (λ a x b q k. search rules)
+    ∙ put4 256 tt (drives c.args.c)

@@ -5,4 +5,4 @@ use Rattle.dump_content.proofs.shown.classes_at.Goals as goal
 
 pub returns : goal.returns
 unfolding each_from
-returns c = simp (c.class_at-c3.ensures, c.class_at-c2.ensures, c.class_at-c1.ensures, c.class_at-c0.ensures)
+returns c = simp (c.class_at.ensures, c.class_at-2.ensures, c.class_at-3.ensures, c.class_at-4.ensures)

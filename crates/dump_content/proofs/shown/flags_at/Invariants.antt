@@ -1,4 +1,4 @@
-use Prim.Native.Nat.{◌+◌, ◌-◌, ◌≤◌}
+use Prim.Native.Nat.{◌+◌, ◌≤◌}
 use mathlib.Core.Path.{◌≡◌}
 use Rattle.bits.specs.Index.{each}
 use Rattle.dump_map.specs.Kinds.{has_kind}
@@ -11,10 +11,6 @@ use Rattle.dump_content.proofs.shown.flags_at.Given as goal
 
 abbrev pub invariant-loop-r : goal.invariant-loop-r
 invariant-loop-r l =
-    (l.r ≤ limit)
-    × (l.p ≤ l.at + l.r)
+    (l.p ≤ l.at + l.r)
     × (l.p ≡ l.at + many (λ x. has_kind l.kind (decode l.n x)) 0 l.r)
     × (l.out ≡ each limit (up_to (flag_at_bit l.kind l.bytes l.n l.at) l.r))
-
-abbrev pub decreases-loop-r : goal.decreases-loop-r
-decreases-loop-r l = limit - l.r

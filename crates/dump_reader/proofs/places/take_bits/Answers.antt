@@ -1,7 +1,7 @@
 -- `places::take_bits` meets its contract.
 -- Assumes nothing.
 use Prim.Native.Nat.{ℕ, ◌+◌, ◌*◌, ◌^◌, ◌<◌}
-use mathlib.Core.Path.{◌≡◌, sym, ap, ap₂, ◌∙◌}
+use mathlib.Core.Path.{◌≡◌, sym, ap, ap₂, ◌∙◌, subst}
 use mathlib.Core.Bool.{false}
 use native.Mathlib.Numerals.{add-one}
 use native.Mathlib.Omega.{arith}
@@ -45,5 +45,7 @@ pub returns : goal.returns
 returns c =
     let l = c in
     let a = l.args in
+    let bs = drop a.at (bits_of_bytes a.bytes.now) in
     let e : l.loop-i.i ≡ a.w = omega arith in
-    l.loop-i.invariant.1 ∙ ap (λ (k : ℕ). filled k (drop a.at (bits_of_bytes a.bytes.now))) e
+    let v : l.loop-i.v ≡ filled a.w bs = l.loop-i.invariant.1 ∙ ap (λ (k : ℕ). filled k bs) e in
+    (v, subst (λ (x : ℕ). x < 2 ^ a.w) (sym v) (filled_lt a.w a.w bs (omega arith)))

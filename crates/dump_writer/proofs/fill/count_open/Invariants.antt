@@ -1,13 +1,9 @@
-use Prim.Native.Nat.{◌-◌, ◌≤◌}
+use Prim.Native.Nat.{◌≤◌}
 use mathlib.Core.Path.{◌≡◌}
 use Rattle.rules.specs.Map.{decode}
 use Rattle.rules.specs.Stages.{is_open}
-use Rattle.dump_rules.specs.Shown.{limit}
 use Rattle.dump_rules.proofs.PickLaws.{many}
 use Rattle.dump_writer.proofs.fill.count_open.Given as goal
 
 abbrev pub invariant-loop-r : goal.invariant-loop-r
-invariant-loop-r l = (l.r ≤ limit) × (l.m ≤ l.r) × (l.n ≡ l.h.n) × (l.m ≡ many (λ x. is_open l.h.stages (decode l.h.n x)) 0 l.r)
-
-abbrev pub decreases-loop-r : goal.decreases-loop-r
-decreases-loop-r l = limit - l.r
+invariant-loop-r l = (l.m ≤ l.r) × (l.m ≡ many (λ x. is_open l.h.stages (decode l.h.n x)) 0 l.r)

@@ -3,4 +3,4 @@
 use Rattle.handler.proofs.classes.class_after.Goals as goal
 
 pub returns : goal.returns
-returns c = simp (c.step.ensures, c.meet-s.ensures)
+returns c = simp (c.step.ensures, c.meet.ensures)

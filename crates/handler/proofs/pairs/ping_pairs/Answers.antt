@@ -1,12 +1,12 @@
 -- `pairs::ping_pairs` meets its contract: its four words, put together.
 -- Assumes nothing.
-use Rattle.handler.specs.PairWords.{is_high}
-use Rattle.handler.proofs.PairLaws.{pairs_by}
+use Rattle.std.proofs.Common.{ap, ◌∙◌, rules}
+use Rattle.handler.specs.PairWords.{is_high, spread, word_by}
+use Rattle.handler.proofs.PairLaws.{spread_by}
+use Rattle.masks.proofs.Made.{made}
 use Rattle.handler.proofs.pairs.ping_pairs.Goals as goal
 
 pub returns : goal.returns
 returns c =
-    let d = c in
-    let a = d.args in
-    pairs_by (is_high a.n a.r) _ _ _ _ _ d.high-a.ensures d.high-b.ensures
-    d.high-c.ensures d.high-d.ensures c.spread.ensures
+    let f = is_high c.args.n c.args.r in
+    c.spread.ensures ∙ ap spread (made _ _ (word_by f) (λ v y q k. search rules) 0 c.from_fn.ensures.items) ∙ spread_by f

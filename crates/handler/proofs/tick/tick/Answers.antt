@@ -14,12 +14,8 @@ finish-t-requires c =
 pub returns-then-is_valid : goal.returns-then-is_valid
 unfolding acknowledge_pairs ping_pairs escalation_pairs
 returns-then-is_valid c =
-    let p = c in
-    let f = p in
-    let a = f in
-    let v = a in
-    answered_good _ _ _ _ _ _ _ _ (sym v.is_valid.ensures ∙ a.if-is_valid.true) a.access-accessed.ensures f.finish-t.ensures p.acknowledge_pairs-acknowledge.ensures
-    p.ping_pairs-ping.ensures c.escalation_pairs-escalation.ensures (c.signed.ensures.value, c.signed.ensures.meaning)
+    answered_good _ _ _ _ _ _ _ _ (sym c.is_valid.ensures ∙ c.if-is_valid.true) c.access-accessed.ensures c.finish-t.ensures c.acknowledge_pairs.ensures
+    c.ping_pairs.ensures c.escalation_pairs.ensures (c.signed.ensures.value, c.signed.ensures.meaning)
 
 pub returns-else-is_valid : goal.returns-else-is_valid
 returns-else-is_valid c =

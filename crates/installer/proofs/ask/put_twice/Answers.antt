@@ -1,7 +1,10 @@
 -- `put_twice` meets its contract.
 -- Assumes nothing.
-use Rattle.installer.proofs.AskParts.{next_ask}
+use Rattle.installer.proofs.AskParts.{goes, stops}
 use Rattle.installer.proofs.ask.put_twice.Goals as goal
 
+pub returns-in_err-ask : goal.returns-in_err-ask
+returns-in_err-ask c = stops _ _ _ _ _ _ c.in_err-ask.ensures c.from_residual.ensures.1
+
 pub returns : goal.returns
-returns c = next_ask _ _ _ _ _ c.ask-p.ensures c.put.ensures
+returns c = goes _ _ _ _ _ c.in_ok-ask.ensures c.put.ensures

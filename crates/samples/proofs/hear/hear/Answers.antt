@@ -5,6 +5,5 @@ use Rattle.samples.proofs.hear.hear.Goals as goal
 
 pub returns : goal.returns
 returns c =
-    let r = c in
-    let s = r in
-    heard_by s.args.g s.args.s s.args.fx _ _ _ _ s.requires r.is_pingable-pingable.ensures r.pace-paced.ensures c.any_broken-broken.ensures c.raise-raises.ensures
+    let a = c.args in
+    heard_by a.g a.s a.fx _ _ _ _ c.requires c.is_pingable-pingable.ensures c.pace-wrong.ensures c.any_broken-broken.ensures c.raise.ensures

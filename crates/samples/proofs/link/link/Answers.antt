@@ -1,5 +1,7 @@
 -- `link::link` meets its contract.
 -- Assumes nothing.
+use mathlib.Core.Path.{refl, ◌∙◌}
+use Rattle.masks.proofs.MaskFolds.{num_byte}
 use Rattle.samples.proofs.Linking.{linked}
 use Rattle.samples.proofs.link.link.Goals as goal
 
@@ -16,7 +18,7 @@ returns c =
       is_on_law = m.is_line_set.ensures;
       is_last = m.is_line_set-2.ensures;
       is_closed = m.is_closed-closed.ensures;
-      is_met = m.close_by-met.ensures;
+      is_met = refl;
       is_open = p.is_open.ensures;
       is_ending = p.does_end.ensures;
       is_opening = p.does_open.ensures;
@@ -24,5 +26,5 @@ returns c =
       turns = c.turn.ensures;
       marks = c.lines_after.ensures;
       sends = c.send.ensures;
-      is_right = c.num.ensures.0;
+      is_right = c.from.ensures ∙ num_byte a.v.right;
     })

@@ -3,8 +3,7 @@
 use Rattle.samples.proofs.QuietLinks.{quiet_by}
 use Rattle.samples.proofs.links.hear_quiet.Goals as goal
 
-pub returns : goal.returns
-returns c =
-    let r = c in
-    let a = r.args in
-    quiet_by a.n a.links a.timer a.pingable a.s _ _ _ r.pace-paced.ensures c.none_set.ensures c.none_set-2.ensures
+pub returns-then-none_set-fails : goal.returns-then-none_set-fails
+returns-then-none_set-fails c =
+    let a = c.args in
+    quiet_by a.n a.links a.timer a.pingable a.s _ _ _ c.pace-paced.ensures c.none_set.ensures c.none_set-2.ensures c.if-none_set-fails.true

@@ -27,7 +27,7 @@ pub loop-j-preserved : goal.loop-j-preserved
 unfolding bit
 loop-j-preserved c =
     let l = c.loop-j in
-    (search rules, rw (add-one, c.class_bit-hits.ensures, c.mark.ensures) (noted_step _ _ _ _ _ _ _ l.invariant.1 (search rules)))
+    (search rules, rw (add-one, c.class_bit-hits.ensures, c.mark.ensures, c.does_occur-on.ensures) (noted_step _ _ _ _ _ _ _ l.invariant.1 (search rules)))
 
 pub returns : goal.returns
 returns c = let e : c.loop-j.j ≡ local_count = omega arith in rw e at c.loop-j.invariant.1

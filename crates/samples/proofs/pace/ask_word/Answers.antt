@@ -8,9 +8,8 @@ use Rattle.samples.proofs.pace.ask_word.Goals as goal
 pub returns-then-opens-line : goal.returns-then-opens-line
 returns-then-opens-line c =
     let a = c.args in
-    let hx : c.live.result < 2 ^ 64 = search rules in
-    let hy : c.live-then-opens-line.result < 2 ^ 64 = search rules in
-    one_word a.opens a.line a.i a.v _ _ hx hy c.live.ensures c.live-then-opens-line.ensures c.if-opens-line.true
+    let h : c.only.result < 2 ^ 64 = search rules in
+    one_word a.opens a.line a.i a.v _ h c.only.ensures c.if-opens-line.true
 
 pub returns-else-opens-line : goal.returns-else-opens-line
 returns-else-opens-line c = let a = c.args in no_word a.opens a.line a.i a.v c.if-opens-line.false

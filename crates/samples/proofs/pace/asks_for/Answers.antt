@@ -1,10 +1,9 @@
--- `pace::asks_for` meets its contract.
+-- `pace::asks_for` meets its contract: word by word.
 -- Assumes nothing.
-use mathlib.Core.List.{[], ◌∷◌}
-use Rattle.bits.specs.Index.{each_from}
+use Rattle.std.proofs.Common.{rules}
+use Rattle.masks.proofs.Made.{made}
+use Rattle.samples.specs.Paced.{ask_word}
 use Rattle.samples.proofs.pace.asks_for.Goals as goal
 
 pub returns : goal.returns
-unfolding each_from
-returns c =
-    λ t. c.ask_word-a.ensures t ∷ c.ask_word-b.ensures t ∷ c.ask_word-c.ensures t ∷ c.ask_word-d.ensures t ∷ []
+returns c = let a = c.args in made _ _ (ask_word a.opens a.line a.i) (λ v y q k. search rules) 0 c.from_fn.ensures.items

@@ -10,4 +10,4 @@ returns-then-is_checked c =
 pub returns-else-is_checked : goal.returns-else-is_checked
 returns-else-is_checked c =
     let b = c in
-    simp (← b.is_checked.ensures, c.if-is_checked.false, c.is_open.ensures, c.is_line_set-else-is_checked.ensures, c.said_answered-said.ensures, b.line_of-e.ensures.0)
+    simp (← b.is_checked.ensures, c.if-is_checked.false, c.is_open.ensures, c.is_line_set-else-is_checked.ensures, c.said_answered.ensures, b.line_of-e.ensures.0)

@@ -7,4 +7,4 @@ use Rattle.state.proofs.new.reset.Goals as goal
 
 pub returns : goal.returns
 unfolding new_handler each_from word_of bits_of
-returns c = rw (c.reset_class-class.ensures, c.none.ensures)
+returns c = rw (c.reset_class.ensures, c.none.ensures)

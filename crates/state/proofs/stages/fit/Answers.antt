@@ -10,5 +10,5 @@ pub returns : goal.returns
 unfolding stages_fit
 returns c =
     let s = c.args.s in
-    ap₂ ◌&&◌ c.locals_fit-l.ensures
-    (ap₂ ◌&&◌ c.alerts_fit-a.ensures (ap (λ (b : Bool). b && leb s.timeout 65536) c.classes_fit.ensures))
+    ap₂ ◌&&◌ c.locals_fit.ensures
+    (ap₂ ◌&&◌ c.alerts_fit.ensures (ap (λ (b : Bool). b && leb s.timeout 65536) c.classes_fit.ensures))

@@ -1,19 +1,17 @@
--- `valid::classes_fit` meets its contract: after k classes the flag says whether those k fit.
+-- `valid::classes_fit` meets its contract: each of the four classes fits.
 -- Assumes nothing.
-use mathlib.Core.Path.{◌≡◌, refl}
-use native.Mathlib.Omega.{arith}
-use native.Mathlib.Numerals.{add-one}
-use borrow.Author.Rules.{rules}
+use Rattle.std.proofs.Common.{◌≡◌, ◌∙◌, ap, length, rules}
+use Rattle.std.proofs.lemmas.Iterator.{YieldsList-from_slice}
+use Rattle.std.proofs.lemmas.Iterator.Search.{all_from_yields_List}
+use lib.ListN.{get_or}
 use Rattle.bits.specs.Index.{all_to}
+use Rattle.state.proofs.Listed.{listed}
+use Rattle.class_rules.specs.Class.{class_fits, no_class}
 use Rattle.state.proofs.valid.classes_fit.Goals as goal
 
-pub loop-k-init : goal.loop-k-init
-unfolding all_to
-loop-k-init c = (search rules, refl)
-
-pub loop-k-preserved : goal.loop-k-preserved
-unfolding all_to
-loop-k-preserved c = (search rules, rw (add-one, c.class_fits-ok.ensures, ← c.loop-k.invariant.1))
-
 pub returns : goal.returns
-returns c = let e : c.loop-k.k ≡ 4 = omega arith in rw e at c.loop-k.invariant.1
+returns c =
+    let long : length c.args.c ≡ 4 = search rules in
+    all_from_yields_List (class_fits) _ _ _ c.all.ensures.ran (YieldsList-from_slice c.args.c c.iter.ensures.rest) (λ x b q k. search rules)
+    ∙ listed (class_fits) no_class c.args.c
+    ∙ ap (all_to (λ i. (class_fits) (get_or c.args.c i no_class))) long

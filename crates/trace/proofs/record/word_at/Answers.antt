@@ -5,6 +5,4 @@ use Rattle.trace.proofs.Records.{part_bytes}
 use Rattle.trace.proofs.record.word_at.Goals as goal
 
 pub returns : goal.returns
-returns c =
-    let a = c.args in
-    omega (arith, part_bytes 4 4 a.at a.bytes.now c.requires)
+returns c = omega (arith, part_bytes 4 4 c.args.at c.args.bytes.now c.requires)

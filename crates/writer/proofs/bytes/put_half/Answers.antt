@@ -1,18 +1,11 @@
--- `bytes::put_half` meets its contract: four stores.
+-- `bytes::put_half` meets its contract: four bytes are written over.
 -- Assumes nothing.
+use mathlib.Core.Path.{◌∙◌}
 use native.Mathlib.Omega.{arith}
-use lib.ListN.{length-set}
-use Rattle.writer.proofs.StoreLaws.{put_bytes}
+use Rattle.bits.specs.Fields.{unpack}
+use Rattle.writer.proofs.StoreLaws.{put_part, four_bytes}
 use Rattle.writer.proofs.bytes.put_half.Goals as goal
 
-pub bounds-out-at-2 : goal.bounds-out-at-2
-bounds-out-at-2 c = simp length-set (omega arith)
-
-pub bounds-out-at-3 : goal.bounds-out-at-3
-bounds-out-at-3 c = simp length-set (omega arith)
-
-pub bounds-out-at-4 : goal.bounds-out-at-4
-bounds-out-at-4 c = simp length-set (omega arith)
-
 pub returns : goal.returns
-returns c = put_bytes c.args.out.now c.args.at c.args.x
+unfolding unpack
+returns c = put_part _ _ _ c.args.at _ (c.copy_from_slice.ensures.after ∙ c.to_be_bytes.ensures ∙ four_bytes c.args.x) (omega arith) c.requires

@@ -1,15 +1,12 @@
--- `bytes::put_seven` meets its contract: four bytes, and three stores.
+-- `bytes::put_seven` meets its contract: the first seven of eight bytes are written over.
 -- Assumes nothing.
-use lib.ListN.{length-set}
-use Rattle.writer.proofs.StoreLaws.{put_seven_law}
-use borrow.Author.Rules.{rules}
+use mathlib.Core.Path.{ap, ◌∙◌}
+use native.Mathlib.Omega.{arith}
+use lib.ListN.{take}
+use Rattle.bits.specs.Fields.{unpack}
+use Rattle.writer.proofs.StoreLaws.{put_part, seven_bytes}
 use Rattle.writer.proofs.bytes.put_seven.Goals as goal
 
-pub bounds-out-at-2 : goal.bounds-out-at-2
-bounds-out-at-2 c = simp length-set (search rules)
-
-pub bounds-out-at-3 : goal.bounds-out-at-3
-bounds-out-at-3 c = simp length-set (search rules)
-
 pub returns : goal.returns
-returns c = let begin = c in put_seven_law _ _ _ begin.args.w begin.ranges.w.fits c.put_half.ensures
+unfolding unpack
+returns c = put_part _ _ _ c.args.at _ (c.copy_from_slice.ensures.after ∙ ap (take 7) c.to_be_bytes.ensures ∙ seven_bytes c.args.w) (omega arith) c.requires

@@ -6,6 +6,7 @@ use Rattle.writer.specs.Lent.{word_at}
 use Rattle.writer.proofs.StoreLaws.{put_set}
 use Rattle.writer.proofs.records.put_wires.Goals as goal
 
-pub returns : goal.returns
-returns c =
-    let a = c.args in put_set _ _ _ a.at (word_at a.list.now a.i) (λ v. (c.shared_slice_known-1.given (a.i * words + v)).fits) c.put_words.ensures c.put_seven.ensures
+pub returns-clause-wrote : goal.returns-clause-wrote
+returns-clause-wrote c =
+    let a = c.args in
+    put_set _ _ _ a.at (word_at a.list.now a.i) (λ v. (c.type_inv.list (a.i * words + v)).fits) c.put_words.ensures c.put_seven.ensures

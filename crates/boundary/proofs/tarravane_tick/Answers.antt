@@ -1,6 +1,0 @@
--- `tarravane_tick` is the tick with the input that its arguments name.
--- Assumes nothing.
-use Rattle.boundary.proofs.tarravane_tick.Goals as goal
-
-pub returns : goal.returns
-returns c = rw (← c.access_by-access.ensures, ← c.sample_by-sample.ensures) c.tick.ensures

@@ -1,0 +1,19 @@
+// Lists by index, where an index past the end is no entry.
+ghost use Rattle.std.specs.Prelude.{◌≡◌, get_or};
+ghost use Rattle.rules.specs.State.{put};
+
+// Entry i, and `none` past the end.
+pub fn entry<T: Copy>(xs: &[T], i: usize, none: T) -> T
+    ensures { result ≡ get_or xs.now i none }
+{
+    xs.get(i).copied().unwrap_or(none)
+}
+
+// The list with w for entry i, where there is such an entry.
+pub fn put_entry<T: Copy, const N: usize>(xs: &mut [T; N], i: usize, w: T)
+    ensures { (d : T) → xs.new ≡ put N xs.old d i w }
+{
+    if i < N {
+        xs[i] = w;
+    }
+}

@@ -1,9 +1,0 @@
--- `record::pairs_at` meets its contract: four bytes, and one.
--- Assumes nothing.
-use Rattle.trace.proofs.Records.{pairs_tail}
-use Rattle.trace.proofs.record.pairs_at.Goals as goal
-
-pub returns : goal.returns
-returns c =
-    let a = c.args in
-    pairs_tail a.at a.bytes.now c.requires (λ i. (c.shared_slice_known-2-1.given i).fits) _ c.half_at-word.ensures

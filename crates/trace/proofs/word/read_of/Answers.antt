@@ -1,9 +1,0 @@
--- `word::read_of` meets its contract, answer by answer.
--- Assumes nothing.
-use Rattle.trace.proofs.word.read_of.Goals as goal
-
-pub returns-in-Done : goal.returns-in-Done
-returns-in-Done c = rw c.in-Done.is
-
-pub returns-in-Refused : goal.returns-in-Refused
-returns-in-Refused c = rw c.in-Refused.is
