@@ -7,9 +7,9 @@ use mathlib.Core.List.{List, ◌++◌, append_assoc}
 use native.Mathlib.Omega.{arith}
 use lib.ListN.{length}
 use Rattle.bits.proofs.BitLaws.{bit_bits_of}
-use Rattle.bits.proofs.IndexLaws.{each_ext, length_each}
+use Rattle.bits.proofs.IndexLaws.{at_each, each_ext, length_each}
 use Rattle.bits.specs.Bits.{bit, bits_of}
-use Rattle.calm_laws.proofs.CalmRuns.{calm_valid, calm_off, calm_next, valid_four, run_add, settled_now, settled_run, calm_changes_law}
+use Rattle.calm_laws.proofs.CalmRuns.{calm_valid, calm_next, valid_four, run_add, settled_now, settled_run, calm_changes_law}
 use Rattle.calm_laws.proofs.PlainTick.{bits_ext, assigned_is}
 use Rattle.calm_laws.specs.Four as four
 use Rattle.laws.specs.OutputMasks.{lines_on}
@@ -23,6 +23,9 @@ use Rattle.class_rules.specs.declared.Class.{Class}
 use Rattle.class_rules.specs.declared.Signals.{Signals}
 use Rattle.link_rules.specs.Senders.{sent_all}
 use Rattle.link_rules.specs.declared.Senders.{Senders}
+use Rattle.laws.proofs.Valid.KeepsClass.{step_valid}
+use Rattle.laws.proofs.Valid.ValidLaws.{facts, is_valid_law}
+use Rattle.laws.specs.Facts.{ClassValid}
 use Rattle.rules.specs.Samples.{heard, assigned}
 use Rattle.rules.specs.State.{is_on}
 use Rattle.rules.specs.Tick.{lines}
@@ -69,45 +72,66 @@ events_mask g w v off a e =
     bits_ext 4 (λ k. class_event (bit a k) (class_of g.classes k)) (calm_class_event g w)
     (λ k l. ap (λ (b : Bool). class_event b (class_of g.classes k)) (ap (λ (x : ℕ). bit x k) e ∙ bit_bits_of 4 _ k l ∙ assigned_is g w v off k))
 
--- ── the engine's n ticks of a settled state ──
+-- ── the engine's n ticks ──
 
-module _ (g : Handler) (w : Wires) (v : valid g ≡ true) (off : is_on g ≡ false) (t : Settled g w) (e : ℕ) (x : e ≡ bits_of 4 (calm_class_event g w))
-    (old : List ℕ) (n : ℕ) (ds : List Class) (ts : Senders) (left : List ℕ)
-    (r : Running (met e g.interrupts.state) g.classes g.links.senders settle_ticks old n ds ts left) where
+-- they leave the classes valid
+after_valid : (s : ℕ → Signals) (n : ℕ) (cs : List Class) → ((k : ℕ) → k < 4 → ClassValid (class_of cs k))
+    → (k : ℕ) → k < 4 → ClassValid (class_of (four.after s n cs) k)
+unfolding four.after four_step
+after_valid s zero cs v k l = v k l
+after_valid s (suc n) cs v k l =
+    subst ClassValid (sym (at_each 4 (λ j. class_step (s j) (class_of (four.after s n cs) j)) k no_class l))
+    (step_valid (s k) (class_of (four.after s n cs) k) (after_valid s n cs v k l))
+
+-- and the state
+pub moved_valid : (g : Handler) (s : ℕ → Signals) (n : ℕ) (ds : List Class) (ts : Senders) → valid g ≡ true → ds ≡ four.after s n g.classes
+    → valid (moved ds ts g) ≡ true
+moved_valid g s n ds ts v e =
+    let f = facts g v in
+    is_valid_law (moved ds ts g)
+    (record {
+      n = f.n;
+      state = f.state;
+      enable = f.enable;
+      locals = f.locals;
+      alerts = f.alerts;
+      classes = λ k l. subst (λ (cs : List Class). ClassValid (class_of cs k)) (sym e) (after_valid s n g.classes f.classes k l);
+      timer = f.timer;
+      pings = f.pings;
+      stages = f.stages;
+    })
+
+pub moved_lines : (ds : List Class) (ts : Senders) (g : Handler) → lines_on ds ≡ lines (moved ds ts g)
+unfolding lines lines_on
+moved_lines ds ts g = refl
+
+-- of a settled state they are that many plain ticks
+module _ (g : Handler) (w : Wires) (good : valid g ≡ true) (off : is_on g ≡ false) (n : ℕ) (t : Settled g w) where
   abbrev s : ℕ → Signals
-  s = met e g.interrupts.state
+  s = met (bits_of 4 (calm_class_event g w)) g.interrupts.state
 
   -- what the classes meet, by masks
   meets_met : (k : ℕ) → k < 4 → s k ≡ calm_signals g w k
   unfolding met calm_signals
   meets_met k l =
       ap₂ (λ (a b : Bool). record { event = a; interrupt = b; clear = false })
-      (ap (λ (y : ℕ). bit y k) x ∙ bit_bits_of 4 (calm_class_event g w) k l)
+      (bit_bits_of 4 (calm_class_event g w) k l)
       (ap (λ (y : ℕ). bit y k) (sym t.bits) ∙ bit_bits_of 4 (calm_interrupt g w) k l)
 
-  pub rest_state : moved ds ts g ≡ calm_run g w n
-  rest_state =
-      ap₂ (λ (cs : List Class) (ss : Senders). moved cs ss g)
-      (r.classes ∙ after_ext s (calm_signals g w) meets_met n g.classes)
-      (r.senders ∙ senders_ext s (calm_signals g w) meets_met n g.classes g.links.senders)
-      ∙ sym (settled_run g w t v off n)
+  module _ {most : ℕ} {old left : List ℕ} {ds : List Class} {ts : Senders} (run : Running s g.classes g.links.senders settle_ticks most old n ds ts left) where
+    pub rest_state : moved ds ts g ≡ calm_run g w n
+    rest_state =
+        ap₂ (λ (cs : List Class) (ss : Senders). moved cs ss g)
+        (run.classes ∙ after_ext s (calm_signals g w) meets_met n g.classes)
+        (run.senders ∙ senders_ext s (calm_signals g w) meets_met n g.classes g.links.senders)
+        ∙ sym (settled_run g w t good off n)
 
-  pub rest_words : left ≡ old ++ changes (calm_signals g w) settle_ticks n g.classes
-  rest_words = r.words ∙ ap (λ (ws : List ℕ). old ++ ws) (changes_ext s (calm_signals g w) meets_met settle_ticks n g.classes)
-
-  pub rest_valid : valid (moved ds ts g) ≡ true
-  rest_valid = ap valid rest_state ∙ calm_valid g w v n
-
-  pub rest_off : is_on (moved ds ts g) ≡ false
-  rest_off = ap is_on rest_state ∙ calm_off g w v off n
-
-pub moved_lines : (ds : List Class) (ts : Senders) (g : Handler) → lines_on ds ≡ lines (moved ds ts g)
-unfolding lines lines_on
-moved_lines ds ts g = refl
+    pub rest_words : left ≡ old ++ changes (calm_signals g w) settle_ticks n g.classes
+    rest_words = run.words ∙ ap (λ (ws : List ℕ). old ++ ws) (changes_ext s (calm_signals g w) meets_met settle_ticks n g.classes)
 
 -- ── plain ticks that settle a state, n ticks of the engine, and one plain tick more ──
 
-pub settled_by : (c d : Ticking) (o : Output) → Walk c settle_ticks d o → Settled d.handler d.wires
+pub settled_by : {most : ℕ} (c d : Ticking most) (o : Output) → Walk c settle_ticks d o → Settled d.handler d.wires
 settled_by c d o r =
     subst (λ (w : Wires). Settled d.handler w) (sym r.wires)
     (subst (λ (g : Handler). Settled g c.wires) (sym r.handler) (settled_now c.handler c.wires c.good c.off))
@@ -116,24 +140,25 @@ four_by : (h : Handler) (w : Wires) → valid h ≡ true → is_on h ≡ false �
 unfolding calm_after four_step
 four_by h w v off = ap (λ (g : Handler). length g.classes) (calm_next h w v off settle_before) ∙ length_each 4 _
 
-pub fits_by : (c d : Ticking) (o : Output) → Walk c settle_ticks d o → FourFit d.handler.classes
+pub fits_by : {most : ℕ} (c d : Ticking most) (o : Output) → Walk c settle_ticks d o → FourFit d.handler.classes
 fits_by c d o r =
     subst (λ (g : Handler). FourFit g.classes) (sym r.handler)
     (valid_four (calm_run c.handler c.wires settle_ticks) (calm_valid c.handler c.wires c.good settle_ticks) (four_by c.handler c.wires c.good c.off))
 
-pub whole : (c d e f : Ticking) (n t : ℕ) (o p : Output) → Walk c settle_ticks d o → RestBy d n e → settle_ticks + n + 1 ≡ t → NextBy e t f p → Walk c t f p
+pub whole : {most : ℕ} (c d e f : Ticking most) (n t : ℕ) (o p : Output) → Walk c settle_ticks d o → RestBy d n e → settle_ticks + n + 1 ≡ t → NextBy e t f p → Walk c t f p
 whole c d e f n t o p r q u x =
     let h = c.handler in
     let w = c.wires in
     let g = calm_run h w settle_ticks in
+    let z : Settled d.handler d.wires = settled_by c d o r in
     let y : suc (settle_ticks + n) ≡ t = omega (arith, u) in
     let walked : Walk c (settle_ticks + n) e (calm_output h w (settle_ticks + n)) =
     record {
-      handler = q.handler ∙ ap₂ (λ (a : Handler) (b : Wires). calm_run a b n) r.handler r.wires ∙ sym (run_add h w settle_ticks n);
+      handler = q.handler z ∙ ap₂ (λ (a : Handler) (b : Wires). calm_run a b n) r.handler r.wires ∙ sym (run_add h w settle_ticks n);
       output = refl;
       wires = q.wires ∙ r.wires;
       words =
-          q.words
+          q.words z
           ∙ (λ i. r.words i ++ changes (calm_signals (r.handler i) (r.wires i)) settle_ticks n (r.handler i).classes)
           ∙ append_assoc c.changes (calm_changes h w settle_ticks) (changes (calm_signals g w) settle_ticks n g.classes)
           ∙ ap (λ (ws : List ℕ). c.changes ++ ws) (sym (calm_changes_law h w c.good c.off settle_ticks (settled_now h w c.good c.off) n));

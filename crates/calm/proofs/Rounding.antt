@@ -24,8 +24,8 @@ use Rattle.calm.specs.declared.round.Round.{Round}
 use Rattle.calm.proofs.Standing.{min_least}
 
 -- n ticks are done; the round takes m more and one
-module _ (s : ℕ → Signals) (k : (j : ℕ) → (s j).clear ≡ false) (cs : List Class) (ss : Senders) (v : FourFit cs) (from : ℕ) (old : List ℕ)
-    (n : ℕ) (ds : List Class) (ts : Senders) (ws : List ℕ) (r : Running s cs ss from old n ds ts ws)
+module _ (s : ℕ → Signals) (k : (j : ℕ) → (s j).clear ≡ false) (cs : List Class) (ss : Senders) (v : FourFit cs) (from most : ℕ) (old : List ℕ)
+    (n : ℕ) (ds : List Class) (ts : Senders) (ws : List ℕ) (r : Running s cs ss from most old n ds ts ws)
     (t : ℕ) (small : t < 2 ^ 32) (more : n < t) (m : ℕ) (time : m ≡ min (t - n - 1) (four_stands s ds)) (q : Round) (g : RoundBy s ds ts m q) where
   time_is : m ≡ least (t - n - 1) (four_stands s ds)
   time_is = time ∙ min_least (t - n - 1) (four_stands s ds)
@@ -44,21 +44,21 @@ module _ (s : ℕ → Signals) (k : (j : ℕ) → (s j).clear ≡ false) (cs : L
       g.senders
       ∙ ap (λ (xs : List Class). sent_all (senders_for (lines_on (four_jump s m ds)) m ts) (steady (lines_on xs))) (sym g.classes)
 
-  pub entry : (q.lines ≡ q.before → ⊥) → length ws < 20
+  pub entry : (q.lines ≡ q.before → ⊥) → length ws < most
   entry d =
-      round_room s k cs ss v from old n ds ts ws r m stands (four_jump s m ds) q.moved.classes refl g.classes
+      round_room s k cs ss v from most old n ds ts ws r m stands (four_jump s m ds) q.moved.classes refl g.classes
       (senders_for (lines_on (four_jump s m ds)) m ts) q.moved.senders refl stepped (λ l. d (lines_is ∙ l ∙ sym g.before))
 
-  pub next : Running s cs ss from old (n + (m + 1)) q.moved.classes q.moved.senders (ws ++ change q.before q.lines (from + (n + (m + 1))))
+  pub next : Running s cs ss from most old (n + (m + 1)) q.moved.classes q.moved.senders (ws ++ change q.before q.lines (from + (n + (m + 1))))
   next =
       let e : n + (m + 1) ≡ n + m + 1 = omega arith in
       rw (e, g.before, lines_is)
-      (round_next s k cs ss v from old n ds ts ws r m stands (four_jump s m ds) q.moved.classes refl g.classes
+      (round_next s k cs ss v from most old n ds ts ws r m stands (four_jump s m ds) q.moved.classes refl g.classes
       (senders_for (lines_on (four_jump s m ds)) m ts) q.moved.senders refl stepped)
 
   pub falls : moves_in s q.moved.classes + num (ltb (n + (m + 1)) t) < moves_in s ds + num (ltb n t)
   falls =
       let e : n + (m + 1) ≡ n + m + 1 = omega arith in
       rw e
-      (round_falls s k cs ss v from old n ds ts ws r m stands (four_jump s m ds) q.moved.classes refl g.classes
+      (round_falls s k cs ss v from most old n ds ts ws r m stands (four_jump s m ds) q.moved.classes refl g.classes
       (senders_for (lines_on (four_jump s m ds)) m ts) q.moved.senders refl stepped t small more time_is)

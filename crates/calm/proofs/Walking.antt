@@ -45,7 +45,7 @@ module _ (h : Handler) (w : Wires) (v : valid h ≡ true) (off : is_on h ≡ fal
   pub next_lines : t.output.lines ≡ lines t.handler
   next_lines = ticked_lines h (calm_input w h) v
 
-  module _ (ws : List ℕ) (on : ℕ) (l : on ≡ lines h) (r : length ws + changes_in h.classes ≤ 20) where
+  module _ (most : ℕ) (ws : List ℕ) (on : ℕ) (l : on ≡ lines h) (r : length ws + changes_in h.classes ≤ most) where
     -- a change of a line leaves fewer that can come
     fewer : (t.output.lines ≡ on → ⊥) → changes_in t.handler.classes < changes_in h.classes
     unfolding lines lines_on calm_after
@@ -53,14 +53,14 @@ module _ (h : Handler) (w : Wires) (v : valid h ≡ true) (off : is_on h ≡ fal
         rw state_is
         (step_changes_fall (calm_signals h w) (no_clear_in h w) h.classes (λ x. d (next_lines ∙ ap lines state_is ∙ x ∙ sym l)))
 
-    pub next_entry : (t.output.lines ≡ on → ⊥) → length ws < 20
+    pub next_entry : (t.output.lines ≡ on → ⊥) → length ws < most
     next_entry d = omega (arith, r, fewer d)
 
-    pub next_room : (tick : ℕ) → length (ws ++ change on t.output.lines tick) + changes_in t.handler.classes ≤ 20
+    pub next_room : (tick : ℕ) → length (ws ++ change on t.output.lines tick) + changes_in t.handler.classes ≤ most
     unfolding calm_after
     next_room tick =
         let left : changes_in t.handler.classes ≤ changes_in h.classes = rw state_is (step_changes_left (calm_signals h w) (no_clear_in h w) h.classes) in
-        change_room ws on t.output.lines tick (changes_in h.classes) (changes_in t.handler.classes) r left fewer
+        change_room most ws on t.output.lines tick (changes_in h.classes) (changes_in t.handler.classes) r left fewer
 
 -- ── step 5 of a state, with all pairs at (0,1) ──
 
@@ -72,11 +72,11 @@ given_by h n i l e x y =
 
 -- ── n ticks ──
 
-pub walk_none : (c : Ticking) (o : Output) → o ≡ given_output c.handler → Walk c 0 c o
+pub walk_none : {most : ℕ} (c : Ticking most) (o : Output) → o ≡ given_output c.handler → Walk c 0 c o
 unfolding calm_run calm_output calm_changes
 walk_none c o e = record { handler = refl; output = e; wires = refl; words = sym (append-nil c.changes) }
 
-pub walk_next : (c d e : Ticking) (n : ℕ) (o p : Output) → Walk c n d o → NextBy d (suc n) e p → Walk c (suc n) e p
+pub walk_next : {most : ℕ} (c d e : Ticking most) (n : ℕ) (o p : Output) → Walk c n d o → NextBy d (suc n) e p → Walk c (suc n) e p
 unfolding calm_run calm_output calm_changes
 walk_next c d e n o p r t =
     let h = c.handler in

@@ -44,7 +44,7 @@ pub fn calm(h: Handler, wires: Wires, ticks: u32, out: &mut [u64]) -> Calmed
     if let Err(bar) = admit(&h, out) {
         return refused(h, bar);
     }
-    let mut ticking = Ticking::new(h, wires);
+    let mut ticking = Ticking::<ENTRIES>::new(h, wires);
     let output = ticking.run(u64::from(ticks));
     Calmed {
         handler: ticking.handler,

@@ -8,34 +8,34 @@ use std::marker::Model;
 // As many as a call can have: five for each class.
 pub const ENTRIES: usize = 20;
 
-// The words so far, oldest first.
+// The words so far, oldest first; MOST of them at most.
 #[derive(Drop)]
-pub struct Changes {
-    words: [u64; ENTRIES],
+pub struct Changes<const MOST: usize> {
+    words: [u64; MOST],
     count: usize,
 }
 
-impl Model for Changes {
+impl<const MOST: usize> Model for Changes<MOST> {
     ghost Value = { List ℕ };
 
     ghost view = { λ c. take c.count c.words };
 
-    ghost invariant = { λ c. c.count ≤ 20 };
+    ghost invariant = { λ c. c.count ≤ MOST };
 }
 
-impl Changes {
+impl<const MOST: usize> Changes<MOST> {
     pub fn new() -> Self
         ensures { result ≡ [] }
     {
         Changes {
-            words: [0; ENTRIES],
+            words: [0; MOST],
             count: 0,
         }
     }
 
     // The tick of this number, with the lines after it and before it: a word if they differ.
     pub fn note(&mut self, before: u32, lines: u32, tick: u64)
-        requires { (tick < 2 ^ 32) × (lines ≢ before → length self.old < 20) }
+        requires { (tick < 2 ^ 32) × (lines ≢ before → length self.old < MOST) }
         ensures { self.new ≡ self.old ++ change before lines tick }
     {
         if lines != before {
@@ -44,7 +44,7 @@ impl Changes {
     }
 
     fn push(&mut self, word: u64)
-        requires { length self.old < 20 }
+        requires { length self.old < MOST }
         ensures { self.new ≡ self.old ++ word ∷ [] }
     {
         self.words[self.count] = word;
@@ -53,9 +53,9 @@ impl Changes {
 
     // Writes the words to the start of the list, and says how many they are.
     pub fn store(&self, out: &mut [u64]) -> usize
-        requires { 20 ≤ length out.old }
+        requires { length self.now ≤ length out.old }
         ensures written { result ≡ length self.now }
-        ensures most { result ≤ 20 }
+        ensures most { result ≤ MOST }
         ensures words { out.new ≡ self.now ++ drop (length self.now) out.old }
     {
         out[..self.count].copy_from_slice(&self.words[..self.count]);
@@ -73,7 +73,7 @@ fn line(lines: u32, e: u32) -> u64
 
 // Lines (4 bits, line 0 first), 28 zeros, tick.
 #[tactic(auto, unfolding(calm_rules::specs::Ticks::change_word, bits::specs::Fields::pack))]
-fn change_word(lines: u32, tick: u64) -> u64
+pub fn change_word(lines: u32, tick: u64) -> u64
     requires { tick < 2 ^ 32 }
     ensures { result ≡ change_word lines tick }
 {

@@ -7,9 +7,15 @@ use crate::four::Met;
 use crate::round::{Moved, go_round};
 
 // The n ticks that follow tick `from`, with the changes before them. Kept: a `while`, since a round is not one tick.
-pub fn advance(start: Moved, signals: Met, from: u64, n: u64, changes: &mut Changes) -> Moved
-    requires { FourFit start.classes × (from + n < 2 ^ 32) × (length changes.old + changes_in start.classes ≤ 20) }
-    ensures { Running (met signals.events signals.interrupts) start.classes start.senders from changes.old n result.classes result.senders changes.new }
+pub fn advance<const MOST: usize>(
+    start: Moved,
+    signals: Met,
+    from: u64,
+    n: u64,
+    changes: &mut Changes<MOST>,
+) -> Moved
+    requires { FourFit start.classes × (from + n < 2 ^ 32) × (length changes.old + changes_in start.classes ≤ MOST) }
+    ensures { Running (met signals.events signals.interrupts) start.classes start.senders from MOST changes.old n result.classes result.senders changes.new }
 {
     let mut now = start;
     let mut done: u64 = 0;

@@ -67,7 +67,7 @@ impl Met {
 
 // The classes that have an event, as a mask, from the mask of what is assigned.
 #[tactic(auto, unfolding(bits::specs::Bits::bits_of))]
-pub fn events_of(classes: &[Class; 4], assigned: u8) -> u8
+pub(crate) fn events_of(classes: &[Class; 4], assigned: u8) -> u8
     ensures { result ≡ bits_of 4 (λ k. class_event (bit assigned k) (class_of classes.now k)) }
 {
     let bit = |k: usize| num(event(is_set(u16::from(assigned), k as u32), classes[k]));

@@ -8,7 +8,7 @@ use class::state::state_of;
 use class_rules::{Class, ClassState, Signals};
 
 // More ticks than "0 to 4294967295".
-const FOREVER: u64 = 1 << 32;
+pub const FOREVER: u64 = 1 << 32;
 
 // What a count lacks of a bound, 0 where it is there.
 fn lack(bound: u32, count: u32) -> u64

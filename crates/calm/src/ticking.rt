@@ -2,7 +2,7 @@
 ghost use Rattle.std.specs.Prelude.{◌≡◌, true, false, ◌+◌, ◌<◌, ◌≤◌, ◌^◌, [], length};
 ghost use Rattle.calm_laws.specs.Four.{changes_in, FourFit};
 ghost use Rattle.bits.specs.Bits.{bits_of};
-ghost use Rattle.calm_laws.specs.Settled.{calm_class_event, settle_ticks, Settled};
+ghost use Rattle.calm_laws.specs.Settled.{calm_class_event, settle_ticks};
 ghost use Rattle.calm_rules.specs.Ticks.{calm_input, given_output};
 ghost use Rattle.rules.specs.State.{is_on};
 ghost use Rattle.rules.specs.Tick.{lines};
@@ -20,28 +20,28 @@ use samples::hear::hear;
 use samples::sample;
 
 // As many plain ticks settle any state.
-const SETTLE: u64 = 3;
+pub const SETTLE: u64 = 3;
 
 // A state that calm ticks run from, with its wires, its lines and the changes so far: it is valid, its ping timer is off, and there is room for the
 // changes that can still come.
 #[derive(Drop)]
-pub struct Ticking {
+pub struct Ticking<const MOST: usize> {
     pub handler: Handler,
     pub wires: Wires,
     pub on: u32,
-    pub changes: Changes,
+    pub changes: Changes<MOST>,
     ghost good: { valid handler ≡ true },
     ghost off: { is_on handler ≡ false },
     ghost lit: { on ≡ lines handler },
-    ghost room: { length changes + changes_in handler.classes ≤ 20 },
+    ghost room: { length changes + changes_in handler.classes ≤ MOST },
 }
 
-impl Ticking {
+impl<const MOST: usize> Ticking<MOST> {
     ghost use Rattle.calm.specs.Walk.{NextBy, Walk, RestBy};
 
     // Before the first tick.
     pub fn new(h: Handler, wires: Wires) -> Self
-        requires { (valid h ≡ true) × (is_on h ≡ false) }
+        requires { (valid h ≡ true) × (is_on h ≡ false) × (changes_in h.classes ≤ MOST) }
         ensures { (result.handler ≡ h) × (result.wires ≡ wires) × (result.changes ≡ []) }
     {
         Ticking {
@@ -67,7 +67,7 @@ impl Ticking {
     }
 
     // One tick more, of this number.
-    fn step(&mut self, number: u64) -> Output
+    pub fn step(&mut self, number: u64) -> Output
         requires { number < 2 ^ 32 }
         ensures { NextBy self.old number self.new result }
     {
@@ -79,7 +79,7 @@ impl Ticking {
     }
 
     // n ticks, one by one.
-    fn walk(&mut self, n: u64) -> Output
+    pub fn walk(&mut self, n: u64) -> Output
         requires { n < 2 ^ 32 }
         ensures { Walk self.old n self.new result }
     {
@@ -105,9 +105,10 @@ impl Ticking {
         events_of(&self.handler.classes, sampled.assigned)
     }
 
-    // n ticks after those that settled it: they move the classes and the senders alone, and each class meets the same in every tick.
-    fn rest(&mut self, n: u64)
-        requires { Settled self.old.handler self.old.wires × FourFit self.old.handler.classes × (settle_ticks + n < 2 ^ 32) }
+    // n ticks by the engine, after those that settle a state: they move the classes and the senders alone, and each class meets the same in every
+    // tick.
+    pub fn rest(&mut self, n: u64)
+        requires { FourFit self.old.handler.classes × (settle_ticks + n < 2 ^ 32) }
         ensures { RestBy self.old n self.new }
     {
         let signals = Met {
@@ -127,7 +128,7 @@ impl Ticking {
     }
 
     // n ticks: a few plain ones that settle the state, the rest but one by the engine, and the last, whose outputs are asked for, a plain one too.
-    pub fn run(&mut self, n: u64) -> Output
+    pub(crate) fn run(&mut self, n: u64) -> Output
         requires { n < 2 ^ 32 }
         ensures { Walk self.old n self.new result }
     {

@@ -226,7 +226,7 @@ module _ (h : Handler) (w : Wires) (v : valid h ≡ true) (off : is_on h ≡ fal
       let now : (calm_output h w (suc n)).lines ≡ lines_on (four_step s cs) =
       output_lines h w v (suc n) ∙ lines_four (calm_run h w (suc n)) ∙ ap lines_on (next_classes n) in
       rw (ap changes_in (next_classes n))
-      (change_room (calm_changes h w n) _ _ (suc n) (changes_in cs) (changes_in (four_step s cs)) r
+      (change_room 20 (calm_changes h w n) _ _ (suc n) (changes_in cs) (changes_in (four_step s cs)) r
       (step_changes_left s (no_clear_in (calm_run h w n) w) cs)
       (λ d. step_changes_fall s (no_clear_in (calm_run h w n) w) cs (λ x. d (now ∙ x ∙ sym before))))
 

@@ -17,7 +17,6 @@ use Rattle.class_rules.specs.declared.Signals.{Signals}
 use Rattle.calm_laws.specs.Stand.{least}
 use Rattle.link_rules.specs.Senders.{sent_all}
 use Rattle.link_rules.specs.declared.Senders.{Senders}
-use Rattle.calm_rules.specs.Call.{entries}
 use Rattle.calm_rules.specs.Ticks.{change_word, change}
 use Rattle.laws.specs.OutputMasks.{lines_on}
 use Rattle.calm_laws.specs.Four.{class_of, met, four_step, after, changes, four_stands, four_jump, changes_in, moves_in, FourFit, senders_after, Running}
@@ -33,19 +32,19 @@ changes_twenty cs =
     omega (arith, changes_most (class_of cs 0), changes_most (class_of cs 1), changes_most (class_of cs 2), changes_most (class_of cs 3))
 
 -- what a tick's change takes of the room: a change of a line leaves fewer that can come
-pub change_room : (ws : List ℕ) (before lines t left next : ℕ) → length ws + left ≤ entries → next ≤ left → ((lines ≡ before → ⊥) → next < left)
-    → length (ws ++ change before lines t) + next ≤ entries
-change_room ws before lines t left next h l d = go (ℕ_discrete lines before)
+pub change_room : (most : ℕ) (ws : List ℕ) (before lines t left next : ℕ) → length ws + left ≤ most → next ≤ left → ((lines ≡ before → ⊥) → next < left)
+    → length (ws ++ change before lines t) + next ≤ most
+change_room most ws before lines t left next h l d = go (ℕ_discrete lines before)
   where
-    go : Dec (lines ≡ before) → length (ws ++ change before lines t) + next ≤ entries
+    go : Dec (lines ≡ before) → length (ws ++ change before lines t) + next ≤ most
     go (yes e) = rw (eq-eqb lines before e, append-nil) (omega (arith, h, l))
     go (no e) = rw (ne_eqb lines before e, length-append ws (change_word lines t ∷ [])) (omega (arith, h, d e))
 
-module _ (s : ℕ → Signals) (k : (j : ℕ) → (s j).clear ≡ false) (cs : List Class) (ss : Senders) (v : FourFit cs) (from : ℕ) (old : List ℕ) where
+module _ (s : ℕ → Signals) (k : (j : ℕ) → (s j).clear ≡ false) (cs : List Class) (ss : Senders) (v : FourFit cs) (from most : ℕ) (old : List ℕ) where
   abbrev At : ℕ → List Class → Senders → List ℕ → Type 0
-  At n ds ts ws = Running s cs ss from old n ds ts ws
+  At n ds ts ws = Running s cs ss from most old n ds ts ws
 
-  pub start : length old + changes_in cs ≤ entries → At 0 cs ss old
+  pub start : length old + changes_in cs ≤ most → At 0 cs ss old
   unfolding after changes senders_after
   start h = record { classes = refl; senders = refl; words = sym (append-nil old); room = h }
 
@@ -110,7 +109,7 @@ module _ (s : ℕ → Signals) (k : (j : ℕ) → (s j).clear ≡ false) (cs : L
     noted_is = ap₂ (λ (x y : ℕ). changes s from n cs ++ change x y (from + suc n)) lines_before lines_after
 
     -- there is room for it
-    pub room_for : (lines_on (four_step s ds) ≡ lines_on ds → ⊥) → length ws < entries
+    pub room_for : (lines_on (four_step s ds) ≡ lines_on ds → ⊥) → length ws < most
     room_for d = omega (arith, r.room, step_changes_fall s k ds d)
 
     pub next : At (suc n) (four_step s ds) (sent_all ts (steady (lines_on (four_step s ds)))) (ws ++ noted)
@@ -123,7 +122,7 @@ module _ (s : ℕ → Signals) (k : (j : ℕ) → (s j).clear ≡ false) (cs : L
               ∙ append_assoc old (changes s from n cs) noted
               ∙ ap (λ (ys : List ℕ). old ++ ys) noted_is;
           room =
-              change_room ws (lines_on ds) (lines_on (four_step s ds)) (from + suc n) (changes_in ds) (changes_in (four_step s ds)) r.room
+              change_room most ws (lines_on ds) (lines_on (four_step s ds)) (from + suc n) (changes_in ds) (changes_in (four_step s ds)) r.room
               (step_changes_left s k ds) (step_changes_fall s k ds);
         }
 
@@ -158,27 +157,27 @@ round_less s k ds v n done m h l e = go (dec_lt (four_stands s ds) (n - done - 1
 
 -- ── a round as the code takes it: a jump of m ticks to js and us, and a plain tick to ns and xs ──
 
-module _ (s : ℕ → Signals) (k : (j : ℕ) → (s j).clear ≡ false) (cs : List Class) (ss : Senders) (v : FourFit cs) (from : ℕ) (old : List ℕ)
-    (n : ℕ) (ds : List Class) (ts : Senders) (ws : List ℕ) (r : Running s cs ss from old n ds ts ws)
+module _ (s : ℕ → Signals) (k : (j : ℕ) → (s j).clear ≡ false) (cs : List Class) (ss : Senders) (v : FourFit cs) (from most : ℕ) (old : List ℕ)
+    (n : ℕ) (ds : List Class) (ts : Senders) (ws : List ℕ) (r : Running s cs ss from most old n ds ts ws)
     (m : ℕ) (h : m ≤ four_stands s ds) (js ns : List Class) (j : js ≡ four_jump s m ds) (e : ns ≡ four_step s js)
     (us xs : Senders) (u : us ≡ senders_for (lines_on js) m ts) (x : xs ≡ sent_all us (steady (lines_on ns))) where
   fit : FourFit ds
-  fit = now_fit s k cs ss v from old n ds ts ws r
+  fit = now_fit s k cs ss v from most old n ds ts ws r
 
   still : lines_on js ≡ lines_on ds
   still = ap lines_on (j ∙ jump_after s k ds m fit h) ∙ jump_lines s k ds m fit h
 
-  jumped_to : Running s cs ss from old (n + m) js us ws
+  jumped_to : Running s cs ss from most old (n + m) js us ws
   jumped_to =
-      subst (λ (z : Senders). Running s cs ss from old (n + m) js z ws) (ap (λ (l : ℕ). senders_for l m ts) (sym still) ∙ sym u)
-      (subst (λ (ys : List Class). Running s cs ss from old (n + m) ys (senders_for (lines_on ds) m ts) ws) (sym j)
-      (jump s k cs ss v from old n ds ts ws r m h))
+      subst (λ (z : Senders). Running s cs ss from most old (n + m) js z ws) (ap (λ (l : ℕ). senders_for l m ts) (sym still) ∙ sym u)
+      (subst (λ (ys : List Class). Running s cs ss from most old (n + m) ys (senders_for (lines_on ds) m ts) ws) (sym j)
+      (jump s k cs ss v from most old n ds ts ws r m h))
 
-  pub round_room : (lines_on ns ≡ lines_on js → ⊥) → length ws < entries
-  round_room d = room_for s k cs ss v from old (n + m) js us ws jumped_to (λ l. d (ap lines_on e ∙ l))
+  pub round_room : (lines_on ns ≡ lines_on js → ⊥) → length ws < most
+  round_room d = room_for s k cs ss v from most old (n + m) js us ws jumped_to (λ l. d (ap lines_on e ∙ l))
 
-  pub round_next : Running s cs ss from old (n + m + 1) ns xs (ws ++ change (lines_on js) (lines_on ns) (from + (n + m + 1)))
-  round_next = rw (add-one (n + m), x, e) (next s k cs ss v from old (n + m) js us ws jumped_to)
+  pub round_next : Running s cs ss from most old (n + m + 1) ns xs (ws ++ change (lines_on js) (lines_on ns) (from + (n + m + 1)))
+  round_next = rw (add-one (n + m), x, e) (next s k cs ss v from most old (n + m) js us ws jumped_to)
 
   -- what the round leaves of the measure, of t ticks in all
   pub round_falls : (t : ℕ) → t < 2 ^ 32 → n < t → m ≡ least (t - n - 1) (four_stands s ds)

@@ -10,7 +10,6 @@ use Rattle.class_rules.specs.declared.Signals.{Signals}
 use Rattle.laws.specs.OutputMasks.{lines_on}
 use Rattle.link_rules.specs.Senders.{sent_all}
 use Rattle.link_rules.specs.declared.Senders.{Senders}
-use Rattle.calm_rules.specs.Call.{entries}
 use Rattle.calm_rules.specs.Ticks.{change}
 use Rattle.calm_laws.specs.Stand.{least, stands, jumped, Fits}
 use Rattle.calm_laws.specs.Rank.{changes_left, moves_left}
@@ -73,10 +72,10 @@ pub record FourFit (cs : List Class) : Type 0 where
 
 -- ── the engine on its way ──
 
--- n ticks after tick `from` have led from cs and ss to ds and ts; the words of their changes follow those before them, with room for those that can
--- still come
-pub record Running (s : ℕ → Signals) (cs : List Class) (ss : Senders) (from : ℕ) (old : List ℕ) (n : ℕ) (ds : List Class) (ts : Senders) (left : List ℕ) : Type 0 where
+-- n ticks after tick `from` have led from cs and ss to ds and ts; the words of their changes follow those before them, and with those that can
+-- still come they are at most `most`
+pub record Running (s : ℕ → Signals) (cs : List Class) (ss : Senders) (from most : ℕ) (old : List ℕ) (n : ℕ) (ds : List Class) (ts : Senders) (left : List ℕ) : Type 0 where
   pub classes : ds ≡ after s n cs
   pub senders : ts ≡ senders_after s n cs ss
   pub words : left ≡ old ++ changes s from n cs
-  pub room : length left + changes_in ds ≤ entries
+  pub room : length left + changes_in ds ≤ most

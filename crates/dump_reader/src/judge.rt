@@ -13,17 +13,18 @@ impl Reader<'_> {
     ghost use Rattle.dump_rules.specs.Reader.{body_format, dump_format};
     ghost use Rattle.dump_reader.specs.Reads.{Reads};
 
-    // The classes, all causes, all locks, zeros to a full byte, and the stages.
+    // The classes, all causes, all locks, zeros to a full byte, and the stages. Registers are counted where the bytes come to them: a dump that is cut
+    // before has none to count.
     fn body(&mut self, n: usize) -> Result<(), Unread>
         ensures { Reads (body_format n) self.old self.new result }
     {
-        let causes = Kind::Cause.how_many(n);
-        let locks = Kind::Lock.how_many(n);
-        let shadowed = Shadowed::all(n);
         self.classes()?;
+        let causes = Kind::Cause.how_many(n);
         self.any(causes)?;
+        let locks = Kind::Lock.how_many(n);
         self.any(locks)?;
         self.number(zeros_behind(causes, locks), 0)?;
+        let shadowed = Shadowed::all(n);
         let m = self.number(16, shadowed.most() as u64)?;
         self.stages(shadowed, m as usize)
     }

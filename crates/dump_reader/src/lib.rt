@@ -5,3 +5,4 @@ pub mod judge;
 pub mod places;
 mod reader;
 mod stages;
+pub mod steps;

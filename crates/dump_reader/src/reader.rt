@@ -3,6 +3,7 @@ ghost use Rattle.std.specs.Prelude.{◌≡◌, ◌*◌, ◌≤◌, length};
 ghost use Rattle.class_rules.specs.Class.{state_of, state_fits, count_fits};
 
 use crate::places::take_bits;
+use crate::steps::step;
 use dump_rules::Unread;
 
 const CLASSES: usize = 4;
@@ -51,13 +52,7 @@ impl<'a> Reader<'a> {
     pub(crate) fn step(&mut self, w: usize, fine: bool) -> Result<(), Unread>
         ensures { Came (step_by (8 * length self.old.bytes.now) self.old.at w fine) self.old self.new result }
     {
-        if !fine {
-            return Err(Unread::NoDump);
-        }
-        if w > self.left() {
-            return Err(Unread::CutDump);
-        }
-        self.at += w;
+        self.at = step(8 * self.bytes.len(), self.at, w, fine)?;
         Ok(())
     }
 

@@ -14,7 +14,7 @@ impl<'a> Pen<'a> {
     ghost use Rattle.dump_writer.specs.Puts.{Puts};
 
     fn push(&mut self, b: bool)
-        requires { (self.old.at < 8 * length self.old.out.now) × (self.old.at ≤ 1000000) }
+        requires { (self.old.at < 8 * length self.old.out.now) × (self.old.at < 1000064) }
         ensures { Puts (b ∷ []) self.old self.new }
     {
         let wait = 2 * (self.wait % 128) + u64::from(b);
@@ -29,7 +29,7 @@ impl<'a> Pen<'a> {
 
     // A number of w bits, most significant first.
     pub(crate) fn number(&mut self, w: usize, x: u64)
-        requires { (self.old.at + w ≤ 8 * length self.old.out.now) × (w ≤ 64) × (self.old.at + w ≤ 1000000) }
+        requires { (self.old.at + w ≤ 8 * length self.old.out.now) × (w ≤ 64) × (self.old.at ≤ 1000000) }
         ensures { Puts (bit_list w x) self.old self.new }
     {
         for i in 0..w {

@@ -3,15 +3,14 @@
 ghost use Rattle.std.specs.Prelude.{◌≡◌, ◌≤◌, IfSome};
 ghost use Rattle.rules.specs.State.{most};
 ghost use Rattle.handler.specs.Finished.{finished};
-ghost use Rattle.handler.specs.MovingTick.{moved_to, MovesBy};
+ghost use Rattle.handler.specs.MovingTick.{moved_to};
 
 use crate::effects::are_none;
 use crate::output::interrupts_on;
 use crate::quiet::{Moved, moved_by};
 use crate::rest::are_still;
-use class_rules::Class;
 use link_rules::Senders;
-use rules::{Effects, Handler, Interrupts, Sample, Timer};
+use rules::{Effects, Handler, Sample};
 use samples::rest::{are_new, does_only_send, wait};
 use senders::send::send;
 
@@ -24,36 +23,23 @@ pub enum Moving {
     Moves(u16, Senders, Moved),
 }
 
-// Steps 3 to 5 of such a tick. Senders and classes that stay are not worked out.
-fn move_on(c: Timer, count: u16, senders: Senders, classes: [Class; 4], x: Interrupts) -> Moving
-    ensures { MovesBy c count senders classes x result }
-{
-    let next = wait(c, count);
-    let still = are_still(classes, x.state);
-    let new = are_new(senders);
-    if (still & new) & (x.state < 16) {
-        Moving::Rests(next, interrupts_on(x.state, x.enable))
-    } else {
-        let moved = moved_by(classes, x);
-        Moving::Moves(next, send(senders, moved.lines as u32, 0), moved)
-    }
-}
-
 // What moves, if the tick is known to be such a one, of a valid state after step 1. It makes no links, so that none are copied, and looks at the classes
-// last.
+// last. Senders and classes that stay are not worked out, and each case is made where it is given, so that a tick that rests copies no classes.
 pub fn moving_of(h: Handler, e: Effects, s: Sample) -> Option<Moving>
     requires { h.n ≤ most }
     ensures { IfSome result (λ m. moved_to h m ≡ finished h e s) }
 {
-    if does_only_send(h.n, h.links, h.timer, s) & are_none(e) {
-        Some(move_on(
-            h.timer,
-            h.links.turn.count,
-            h.links.senders,
-            h.classes,
-            h.interrupts,
-        ))
-    } else {
-        None
+    if !(does_only_send(h.n, h.links, h.timer, s) & are_none(e)) {
+        return None;
     }
+    let next = wait(h.timer, h.links.turn.count);
+    let still = are_still(h.classes, h.interrupts.state);
+    let new = are_new(h.links.senders);
+    if (still & new) & (h.interrupts.state < 16) {
+        let interrupts = interrupts_on(h.interrupts.state, h.interrupts.enable);
+        return Some(Moving::Rests(next, interrupts));
+    }
+    let moved = moved_by(h.classes, h.interrupts);
+    let senders = send(h.links.senders, moved.lines as u32, 0);
+    Some(Moving::Moves(next, senders, moved))
 }

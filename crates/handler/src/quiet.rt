@@ -33,7 +33,7 @@ pub fn quiet_of(h: Handler, e: Effects, s: Sample) -> Option<Met>
         return None;
     }
     let pingable = is_pingable(h.n, h.links.turn.alert, &h.alerts.regwen, &h.alerts.en);
-    hear_quiet(h.n, h.links, h.timer, pingable, s)
+    hear_quiet(h.n, h.links, h.timer, pingable, s).ok()
 }
 
 // Steps 3 to 5, with nothing assigned to a class and no clear.

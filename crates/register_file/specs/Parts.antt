@@ -1,6 +1,6 @@
 -- What `store` and `with_stage` of the rules leave of each part of the state, so that a part can be made anew by itself.
 -- Assumes nothing.
-use Rattle.std.specs.Prelude.{ℕ, cond, List, eqb, ltb, get_or, set}
+use Rattle.std.specs.Prelude.{ℕ, Bool, true, false, cond, List, eqb, ltb, get_or, set}
 use Rattle.class_rules.specs.Class.{no_class}
 use Rattle.class_rules.specs.declared.Class.{Class}
 use Rattle.rules.specs.Access.{field_stored, with_setting, with_interrupt, with_ping}
@@ -89,6 +89,14 @@ restaged_timeout (Local f j) c t = t
 restaged_timeout (Alert f i) c t = t
 restaged_timeout (Block s k) c t = t
 restaged_timeout Unassigned c t = t
+
+-- a register that there is one of: of these the ping timer's timeout alone has a stage, and that holds any number
+abbrev pub is_only : Register → Bool
+is_only (Only o) = true
+is_only (Local f j) = false
+is_only (Alert f i) = false
+is_only (Block s k) = false
+is_only Unassigned = false
 
 -- the code of an alert's register; 0 where q is none
 abbrev pub code_of : Register → ℕ → ℕ

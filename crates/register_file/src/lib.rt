@@ -2,7 +2,7 @@
 // access is refused is not asked here.
 #![tactic(auto)]
 
-mod list;
+pub mod list;
 pub mod read;
 pub mod restage;
 pub mod stage;

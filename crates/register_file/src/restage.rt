@@ -1,8 +1,9 @@
 // Request (v): a register's stage set and dropped, where the stages stand.
-ghost use Rattle.std.specs.Prelude.{◌≡◌, cond, ◌^◌, ◌≤◌, eqb, get_or};
+ghost use Rattle.std.specs.Prelude.{◌≡◌, false, cond, ◌^◌, ◌≤◌, eqb, get_or};
 ghost use Rattle.rules.specs.Map.{single_number, setting_bits, bits};
 ghost use Rattle.rules.specs.Stages.{local_stages, alert_stages, no_class_stages, with_local_stages, with_alert_stages, with_setting_stage, with_stage, dropped};
 ghost use Rattle.rules.specs.State.{most, local_count, class_count, put};
+ghost use Rattle.register_file.specs.Parts.{is_only};
 
 use crate::list::put_entry;
 use crate::stage::stage_in;
@@ -54,10 +55,10 @@ fn put_block(classes: &mut [ClassStages; 4], s: Setting, k: usize, v: u64)
     }
 }
 
-// The stages with the code c at register q's; of those that there is one of the ping timer's timeout alone is shadowed.
+// The stages with the code c at register q's; of those that there is one of the ping timer's timeout alone is shadowed, and its stage holds any number.
 #[tactic(auto, unfolding(rules::specs::Stages::with_stage, rules::specs::Map::bits))]
 pub fn put_stage(s: &mut Stages, q: Register, c: u64)
-    requires { c ≤ 2 ^ bits q }
+    requires { is_only q ≡ false → c ≤ 2 ^ bits q }
     ensures { s.new ≡ with_stage q c s.old }
 {
     match q {

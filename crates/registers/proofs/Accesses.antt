@@ -7,16 +7,19 @@ use lib.Dec.{eqb}
 use Rattle.std.specs.Prelude.{Ok, Err}
 use Rattle.bits.specs.Bits.{bits_of}
 use Rattle.rules.specs.Answer.{first_of, Verdict}
-use Rattle.rules.specs.Access.{is_clr_of, malformed, no_register, wrong_way, too_wide, verdict, store, is_first, written}
+use Rattle.rules.specs.Access.{is_clr_of, malformed, no_register, wrong_way, too_wide, verdict, store, is_first, written, accessed}
 use Rattle.rules.specs.Stages.{staged, dropped}
 use Rattle.rules.specs.State.{with_stages}
 use Rattle.rules.specs.declared.Access.{Access}
+use Rattle.rules.specs.declared.Access.TheVariants.{Nothing}
+use Rattle.rules.specs.declared.Answer.{Answer}
 use Rattle.rules.specs.declared.Handler.{Handler}
 use Rattle.rules.specs.declared.Refusal.{Refusal}
 use Rattle.rules.specs.declared.Register.{Register}
 use Rattle.rules.specs.declared.Register.TheVariants.{Only, Local, Alert, Block, Unassigned}
 use Rattle.rules.specs.declared.Setting.{Setting}
 use Rattle.rules.specs.declared.Stages.{Stages}
+use Rattle.registers.specs.Change.{left_with}
 
 -- ── the classes with an accepted clear ──
 
@@ -31,6 +34,12 @@ no_clears (Local f j) v n = no_bits
 no_clears (Alert f i) v n = no_bits
 no_clears (Block s k) v n = absurd (n s k refl)
 no_clears Unassigned v n = no_bits
+
+-- ── no access ──
+
+pub nothing_done : (h : Handler) → left_with h (Answer.Done, record { clears = 0; raises = 0; begins = false }) ≡ accessed h Nothing
+unfolding accessed verdict first_of
+nothing_done h = ap (λ (c : ℕ). record { handler = h; answer = Answer.Done; effects = record { clears = c; raises = 0; begins = false } }) no_bits
 
 -- ── an accepted write ──
 

@@ -3,7 +3,7 @@ ghost use Rattle.std.specs.Prelude.{◌≡◌};
 ghost use Rattle.rules.specs.Access.{named, accessed};
 ghost use Rattle.registers.specs.Change.{left_with};
 
-use crate::change::{act, refuse};
+use crate::change::{NO_EFFECTS, act, refuse};
 use crate::verdict::verdict_of;
 use map::number::register_at;
 use rules::{Access, Accessed, Answer, Effects, Handler, Register};
@@ -18,10 +18,21 @@ fn name(h: &Handler, x: Access) -> Register
     }
 }
 
-// The access on the state where it stands, so that nothing else of it is copied: the answer, and the effects on the later steps. The register number is
-// decoded here, once.
-#[tactic(auto, unfolding(rules::specs::Access::accessed))]
+// The access on the state where it stands, so that nothing else of it is copied: the answer, and the effects on the later steps. Most ticks have none.
+#[inline]
 pub fn access_in(h: &mut Handler, x: Access) -> (Answer, Effects)
+    ensures { left_with h.new result ≡ accessed h.old x }
+{
+    match x {
+        Access::Nothing => (Answer::Done, NO_EFFECTS),
+        _ => judge_and_act(h, x),
+    }
+}
+
+// The same of any access. The register number is decoded here, once.
+#[inline(never)]
+#[tactic(auto, unfolding(rules::specs::Access::accessed))]
+fn judge_and_act(h: &mut Handler, x: Access) -> (Answer, Effects)
     ensures { left_with h.new result ≡ accessed h.old x }
 {
     let q = name(h, x);

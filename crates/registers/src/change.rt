@@ -16,7 +16,7 @@ use register_file::write::store;
 use rules::{Access, Answer, Effects, Handler, Refusal, Register, Setting};
 
 // An access that hands nothing to the later steps.
-const NO_EFFECTS: Effects = Effects {
+pub const NO_EFFECTS: Effects = Effects {
     clears: 0,
     raises: 0,
     begins: false,

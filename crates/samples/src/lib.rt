@@ -16,7 +16,7 @@ ghost use Rattle.samples.specs.Sampled.{SampledBy};
 
 use crate::locals::occur;
 use events::gather::{Gathered, gather};
-use rules::{Alerts, Handler, Heard, Locals};
+use rules::{Handler, Heard};
 
 // The state after step 2, and the classes that something is assigned to, class 0 at the lowest bit.
 #[derive(Clone, Copy)]
@@ -37,16 +37,14 @@ pub fn sample(g: Handler, v: Heard) -> Sampled
         &g.alerts.class,
         g.alerts.cause,
     );
-    let alerts = Alerts { cause, ..g.alerts };
     let occurred = occur(v.raises, &g.locals.en, &g.locals.class, g.locals.cause);
+    // Written in place: a state made anew by struct update is copied column by column.
+    let mut handler = g;
+    handler.alerts.cause = cause;
     let cause = occurred.cause;
-    let locals = Locals { cause, ..g.locals };
+    handler.locals.cause = cause;
     Sampled {
-        handler: Handler {
-            alerts,
-            locals,
-            ..g
-        },
+        handler,
         assigned: hits | occurred.hits,
     }
 }

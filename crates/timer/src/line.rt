@@ -14,7 +14,6 @@ fn was_right(m: Meets, t: Turn, right: bool) -> bool
 }
 
 // The open ping is answered in this tick, whose answer is wrong or not.
-#[tactic(auto, unfolding(link_rules::specs::LinePing::answered_by_wires))]
 pub fn is_answered_by_wires(m: Meets, t: Turn, right: bool, wrong: bool) -> bool
     ensures { result ≡ answered_by_wires m t right wrong }
 {

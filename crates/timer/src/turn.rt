@@ -19,7 +19,6 @@ pub fn is_due(m: Meets, t: Turn) -> bool
 }
 
 // It opens in this tick.
-#[tactic(auto, unfolding(link_rules::specs::Timer::opens))]
 pub fn does_open(m: Meets, t: Turn) -> bool
     ensures { result ≡ opens m t }
 {

@@ -5,8 +5,11 @@ ghost use Rattle.trace_rules.specs.Edition as rules;
 
 use trace_rules::Edition;
 
-// The record of the edition of 64 alerts: its bytes, and the lowest bit of its register field in the first 64 bits.
+// The record of the edition of 64 alerts: its bytes, the numbers that its register field holds, and the lowest bit of that field in the
+// first 64 bits.
 pub const ALERTS_64_BYTES: usize = 24;
+
+pub const ALERTS_64_REGISTERS: u16 = 1024;
 
 pub const ALERTS_64_REGISTER_AT: u32 = 52;
 

@@ -6,6 +6,7 @@ use lib.IntN.{pos}
 use mir.Facts.{to_z_pos}
 use mir.Syntax.{w64}
 use native.Mathlib.Omega.{arith}
+use Rattle.calm_laws.proofs.Rounds.{changes_twenty}
 use Rattle.calm_rules.specs.Ticks.{calm_run, calm_output, calm_changes}
 use Rattle.calm.proofs.Calling.{runs, refused_by, ran_by}
 use Rattle.calm.proofs.call.calm.Goals as goal
@@ -14,10 +15,10 @@ pub returns-in-Err : goal.returns-in-Err
 returns-in-Err c = refused_by c.args.h c.args.wires c.args.ticks c.args.out.now c.in-Err.bar (sym c.in-Err.ensures) c.refused.result c.refused.ensures
 
 pub new-ticking-requires : goal.new-ticking-requires
-new-ticking-requires c = let r = runs c.args.h c.args.out.now (sym c.in_default.ensures) in (r.good, r.off)
+new-ticking-requires c = let r = runs c.args.h c.args.out.now (sym c.in_default.ensures) in (omega arith, (r.good, r.off, changes_twenty c.args.h.classes))
 
 pub store-requires : goal.store-requires
-store-requires c = (runs c.args.h c.args.out.now (sym c.in_default.ensures)).room
+store-requires c = omega (arith, (runs c.args.h c.args.out.now (sym c.in_default.ensures)).room, c.run-output.new.self.room)
 
 pub returns : goal.returns
 returns c =

@@ -5,8 +5,8 @@ use Rattle.calm_laws.specs.Four.{met, moves_in, Running}
 use Rattle.calm.proofs.engine.advance.Given as goal
 
 abbrev pub invariant-loop-done : goal.invariant-loop-done
-invariant-loop-done l =
-    (l.done ≤ l.n) × Running (met l.signals.events l.signals.interrupts) l.initial.now.classes l.initial.now.senders l.from l.initial.changes l.done l.now.classes l.now.senders l.changes
+invariant-loop-done g l =
+    (l.done ≤ l.n) × Running (met l.signals.events l.signals.interrupts) l.initial.now.classes l.initial.now.senders l.from g.row.MOST l.initial.changes l.done l.now.classes l.now.senders l.changes
 
 abbrev pub decreases-loop-done : goal.decreases-loop-done
-decreases-loop-done l = moves_in (met l.signals.events l.signals.interrupts) l.now.classes + num (ltb l.done l.n)
+decreases-loop-done g l = moves_in (met l.signals.events l.signals.interrupts) l.now.classes + num (ltb l.done l.n)

@@ -11,13 +11,13 @@ use Rattle.calm.proofs.Resting.{events_mask}
 use Rattle.calm.proofs.ticking.Ticking.events.Goals as goal
 
 pub hear-heard-requires : goal.hear-heard-requires
-hear-heard-requires c = (facts _ c.args.self.now.good).n
+hear-heard-requires g c = (facts _ c.args.self.now.good).n
 
 pub sample-sampled-requires : goal.sample-sampled-requires
-sample-sampled-requires c = (facts _ c.args.self.now.good).n
+sample-sampled-requires g c = (facts _ c.args.self.now.good).n
 
 pub returns : goal.returns
-returns c =
+returns g c =
     let b = c.args.self.now in
     c.events_of.ensures
     ∙ events_mask b.handler b.wires b.good b.off c.sample-sampled.result.assigned

@@ -1,30 +1,43 @@
 -- `rest` meets its contract.
 -- Assumes nothing.
-use mathlib.Core.Path.{refl, ◌∙◌}
+use Prim.Native.Nat.{ℕ}
+use mathlib.Core.Path.{refl, subst, ◌∙◌}
 use native.Mathlib.Omega.{arith}
-use Rattle.calm.proofs.Resting.{rest_state, rest_words, rest_valid, rest_off, moved_lines}
+use borrow.Author.Rules.{rules}
+use Rattle.calm_laws.specs.Four.{met, Running}
+use Rattle.bits.specs.Bits.{bits_of}
+use Rattle.calm_laws.specs.Settled.{calm_class_event, settle_ticks}
+use Rattle.calm.proofs.Resting.{moved_valid, moved_lines, rest_state, rest_words}
 use Rattle.calm.proofs.ticking.Ticking.rest.Goals as goal
 
 pub advance-moved-requires : goal.advance-moved-requires
-advance-moved-requires c = (c.requires.1, omega (arith, c.requires.2), c.args.self.now.room)
+advance-moved-requires g c = (search rules, (c.requires.0, omega (arith, c.requires.1), c.args.self.now.room))
 
 pub invariant_of-self : goal.invariant_of-self
-invariant_of-self c =
+invariant_of-self g c =
     let b = c.args.self.now in
     let r = c.advance-moved.ensures in
     record {
-      good = rest_valid b.handler b.wires b.good b.off c.requires.0 c.events.result c.events.ensures b.changes c.args.n _ _ _ r;
-      off = rest_off b.handler b.wires b.good b.off c.requires.0 c.events.result c.events.ensures b.changes c.args.n _ _ _ r;
+      good = moved_valid b.handler (met c.events.result b.handler.interrupts.state) c.args.n _ _ b.good r.classes;
+      off = b.off;
       lit = c.from-self.ensures ∙ c.lines_on.ensures ∙ moved_lines _ _ b.handler;
       room = r.room;
     }
 
 pub returns : goal.returns
-returns c =
+returns g c =
     let b = c.args.self.now in
-    let r = c.advance-moved.ensures in
+    let moved = c.advance-moved.result in
+    let run : Running (met (bits_of 4 (calm_class_event b.handler b.wires)) b.handler.interrupts.state) b.handler.classes b.handler.links.senders settle_ticks g.row.MOST b.changes c.args.n moved.classes moved.senders c.advance-moved.new.changes =
+    subst
+    (λ (e : ℕ). Running (met e b.handler.interrupts.state) b.handler.classes b.handler.links.senders settle_ticks g.row.MOST b.changes c.args.n moved.classes moved.senders c.advance-moved.new.changes)
+    c.events.ensures c.advance-moved.ensures in
     record {
-      handler = rest_state b.handler b.wires b.good b.off c.requires.0 c.events.result c.events.ensures b.changes c.args.n _ _ _ r;
+      ds = moved.classes;
+      ts = moved.senders;
+      run = run;
+      state = refl;
       wires = refl;
-      words = rest_words b.handler b.wires b.good b.off c.requires.0 c.events.result c.events.ensures b.changes c.args.n _ _ _ r;
+      handler = λ t. rest_state b.handler b.wires b.good b.off c.args.n t run;
+      words = λ t. rest_words b.handler b.wires b.good b.off c.args.n t run;
     }

@@ -1,6 +1,7 @@
 -- `step` meets its contract.
 -- Assumes nothing.
 use mathlib.Core.Path.{refl, ap, ◌∙◌}
+use borrow.Author.Rules.{rules}
 use Rattle.handler.specs.Answered.{answered}
 use Rattle.handler.specs.declared.tick.Answered.{Answered}
 use Rattle.rules.specs.Tick.{ticked}
@@ -10,15 +11,15 @@ use Rattle.calm.proofs.ticking.Ticking.step.Goals as goal
 
 pub note-requires : goal.note-requires
 unfolding answered
-note-requires c =
+note-requires g c =
     let b = c.args.self.now in
     let ran = c.tick-t.ensures ∙ ap (λ (x : Input). answered (ticked b.handler x)) c.input.ensures in
     let shown = ap (λ (r : Answered). r.output.lines) ran in
-    (c.requires, λ d. next_entry b.handler b.wires b.good b.off b.changes b.on b.lit b.room (λ e. d (shown ∙ e)))
+    (search rules, (c.requires, λ d. next_entry b.handler b.wires b.good b.off g.row.MOST b.changes b.on b.lit b.room (λ e. d (shown ∙ e))))
 
 pub invariant_of-self : goal.invariant_of-self
 unfolding answered
-invariant_of-self c =
+invariant_of-self g c =
     let b = c.args.self.now in
     let ran = c.tick-t.ensures ∙ ap (λ (x : Input). answered (ticked b.handler x)) c.input.ensures in
     rw (c.note.ensures, ran)
@@ -26,12 +27,12 @@ invariant_of-self c =
       good = next_valid b.handler b.wires b.good b.off;
       off = next_off b.handler b.wires b.good b.off;
       lit = next_lines b.handler b.wires b.good b.off;
-      room = next_room b.handler b.wires b.good b.off b.changes b.on b.lit b.room c.args.number;
+      room = next_room b.handler b.wires b.good b.off g.row.MOST b.changes b.on b.lit b.room c.args.number;
     })
 
 pub returns : goal.returns
 unfolding answered
-returns c =
+returns g c =
     let b = c.args.self.now in
     let ran = c.tick-t.ensures ∙ ap (λ (x : Input). answered (ticked b.handler x)) c.input.ensures in
     record {
