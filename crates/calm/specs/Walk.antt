@@ -1,8 +1,8 @@
 -- Request (xii): calm ticks of a state on its way, with the words of their changes.
 -- Assumes nothing.
-use Rattle.std.specs.Prelude.{ℕ, ◌≡◌, List, ◌++◌}
+use Rattle.std.specs.Prelude.{ℕ, ◌+◌, ◌≡◌, List, ◌++◌, length}
 use Rattle.bits.specs.Bits.{bits_of}
-use Rattle.calm_laws.specs.Four.{met, changes, Running}
+use Rattle.calm_laws.specs.Four.{met, changes, changes_in, Running}
 use Rattle.calm_laws.specs.Settled.{calm_class_event, calm_signals, moved, Settled, settle_ticks}
 use Rattle.calm_rules.specs.Ticks.{calm_input, calm_run, calm_output, change, calm_changes}
 use Rattle.class_rules.specs.declared.Class.{Class}
@@ -30,7 +30,7 @@ pub record Walk {most : ℕ} (c : Ticking most) (n : ℕ) (d : Ticking most) (o 
 pub record RestBy {most : ℕ} (c : Ticking most) (n : ℕ) (d : Ticking most) : Type 0 where
   pub ds : List Class
   pub ts : Senders
-  pub run : Running (met (bits_of 4 (calm_class_event c.handler c.wires)) c.handler.interrupts.state) c.handler.classes c.handler.links.senders settle_ticks most c.changes n ds ts d.changes
+  pub run : Running (met (bits_of 4 (calm_class_event c.handler c.wires)) c.handler.interrupts.state) c.handler.classes c.handler.links.senders settle_ticks (length c.changes + changes_in c.handler.classes) c.changes n ds ts d.changes
   pub state : d.handler ≡ moved ds ts c.handler
   pub wires : d.wires ≡ c.wires
   pub handler : Settled c.handler c.wires → d.handler ≡ calm_run c.handler c.wires n

@@ -6,7 +6,7 @@ use crate::changes::Changes;
 use crate::four::Met;
 use crate::round::{Moved, go_round};
 
-// The n ticks that follow tick `from`, with the changes before them. Kept: a `while`, since a round is not one tick.
+// The n ticks that follow tick `from`, with the changes before them: room is needed, and used, for those that the classes have left, and for no more. Kept: a `while`, since a round is not one tick.
 pub fn advance<const MOST: usize>(
     start: Moved,
     signals: Met,
@@ -15,7 +15,7 @@ pub fn advance<const MOST: usize>(
     changes: &mut Changes<MOST>,
 ) -> Moved
     requires { FourFit start.classes × (from + n < 2 ^ 32) × (length changes.old + changes_in start.classes ≤ MOST) }
-    ensures { Running (met signals.events signals.interrupts) start.classes start.senders from MOST changes.old n result.classes result.senders changes.new }
+    ensures { Running (met signals.events signals.interrupts) start.classes start.senders from (length changes.old + changes_in start.classes) changes.old n result.classes result.senders changes.new }
 {
     let mut now = start;
     let mut done: u64 = 0;
