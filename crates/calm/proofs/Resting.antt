@@ -129,6 +129,12 @@ module _ (g : Handler) (w : Wires) (good : valid g ≡ true) (off : is_on g ≡ 
     pub rest_words : left ≡ old ++ changes (calm_signals g w) settle_ticks n g.classes
     rest_words = run.words ∙ ap (λ (ws : List ℕ). old ++ ws) (changes_ext s (calm_signals g w) meets_met settle_ticks n g.classes)
 
+    pub rest_valid : valid (moved ds ts g) ≡ true
+    rest_valid = moved_valid g s n ds ts good run.classes
+
+    pub rest_off : is_on (moved ds ts g) ≡ false
+    rest_off = off
+
 -- ── plain ticks that settle a state, n ticks of the engine, and one plain tick more ──
 
 pub settled_by : {most : ℕ} (c d : Ticking most) (o : Output) → Walk c settle_ticks d o → Settled d.handler d.wires
@@ -145,23 +151,32 @@ fits_by c d o r =
     subst (λ (g : Handler). FourFit g.classes) (sym r.handler)
     (valid_four (calm_run c.handler c.wires settle_ticks) (calm_valid c.handler c.wires c.good settle_ticks) (four_by c.handler c.wires c.good c.off))
 
-pub whole : {most : ℕ} (c d e f : Ticking most) (n t : ℕ) (o p : Output) → Walk c settle_ticks d o → RestBy d n e → settle_ticks + n + 1 ≡ t → NextBy e t f p → Walk c t f p
-whole c d e f n t o p r q u x =
+-- whatever took the n ticks, where they are those of a settled state
+pub whole_of : {most : ℕ} (c d e f : Ticking most) (n t : ℕ) (o p : Output) → Walk c settle_ticks d o
+    → e.handler ≡ calm_run d.handler d.wires n → e.wires ≡ d.wires
+    → e.changes ≡ d.changes ++ changes (calm_signals d.handler d.wires) settle_ticks n d.handler.classes
+    → settle_ticks + n + 1 ≡ t → NextBy e t f p → Walk c t f p
+whole_of c d e f n t o p r handler wires words u x =
     let h = c.handler in
     let w = c.wires in
     let g = calm_run h w settle_ticks in
-    let z : Settled d.handler d.wires = settled_by c d o r in
     let y : suc (settle_ticks + n) ≡ t = omega (arith, u) in
     let walked : Walk c (settle_ticks + n) e (calm_output h w (settle_ticks + n)) =
     record {
-      handler = q.handler z ∙ ap₂ (λ (a : Handler) (b : Wires). calm_run a b n) r.handler r.wires ∙ sym (run_add h w settle_ticks n);
+      handler = handler ∙ ap₂ (λ (a : Handler) (b : Wires). calm_run a b n) r.handler r.wires ∙ sym (run_add h w settle_ticks n);
       output = refl;
-      wires = q.wires ∙ r.wires;
+      wires = wires ∙ r.wires;
       words =
-          q.words z
+          words
           ∙ (λ i. r.words i ++ changes (calm_signals (r.handler i) (r.wires i)) settle_ticks n (r.handler i).classes)
           ∙ append_assoc c.changes (calm_changes h w settle_ticks) (changes (calm_signals g w) settle_ticks n g.classes)
           ∙ ap (λ (ws : List ℕ). c.changes ++ ws) (sym (calm_changes_law h w c.good c.off settle_ticks (settled_now h w c.good c.off) n));
     } in
     subst (λ (k : ℕ). Walk c k f p) y
     (walk_next c e f (settle_ticks + n) (calm_output h w (settle_ticks + n)) p walked (subst (λ (k : ℕ). NextBy e k f p) (sym y) x))
+
+-- the engine
+pub whole : {most : ℕ} (c d e f : Ticking most) (n t : ℕ) (o p : Output) → Walk c settle_ticks d o → RestBy d n e → settle_ticks + n + 1 ≡ t → NextBy e t f p → Walk c t f p
+whole c d e f n t o p r q u x =
+    let z : Settled d.handler d.wires = settled_by c d o r in
+    whole_of c d e f n t o p r (q.handler z) q.wires (q.words z) u x
