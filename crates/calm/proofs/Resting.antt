@@ -129,6 +129,7 @@ module _ (g : Handler) (w : Wires) (good : valid g ≡ true) (off : is_on g ≡ 
     pub rest_words : left ≡ old ++ changes (calm_signals g w) settle_ticks n g.classes
     rest_words = run.words ∙ ap (λ (ws : List ℕ). old ++ ws) (changes_ext s (calm_signals g w) meets_met settle_ticks n g.classes)
 
+    -- they leave the state valid, and its timer off
     pub rest_valid : valid (moved ds ts g) ≡ true
     rest_valid = moved_valid g s n ds ts good run.classes
 
@@ -151,7 +152,7 @@ fits_by c d o r =
     subst (λ (g : Handler). FourFit g.classes) (sym r.handler)
     (valid_four (calm_run c.handler c.wires settle_ticks) (calm_valid c.handler c.wires c.good settle_ticks) (four_by c.handler c.wires c.good c.off))
 
--- whatever took the n ticks, where they are those of a settled state
+-- the n ticks taken in any way that leaves what as many plain ticks leave
 pub whole_of : {most : ℕ} (c d e f : Ticking most) (n t : ℕ) (o p : Output) → Walk c settle_ticks d o
     → e.handler ≡ calm_run d.handler d.wires n → e.wires ≡ d.wires
     → e.changes ≡ d.changes ++ changes (calm_signals d.handler d.wires) settle_ticks n d.handler.classes
@@ -175,7 +176,7 @@ whole_of c d e f n t o p r handler wires words u x =
     subst (λ (k : ℕ). Walk c k f p) y
     (walk_next c e f (settle_ticks + n) (calm_output h w (settle_ticks + n)) p walked (subst (λ (k : ℕ). NextBy e k f p) (sym y) x))
 
--- the engine
+-- the n ticks taken by the engine
 pub whole : {most : ℕ} (c d e f : Ticking most) (n t : ℕ) (o p : Output) → Walk c settle_ticks d o → RestBy d n e → settle_ticks + n + 1 ≡ t → NextBy e t f p → Walk c t f p
 whole c d e f n t o p r q u x =
     let z : Settled d.handler d.wires = settled_by c d o r in
